@@ -1,0 +1,227 @@
+-- Laws of tests, lists and counts. Assumes nothing.
+use Prim.Native.Nat.{ℕ, zero, suc, _+_, _≤_, _<_}
+use native.Mathlib.Omega.{arith}
+use native.Mathlib.Nat.{eq-or-lt-of-le}
+use native.Mathlib.Decide.{decLe}
+use mathlib.Core.Path.{_≡_, refl, sym, _∙_, ap, ap₂, subst}
+use mathlib.Core.Logic.{_⊎_, inl, inr, ⊎-elim, _↔_}
+use mathlib.Core.Bool.{Bool, true, false, not, _&&_, _||_, true≢false}
+use mathlib.Core.List.{List, [], _∷_, List·Memᴰ, List·Memᴰ·head, List·Memᴰ·tail, List·Memᴰ·cases-cons, List·Memᴰ·not-nil}
+use lib.Dec.{T, eqb, leb, ltb, eqb→eq, eqb-refl, leb→le, ltb→lt, le→leb, lt→ltb}
+use lib.ListN.{length}
+use Rattle.theory.specs.Lists.{_∈_, every, any, distinct, agree}
+
+-- Tests.
+
+pub and-l : (a b : Bool) → (a && b) ≡ true → a ≡ true
+and-l true b t = refl
+and-l false b t = t
+
+pub and-r : (a b : Bool) → (a && b) ≡ true → b ≡ true
+and-r true b t = t
+and-r false b t = cc
+
+pub and-of : (a b : Bool) → a ≡ true → b ≡ true → (a && b) ≡ true
+and-of a b t u = cc
+
+pub or-cases : (a b : Bool) → (a || b) ≡ true → (a ≡ true) ⊎ (b ≡ true)
+or-cases true b t = inl refl
+or-cases false b t = inr t
+
+pub or-l : (a b : Bool) → a ≡ true → (a || b) ≡ true
+or-l a b t = cc
+
+pub or-r : (a b : Bool) → b ≡ true → (a || b) ≡ true
+or-r true b t = refl
+or-r false b t = t
+
+pub or-false-l : (a b : Bool) → (a || b) ≡ false → a ≡ false
+or-false-l true b t = t
+or-false-l false b t = refl
+
+pub or-false-r : (a b : Bool) → (a || b) ≡ false → b ≡ false
+or-false-r true b t = cc
+or-false-r false b t = t
+
+pub not-true : (a : Bool) → not a ≡ true → a ≡ false
+not-true true t = sym t
+not-true false t = refl
+
+pub not-false : (a : Bool) → not a ≡ false → a ≡ true
+not-false true t = refl
+not-false false t = sym t
+
+pub false-not : (a : Bool) → a ≡ false → not a ≡ true
+false-not a t = cc
+
+-- A test passes or fails, never both.
+pub test : (a : Bool) → (a ≡ true) ⊎ (a ≡ false)
+test true = inl refl
+test false = inr refl
+
+pub clash : {a : Bool} → a ≡ true → a ≡ false → ⊥
+clash p q = true≢false (sym p ∙ q)
+
+pub unless : (a : Bool) → (a ≡ true → ⊥) → a ≡ false
+unless true f = absurd (f refl)
+unless false f = refl
+
+pub same-test : (a b : Bool) → (a ≡ true → b ≡ true) → (b ≡ true → a ≡ true) → a ≡ b
+same-test true b f g = sym (f refl)
+same-test false true f g = g refl
+same-test false false f g = refl
+
+-- Numbers compared.
+
+T-true : (a : Bool) → T a → a ≡ true
+T-true true t = refl
+T-true false t = absurd t
+
+pub eqb-eq : (m n : ℕ) → eqb m n ≡ true → m ≡ n
+eqb-eq m n h = eqb→eq m n (subst T (sym h) tt)
+
+pub eqb-of : (m n : ℕ) → m ≡ n → eqb m n ≡ true
+eqb-of m n e = ap (eqb m) (sym e) ∙ T-true (eqb m m) (eqb-refl m)
+
+pub eqb-not : (m n : ℕ) → (m ≡ n → ⊥) → eqb m n ≡ false
+eqb-not m n f = unless _ (λ t. f (eqb-eq m n t))
+
+pub ltb-lt : (m n : ℕ) → ltb m n ≡ true → m < n
+ltb-lt m n t = ltb→lt m n (subst T (sym t) tt)
+
+pub lt-ltb : (m n : ℕ) → m < n → ltb m n ≡ true
+lt-ltb m n l = T-true (ltb m n) (lt→ltb m n l)
+
+pub leb-le : (m n : ℕ) → leb m n ≡ true → m ≤ n
+leb-le m n t = leb→le m n (subst T (sym t) tt)
+
+pub le-leb : (m n : ℕ) → m ≤ n → leb m n ≡ true
+le-leb m n l = T-true (leb m n) (le→leb m n l)
+
+pub le-or-lt : (m n : ℕ) → (m ≤ n) ⊎ (n < m)
+le-or-lt m n = go (decLe m n)
+  where
+    go : Dec (m ≤ n) → (m ≤ n) ⊎ (n < m)
+    go (yes l) = inl l
+    go (no l) = inr (omega arith)
+
+-- Every entry, some entry.
+
+module _ {A : Type 0} (f : A → Bool) where
+  pub every-at : (xs : List A) → every f xs ≡ true → (x : A) → List·Memᴰ x xs → f x ≡ true
+  unfolding every
+  every-at [] t x m = absurd (List·Memᴰ·not-nil m)
+  every-at (y ∷ ys) t x m = ⊎-elim
+      (λ (e : x ≡ y). ap f e ∙ and-l (f y) (every f ys) t)
+      (λ (m′ : List·Memᴰ x ys). every-at ys (and-r (f y) (every f ys) t) x m′)
+      (List·Memᴰ·cases-cons m)
+
+  pub every-of : (xs : List A) → ((x : A) → List·Memᴰ x xs → f x ≡ true) → every f xs ≡ true
+  unfolding every
+  every-of [] h = refl
+  every-of (y ∷ ys) h = and-of _ _ (h y (List·Memᴰ·head refl)) (every-of ys (λ x m. h x (List·Memᴰ·tail m)))
+
+  pub any-at : (xs : List A) → any f xs ≡ true → (x : A) × List·Memᴰ x xs × (f x ≡ true)
+  unfolding any
+  any-at [] t = absurd (true≢false (sym t))
+  any-at (x ∷ xs) t = ⊎-elim
+      (λ (u : f x ≡ true). (x, List·Memᴰ·head refl, u))
+      (λ (u : any f xs ≡ true). (let w = any-at xs u in (w .0, List·Memᴰ·tail (w .1), w .2)))
+      (or-cases (f x) (any f xs) t)
+
+  pub any-of : (xs : List A) (x : A) → List·Memᴰ x xs → f x ≡ true → any f xs ≡ true
+  unfolding any
+  any-of [] x m t = absurd (List·Memᴰ·not-nil m)
+  any-of (y ∷ ys) x m t = ⊎-elim
+      (λ (e : x ≡ y). or-l (f y) _ (ap f (sym e) ∙ t))
+      (λ (m′ : List·Memᴰ x ys). or-r (f y) _ (any-of ys x m′ t))
+      (List·Memᴰ·cases-cons m)
+
+-- A number stands in a list.
+abbrev pub mem : ℕ → List ℕ → Bool
+mem x xs = any (eqb x) xs
+
+pub mem-in : (x : ℕ) (xs : List ℕ) → mem x xs ≡ true → x ∈ xs
+mem-in x xs t = let w = any-at (eqb x) xs t in subst (λ (y : ℕ). y ∈ xs) (sym (eqb-eq x (w .0) (w .2))) (w .1)
+
+pub in-mem : (x : ℕ) (xs : List ℕ) → x ∈ xs → mem x xs ≡ true
+in-mem x xs m = any-of (eqb x) xs x m (eqb-of x x refl)
+
+-- Lists that agree entry for entry are equal.
+pub agree-eq : (xs ys : List ℕ) → agree xs ys ≡ true → xs ≡ ys
+unfolding agree
+agree-eq [] [] t = refl
+agree-eq [] (y ∷ ys) t = absurd (true≢false (sym t))
+agree-eq (x ∷ xs) [] t = absurd (true≢false (sym t))
+agree-eq (x ∷ xs) (y ∷ ys) t =
+    ap₂ _∷_ (eqb-eq x y (and-l (eqb x y) _ t)) (agree-eq xs ys (and-r (eqb x y) _ t))
+
+pub agree-refl : (xs : List ℕ) → agree xs xs ≡ true
+unfolding agree
+agree-refl [] = refl
+agree-refl (x ∷ xs) = and-of _ _ (eqb-of x x refl) (agree-refl xs)
+
+-- How many entries of a list pass a test.
+
+abbrev pub tally : Bool → ℕ → ℕ
+tally true k = suc k
+tally false k = k
+
+tally-le : (s t : Bool) (j k : ℕ) → (s ≡ true → t ≡ true) → j ≤ k → tally s j ≤ tally t k
+tally-le true true j k i h = omega arith
+tally-le true false j k i h = absurd (true≢false (sym (i refl)))
+tally-le false true j k i h = omega arith
+tally-le false false j k i h = omega arith
+
+tally-lt : (s t : Bool) (j k : ℕ) → (s ≡ true → t ≡ true) → j < k → tally s j < tally t k
+tally-lt s t j k i h = (let l : tally s (suc j) ≤ tally t k = tally-le s t (suc j) k i h in omega (arith, step s))
+  where
+    step : (s : Bool) → tally s (suc j) ≡ suc (tally s j)
+    step true = refl
+    step false = refl
+
+tally-new : (s t : Bool) (j k : ℕ) → s ≡ false → t ≡ true → j ≤ k → tally s j < tally t k
+tally-new true t j k p q h = absurd (true≢false p)
+tally-new false true j k p q h = omega arith
+tally-new false false j k p q h = absurd (true≢false (sym q))
+
+unfoldable pub count : {A : Type 0} → (A → Bool) → List A → ℕ
+count f [] = zero
+count f (x ∷ xs) = tally (f x) (count f xs)
+
+module _ {A : Type 0} where
+  pub count-length : (f : A → Bool) (xs : List A) → count f xs ≤ length xs
+  unfolding count
+  count-length f [] = omega arith
+  count-length f (x ∷ xs) = tally-le (f x) true _ _ (λ i. refl) (count-length f xs)
+
+  -- what passes f passes g: at least as many pass g
+  pub count-le : (f g : A → Bool) (xs : List A) → ((x : A) → List·Memᴰ x xs → f x ≡ true → g x ≡ true)
+      → count f xs ≤ count g xs
+  unfolding count
+  count-le f g [] h = omega arith
+  count-le f g (x ∷ xs) h =
+      tally-le (f x) (g x) _ _ (h x (List·Memᴰ·head refl)) (count-le f g xs (λ y m. h y (List·Memᴰ·tail m)))
+
+  -- and more pass it if some x passes g and not f
+  pub count-lt : (f g : A → Bool) (xs : List A) → ((x : A) → List·Memᴰ x xs → f x ≡ true → g x ≡ true)
+      → (x : A) → List·Memᴰ x xs → f x ≡ false → g x ≡ true → count f xs < count g xs
+  unfolding count
+  count-lt f g [] h x m p q = absurd (List·Memᴰ·not-nil m)
+  count-lt f g (y ∷ ys) h x m p q = ⊎-elim
+      (λ (e : x ≡ y). tally-new (f y) (g y) _ _ (ap f (sym e) ∙ p) (ap g (sym e) ∙ q)
+      (count-le f g ys (λ z m′. h z (List·Memᴰ·tail m′))))
+      (λ (m′ : List·Memᴰ x ys). tally-lt (f y) (g y) _ _ (h y (List·Memᴰ·head refl))
+      (count-lt f g ys (λ z i. h z (List·Memᴰ·tail i)) x m′ p q))
+      (List·Memᴰ·cases-cons m)
+
+  -- all pass if none is missing from the count
+  pub count-all : (f : A → Bool) (xs : List A) → length xs ≤ count f xs → (x : A) → List·Memᴰ x xs → f x ≡ true
+  count-all f xs l x m = ⊎-elim
+      (λ (t : f x ≡ true). t)
+      (λ (t : f x ≡ false). absurd (omega (
+        arith,
+        count-lt f (λ y. true) xs (λ y i u. refl) x m t refl,
+        count-length (λ y. true) xs,
+      )))
+      (test (f x))

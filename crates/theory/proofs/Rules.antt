@@ -1,0 +1,108 @@
+-- Laws of programs, held rules and valid rules. Assumes nothing.
+use Prim.Native.Nat.{ℕ, zero, suc, _<_}
+use mathlib.Core.Path.{_≡_, refl, sym, _∙_, ap, subst}
+use mathlib.Core.Logic.{_⊎_, inl, inr, ⊎-elim}
+use mathlib.Core.Bool.{Bool, true, false, not, _&&_, true≢false}
+use mathlib.Core.List.{List, [], _∷_, _++_, List·Memᴰ, List·Memᴰ·head, List·Memᴰ·tail, List·Memᴰ·cases-cons, List·Memᴰ·not-nil}
+use mathlib.Core.Option.{Option, none, some, Option·some-injective, Option·none-ne-some}
+use lib.Dec.{eqb}
+use lib.ListN.{getD}
+use Rattle.theory.specs.Lists.{_∈_, every, any, agree}
+use Rattle.theory.specs.Rules.{Rule, Program, Held, passes, any-rule, entries, Occurs, same}
+use Rattle.theory.specs.Models.{AtomSet, valid}
+use Rattle.theory.specs.Questions.{rules}
+use Rattle.theory.proofs.Lists.{and-l, and-r, and-of, or-cases, or-l, or-r, not-true, false-not, every-at, every-of, eqb-eq, eqb-of, agree-eq, agree-refl, mem, mem-in, in-mem}
+
+-- Some rule held passes.
+
+pub any-rule-at : (f : Rule → Bool) (P : Program) → any-rule f P ≡ true → (s : ℕ) × (r : Rule) × Held P s r × (f r ≡ true)
+unfolding any
+any-rule-at f [] h = absurd (true≢false (sym h))
+any-rule-at f (none ∷ P) h = let w = any-rule-at f P h in (suc (w .0), w .1, w .2, w .3)
+any-rule-at f (some r ∷ P) h = ⊎-elim
+    (λ (p : f r ≡ true). (zero, r, refl, p))
+    (λ (p : any-rule f P ≡ true). (let w = any-rule-at f P p in (suc (w .0), w .1, w .2, w .3)))
+    (or-cases (f r) (any-rule f P) h)
+
+pub any-rule-of : (f : Rule → Bool) (P : Program) (s : ℕ) (r : Rule) → Held P s r → f r ≡ true → any-rule f P ≡ true
+unfolding any
+any-rule-of f [] s r h t = absurd (Option·none-ne-some r h)
+any-rule-of f (o ∷ P) zero r h t = or-l (passes f o) _ (ap (passes f) h ∙ t)
+any-rule-of f (o ∷ P) (suc s) r h t = or-r (passes f o) _ (any-rule-of f P s r h t)
+
+-- A slot holds one rule.
+pub held-unique : (P : Program) (s : ℕ) (q r : Rule) → Held P s q → Held P s r → q ≡ r
+held-unique P s q r h i = Option·some-injective q r (sym h ∙ i)
+
+-- The list of the rules held has each of them, and no other.
+
+pub rules-of : (P : Program) (s : ℕ) (r : Rule) → Held P s r → List·Memᴰ r (rules P)
+unfolding rules
+rules-of [] s r h = absurd (Option·none-ne-some r h)
+rules-of (none ∷ P) zero r h = absurd (Option·none-ne-some r h)
+rules-of (none ∷ P) (suc s) r h = rules-of P s r h
+rules-of (some q ∷ P) zero r h = List·Memᴰ·head (sym (Option·some-injective q r h))
+rules-of (some q ∷ P) (suc s) r h = List·Memᴰ·tail (rules-of P s r h)
+
+pub rules-at : (P : Program) (r : Rule) → List·Memᴰ r (rules P) → (s : ℕ) × Held P s r
+unfolding rules
+rules-at [] r m = absurd (List·Memᴰ·not-nil m)
+rules-at (none ∷ P) r m = let w = rules-at P r m in (suc (w .0), w .1)
+rules-at (some q ∷ P) r m = ⊎-elim
+    (λ (e : r ≡ q). (zero, ap some (sym e)))
+    (λ (m′ : List·Memᴰ r (rules P)). (let w = rules-at P r m′ in (suc (w .0), w .1)))
+    (List·Memᴰ·cases-cons m)
+
+-- Valid rules.
+
+pub valid-positive : (M : AtomSet) (r : Rule) → valid M r ≡ true → (p : ℕ) → p ∈ r .positives → M p ≡ true
+unfolding valid
+valid-positive M r t = every-at M (r .positives) (and-l _ _ t)
+
+pub valid-negative : (M : AtomSet) (r : Rule) → valid M r ≡ true → (n : ℕ) → n ∈ r .negatives → M n ≡ false
+unfolding valid
+valid-negative M r t n m =
+    not-true (M n) (every-at (λ n. not (M n)) (r .negatives) (and-r (every M (r .positives)) _ t) n m)
+
+pub valid-of : (M : AtomSet) (r : Rule) → ((p : ℕ) → p ∈ r .positives → M p ≡ true)
+    → ((n : ℕ) → n ∈ r .negatives → M n ≡ false) → valid M r ≡ true
+unfolding valid
+valid-of M r hp hn =
+    and-of _ _ (every-of M (r .positives) hp)
+    (every-of (λ n. not (M n)) (r .negatives) (λ n m. false-not (M n) (hn n m)))
+
+-- An atom occurs, as a test.
+
+unfoldable pub occurs-test : Program → ℕ → Bool
+occurs-test P a = any-rule (λ r. mem a (r .head ∷ entries r)) P
+
+pub occurs-at : (P : Program) (a : ℕ) → occurs-test P a ≡ true → Occurs P a
+unfolding occurs-test
+occurs-at P a t =
+    let w = any-rule-at (λ r. mem a (r .head ∷ entries r)) P t in
+    record { slot = w .0; rule = w .1; held = w .2; there = mem-in a _ (w .3) }
+
+pub occurs-of : (P : Program) (a : ℕ) → Occurs P a → occurs-test P a ≡ true
+unfolding occurs-test
+occurs-of P a o =
+    any-rule-of (λ r. mem a (r .head ∷ entries r)) P (o .slot) (o .rule) (o .held) (in-mem a _ (o .there))
+
+-- Rules that are the same are equal.
+
+rule-path : (q r : Rule) → q .head ≡ r .head → q .positives ≡ r .positives → q .negatives ≡ r .negatives → q ≡ r
+rule-path q r h p n = λ i. record { head = h i; positives = p i; negatives = n i }
+
+pub same-eq : (q r : Rule) → same q r ≡ true → q ≡ r
+unfolding same
+same-eq q r t =
+    let u = and-r (eqb (q .head) (r .head)) (agree (q .positives) (r .positives) && agree (q .negatives) (r .negatives)) t in
+    rule-path q r
+    (eqb-eq _ _ (and-l (eqb (q .head) (r .head)) _ t))
+    (agree-eq _ _ (and-l (agree (q .positives) (r .positives)) _ u))
+    (agree-eq _ _ (and-r (agree (q .positives) (r .positives)) _ u))
+
+pub same-refl : (r : Rule) → same r r ≡ true
+unfolding same
+same-refl r =
+    and-of _ _ (eqb-of (r .head) (r .head) refl)
+    (and-of _ _ (agree-refl (r .positives)) (agree-refl (r .negatives)))

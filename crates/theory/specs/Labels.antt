@@ -1,0 +1,47 @@
+-- Supporting rules, labels and spoilers. Assumes nothing.
+use Prim.Native.Nat.{ℕ, _<_}
+use mathlib.Core.Path.{_≡_}
+use mathlib.Core.Bool.{true, false, not}
+use mathlib.Core.Option.{Option, none, some}
+use Rattle.theory.specs.Lists.{_∈_, first}
+use Rattle.theory.specs.Rules.{Rule, Program, Held, Occurs}
+use Rattle.theory.specs.Models.{AtomSet, valid}
+use Rattle.theory.specs.Derivations.{Depth}
+
+-- The depth of x is smaller than that of a.
+pub record Shallower (P : Program) (M : AtomSet) (x a : ℕ) : Type 0 where
+  pub less : ℕ
+  pub more : ℕ
+  pub depth-x : Depth P M x less
+  pub depth-a : Depth P M a more
+  pub order : less < more
+
+-- Slot s holds a rule with head a, valid in M, with all positive entries of smaller depth.
+pub record Supports (P : Program) (M : AtomSet) (a s : ℕ) : Type 0 where
+  pub rule : Rule
+  pub held : Held P s rule
+  pub heads : rule .head ≡ a
+  pub good : valid M rule ≡ true
+  pub smaller : (x : ℕ) → x ∈ rule .positives → Shallower P M x a
+
+-- The supporting rule of an in atom is the one in the lowest such slot.
+pub record Supporting (P : Program) (M : AtomSet) (a s : ℕ) : Type 0 where
+  pub supports : Supports P M a s
+  pub lowest : (t : ℕ) → t < s → Supports P M a t → ⊥
+
+-- A label: absent, out, or in with depth and supporting slot.
+pub data Label : Type 0 where
+  absent : Label
+  out : Label
+  in-at : ℕ → ℕ → Label
+
+-- The label of an atom: absent if it does not occur; of the others, in if it is in M, else out.
+pub data Labelled (P : Program) (M : AtomSet) (a : ℕ) : Label → Type 0 where
+  is-absent : (Occurs P a → ⊥) → Labelled P M a absent
+  is-out : Occurs P a → M a ≡ false → Labelled P M a out
+  is-in : {d s : ℕ} → M a ≡ true → Depth P M a d → Supporting P M a s → Labelled P M a (in-at d s)
+
+-- The spoiler of a rule not valid in M is its first spoiling entry, the positive list read first, then the negative,
+-- each in the order given. A positive entry spoils if out, a negative one if in.
+unfoldable pub spoiler : AtomSet → Rule → Option ℕ
+spoiler M r = elim (first (λ x. not (M x)) (r .positives)) [ some x ↦ some x | none ↦ first M (r .negatives) ]

@@ -1,0 +1,12 @@
+-- The definitions, in the order of document 01. A reader of any contract believes these.
+pub mod Lists
+pub mod Rules
+pub mod Models
+pub mod Dependencies
+pub mod Derivations
+pub mod Labels
+pub mod Explanations
+pub mod Questions
+pub mod Sound
+pub mod Book
+pub mod Tables

@@ -1,0 +1,53 @@
+-- The words about lists of numbers that the definitions use. Assumes nothing.
+use Prim.Native.Nat.{ℕ, _<_}
+use mathlib.Core.Bool.{Bool, true, false, not, _&&_, _||_}
+use mathlib.Core.List.{List, [], _∷_, List·Memᴰ}
+use mathlib.Core.Logic.{_↔_}
+use mathlib.Core.Option.{Option, none, some}
+use lib.Dec.{eqb}
+
+infix 50 _∈_
+-- x stands in the list xs.
+abbrev pub _∈_ : ℕ → List ℕ → Type 0
+x ∈ xs = List·Memᴰ x xs
+
+-- Every entry passes the test; some entry passes it.
+unfoldable pub every {ℓ} : {A : Type ℓ} → (A → Bool) → List A → Bool
+every f [] = true
+every f (x ∷ xs) = f x && every f xs
+
+unfoldable pub any {ℓ} : {A : Type ℓ} → (A → Bool) → List A → Bool
+any f [] = false
+any f (x ∷ xs) = f x || any f xs
+
+-- The first entry that passes the test, if one does.
+unfoldable pub first : (ℕ → Bool) → List ℕ → Option ℕ
+first f [] = none
+first f (x ∷ xs) = elim (f x) [ true ↦ some x | false ↦ first f xs ]
+
+-- No number stands in the list twice.
+unfoldable pub distinct : List ℕ → Bool
+distinct [] = true
+distinct (x ∷ xs) = not (any (eqb x) xs) && distinct xs
+
+-- Two lists agree entry for entry, order included.
+unfoldable pub agree : List ℕ → List ℕ → Bool
+agree [] [] = true
+agree [] (y ∷ ys) = false
+agree (x ∷ xs) [] = false
+agree (x ∷ xs) (y ∷ ys) = eqb x y && agree xs ys
+
+-- Ascending, without repeats: each number is smaller than all that follow.
+abbrev pub Ascending : List ℕ → Type 0
+Ascending [] = Unit {0}
+Ascending (x ∷ xs) = ((y : ℕ) → y ∈ xs → x < y) × Ascending xs
+
+-- xs is written ascending, without repeats, and holds exactly the numbers of which P holds.
+pub record Lists (xs : List ℕ) (P : ℕ → Type 0) : Type 0 where
+  pub ascending : Ascending xs
+  pub exactly : (x : ℕ) → x ∈ xs ↔ P x
+
+-- One or more steps of a relation.
+pub data Steps (S : ℕ → ℕ → Type 0) : ℕ → ℕ → Type 0 where
+  one : {a c : ℕ} → S a c → Steps S a c
+  more : {a x c : ℕ} → S a x → Steps S x c → Steps S a c

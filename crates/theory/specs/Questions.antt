@@ -1,0 +1,101 @@
+-- The limits, and the questions that the calls ask, by number. Assumes nothing.
+use Prim.Native.Nat.{ℕ, zero, suc, _+_}
+use mathlib.Core.Bool.{Bool, true, false, not, _&&_, _||_}
+use mathlib.Core.List.{List, [], _∷_, _++_}
+use mathlib.Core.Option.{Option, none, some}
+use lib.Dec.{eqb, leb, ltb}
+use lib.ListN.{length, getD, set}
+use Rattle.theory.specs.Lists.{every, any, distinct}
+use Rattle.theory.specs.Rules.{Rule, Program, entries, any-rule, same}
+use Rattle.theory.specs.Labels.{Label, absent, out, in-at}
+
+-- The limits of a table: atoms and slots are numbered from 0 to below these; a rule has at most so many entries.
+pub record Limits : Type 0 where
+  pub atoms : ℕ
+  pub slots : ℕ
+  pub entries : ℕ
+
+-- A question with its number and answer. The first that is answered no is the refusal.
+pub record Question : Type 0 where
+  pub number : ℕ
+  pub yes? : Bool
+
+abbrev pub asks : ℕ → Bool → Question
+asks k t = record { number = k; yes? = t }
+
+unfoldable pub first-no : List Question → Option ℕ
+first-no [] = none
+first-no (q ∷ qs) = elim (q .yes?) [ true ↦ first-no qs | false ↦ some (q .number) ]
+
+abbrev pub is-some : {A : Type 0} → Option A → Bool
+is-some none = false
+is-some (some a) = true
+
+abbrev pub is-in-label : Label → Bool
+is-in-label absent = false
+is-in-label out = false
+is-in-label (in-at d s) = true
+
+-- The lowest free slot, if there is one, and the program with a rule put there.
+unfoldable pub lowest-free : Program → Option ℕ
+lowest-free [] = none
+lowest-free (none ∷ P) = some zero
+lowest-free (some r ∷ P) = elim (lowest-free P) [ none ↦ none | some s ↦ some (suc s) ]
+
+abbrev pub put-in : Program → Option ℕ → Rule → Program
+put-in P none r = P
+put-in P (some s) r = set P s (some r)
+
+-- The rules held, in the order of their slots.
+unfoldable pub rules : Program → List Rule
+rules [] = []
+rules (none ∷ P) = rules P
+rules (some r ∷ P) = r ∷ rules P
+
+-- Walking dependencies: from a to c by at most k steps.
+unfoldable pub reaches : List Rule → ℕ → ℕ → ℕ → Bool
+reaches rs zero a c = eqb a c
+reaches rs (suc k) a c = eqb a c || any (λ r. eqb (r .head) a && any (λ x. reaches rs k x c) (entries r)) rs
+
+-- No loop through a negation: from no rule's negative entry does a walk lead back to its head. A walk need not have
+-- more steps than there are rules. (NegativeCycle is the notion; the law `stratified-iff` says that this decides it.)
+unfoldable pub stratified : Program → Bool
+stratified P = not (any (λ r. any (λ x. reaches (rules P) (length (rules P)) x (r .head)) (r .negatives)) (rules P))
+
+module _ (limits : Limits) where
+  -- 1: Is the head below 256?  2: Do both lists together have at most 8 entries?  3: Is every entry below 256?
+  -- 4: Is each list without a repeated atom?
+  abbrev pub rule-questions : Rule → List Question
+  rule-questions r =
+      asks 1 (ltb (r .head) (limits .atoms))
+      ∷ asks 2 (leb (length (r .positives) + length (r .negatives)) (limits .entries))
+      ∷ asks 3 (every (λ x. ltb x (limits .atoms)) (entries r))
+      ∷ asks 4 (distinct (r .positives) && distinct (r .negatives))
+      ∷ []
+
+  -- Add: 1 to 4, then 5: Is the table without the same rule?  6: Is a slot free?
+  -- 7: Would the table with this rule have no loop through a negation?
+  abbrev pub add-questions : Program → Rule → List Question
+  add-questions P r =
+      rule-questions r
+      ++ (asks 5 (not (any-rule (same r) P))
+      ∷ asks 6 (is-some (lowest-free P))
+      ∷ asks 7 (stratified (put-in P (lowest-free P) r))
+      ∷ [])
+
+  -- Remove, and Spoiler of a slot. 8: Is the slot number below 256?  9: Does the slot hold a rule?
+  abbrev pub slot-questions : Program → ℕ → List Question
+  slot-questions P s = asks 8 (ltb s (limits .slots)) ∷ asks 9 (is-some (getD P s none)) ∷ []
+
+  -- Label. 10: Is the atom number below 256?
+  abbrev pub label-questions : ℕ → List Question
+  label-questions a = asks 10 (ltb a (limits .atoms)) ∷ []
+
+  -- Justifications, consequences, repercussions: 10, then 11: Is the lent buffer long enough?
+  abbrev pub list-questions : ℕ → ℕ → ℕ → List Question
+  list-questions a count room = asks 10 (ltb a (limits .atoms)) ∷ asks 11 (leb count room) ∷ []
+
+  -- Reason: 10, then 12: Is the atom in?  Then 11.
+  abbrev pub reason-questions : ℕ → Label → ℕ → ℕ → List Question
+  reason-questions a label count room =
+      asks 10 (ltb a (limits .atoms)) ∷ asks 12 (is-in-label label) ∷ asks 11 (leb count room) ∷ []

@@ -1,0 +1,46 @@
+-- Rules and programs. Assumes nothing.
+use Prim.Native.Nat.{ℕ}
+use mathlib.Core.Path.{_≡_}
+use mathlib.Core.Bool.{Bool, false, _&&_}
+use mathlib.Core.List.{List, [], _∷_, _++_}
+use mathlib.Core.Option.{Option, none, some}
+use lib.Dec.{eqb}
+use lib.ListN.{getD}
+use Rattle.theory.specs.Lists.{_∈_, any, agree}
+
+-- A rule: a head and two lists of atoms, the positive list and the negative list.
+pub record Rule : Type 0 where
+  pub head : ℕ
+  pub positives : List ℕ
+  pub negatives : List ℕ
+
+-- The entries of a rule, the positive list first.
+abbrev pub entries : Rule → List ℕ
+entries r = r .positives ++ r .negatives
+
+-- A program: the slots of a table (the pages of the plain book), each free or with one rule.
+abbrev pub Program : Type 0
+Program = List (Option Rule)
+
+-- Slot s holds the rule r.
+abbrev pub Held : Program → ℕ → Rule → Type 0
+Held P s r = getD P s none ≡ some r
+
+-- Some rule held passes the test.
+abbrev pub passes : (Rule → Bool) → Option Rule → Bool
+passes f none = false
+passes f (some r) = f r
+
+abbrev pub any-rule : (Rule → Bool) → Program → Bool
+any-rule f P = any (passes f) P
+
+-- An atom occurs if it is a head or an entry of a rule in the table; one that does not is absent.
+pub record Occurs (P : Program) (a : ℕ) : Type 0 where
+  pub slot : ℕ
+  pub rule : Rule
+  pub held : Held P slot rule
+  pub there : a ∈ rule .head ∷ entries rule
+
+-- Two rules are the same if heads are equal and each list agrees entry for entry, order included.
+unfoldable pub same : Rule → Rule → Bool
+same q r = eqb (q .head) (r .head) && (agree (q .positives) (r .positives) && agree (q .negatives) (r .negatives))

@@ -1,0 +1,99 @@
+-- The small tables T1 to T11 of document 01 as one list, and what is claimed of each. Assumes nothing.
+use Prim.Native.Nat.{ℕ, zero, suc}
+use mathlib.Core.Path.{_≡_}
+use mathlib.Core.List.{List, [], _∷_, _++_, map}
+use Rattle.theory.specs.Lists.{_∈_}
+use Rattle.theory.specs.Rules.{Rule, Program}
+use Rattle.theory.specs.Models.{AtomSet, Admissible}
+use Rattle.theory.specs.Labels.{Label, absent, out, in-at, Labelled}
+use Rattle.theory.specs.Questions.{Limits}
+use Rattle.theory.specs.Book.{Call, add, remove, Answer, refused, slot, accepted, empty, answers, after-all}
+
+-- Document 01's limits.
+abbrev pub document : Limits
+document = record { atoms = 256; slots = 256; entries = 8 }
+
+-- An atom and its label.
+pub record Line : Type 0 where
+  pub atom : ℕ
+  pub label : Label
+
+-- Calls made one after another on the empty table, their answers, and the labels of the atoms that then occur.
+pub record Example : Type 0 where
+  pub calls : List Call
+  pub told : List Answer
+  pub lines : List Line
+
+abbrev pub Each {ℓ} : {A : Type ℓ} → (A → Type 0) → List A → Type 0
+Each P [] = Unit {0}
+Each P (x ∷ xs) = P x × Each P xs
+
+-- The answers are those told; each named atom has its label in the admissible model; every other atom is absent.
+pub record Shows (e : Example) : Type 0 where
+  pub answered : answers document (empty document) (e .calls) ≡ e .told
+  pub model : AtomSet
+  pub admissible : Admissible (after-all document (empty document) (e .calls)) model
+  pub labels :
+      Each (λ l. Labelled (after-all document (empty document) (e .calls)) model (l .atom) (l .label)) (e .lines)
+  pub others :
+      (a : ℕ) → (a ∈ map (λ l. l .atom) (e .lines) → ⊥)
+      → Labelled (after-all document (empty document) (e .calls)) model a absent
+
+-- A fact, a rule with one positive entry, a rule with one negative entry.
+abbrev pub fact : ℕ → Call
+fact h = add (record { head = h; positives = []; negatives = [] })
+
+abbrev pub from : ℕ → ℕ → Call
+from h x = add (record { head = h; positives = x ∷ []; negatives = [] })
+
+abbrev pub unless : ℕ → ℕ → Call
+unless h x = add (record { head = h; positives = []; negatives = x ∷ [] })
+
+infix 70 _is_
+abbrev pub _is_ : ℕ → Label → Line
+a is l = record { atom = a; label = l }
+
+abbrev pub shows : List Call → List Answer → List Line → Example
+shows cs xs ls = record { calls = cs; told = xs; lines = ls }
+
+-- The answers to n additions, each accepted: slots 0 to n - 1.
+abbrev pub slots-from : ℕ → ℕ → List Answer
+slots-from s zero = []
+slots-from s (suc n) = slot s ∷ slots-from (suc s) n
+
+unfoldable pub tables : List Example
+tables =
+    -- T1
+    shows [] [] []
+    -- T2
+    ∷ shows (fact 1 ∷ from 2 1 ∷ []) (slots-from 0 2) (1 is in-at 1 0 ∷ 2 is in-at 2 1 ∷ [])
+    -- T3
+    ∷ shows (from 1 2 ∷ from 2 1 ∷ []) (slots-from 0 2) (1 is out ∷ 2 is out ∷ [])
+    -- T4, and with slot 2 removed
+    ∷ shows (from 1 2 ∷ from 2 1 ∷ fact 2 ∷ []) (slots-from 0 3) (1 is in-at 2 0 ∷ 2 is in-at 1 2 ∷ [])
+    ∷ shows (from 1 2 ∷ from 2 1 ∷ fact 2 ∷ remove 2 ∷ []) (slots-from 0 3 ++ (accepted ∷ [])) (1 is out ∷ 2 is out ∷ [])
+    -- T5, and with a fact
+    ∷ shows (unless 1 2 ∷ []) (slots-from 0 1) (1 is in-at 1 0 ∷ 2 is out ∷ [])
+    ∷ shows (unless 1 2 ∷ fact 2 ∷ []) (slots-from 0 2) (1 is out ∷ 2 is in-at 1 1 ∷ [])
+    -- T6
+    ∷ shows (unless 1 2 ∷ unless 2 3 ∷ []) (slots-from 0 2) (1 is out ∷ 2 is in-at 1 1 ∷ 3 is out ∷ [])
+    -- T7
+    ∷ shows (fact 2 ∷ fact 3 ∷ from 1 3 ∷ from 1 2 ∷ []) (slots-from 0 4)
+    (1 is in-at 2 2 ∷ 2 is in-at 1 0 ∷ 3 is in-at 1 1 ∷ [])
+    -- T8, and with a fact for 3
+    ∷ shows (fact 2 ∷ from 1 2 ∷ from 3 1 ∷ []) (slots-from 0 3)
+    (1 is in-at 2 1 ∷ 2 is in-at 1 0 ∷ 3 is in-at 3 2 ∷ [])
+    ∷ shows (fact 2 ∷ from 1 2 ∷ from 3 1 ∷ fact 3 ∷ []) (slots-from 0 4)
+    (1 is in-at 2 1 ∷ 2 is in-at 1 0 ∷ 3 is in-at 1 3 ∷ [])
+    -- T9: a rule that needs its own head is accepted, one that denies it is refused
+    ∷ shows (from 1 1 ∷ []) (slots-from 0 1) (1 is out ∷ [])
+    ∷ shows (unless 1 1 ∷ []) (refused 7 ∷ []) []
+    -- T10: the third rule would close a loop through a negation
+    ∷ shows (from 1 2 ∷ unless 2 3 ∷ unless 3 1 ∷ []) (slots-from 0 2 ++ (refused 7 ∷ []))
+    (1 is in-at 2 0 ∷ 2 is in-at 1 1 ∷ 3 is out ∷ [])
+    -- T11, and with a fact for 5
+    ∷ shows (from 1 2 ∷ unless 2 3 ∷ from 1 4 ∷ from 4 3 ∷ from 3 4 ∷ unless 3 5 ∷ []) (slots-from 0 6)
+    (1 is in-at 3 2 ∷ 2 is out ∷ 3 is in-at 1 5 ∷ 4 is in-at 2 3 ∷ 5 is out ∷ [])
+    ∷ shows (from 1 2 ∷ unless 2 3 ∷ from 1 4 ∷ from 4 3 ∷ from 3 4 ∷ unless 3 5 ∷ fact 5 ∷ []) (slots-from 0 7)
+    (1 is in-at 2 0 ∷ 2 is in-at 1 1 ∷ 3 is out ∷ 4 is out ∷ 5 is in-at 1 6 ∷ [])
+    ∷ []
