@@ -17,7 +17,8 @@ use Rattle.theory.proofs.Lists.{and-l, and-r, and-of, or-cases, or-l, o
 use Rattle.theory.proofs.Rules.{rules-of, rules-at}
 
 -- Two paths that meet are one.
-pub paths : {P : Program} {a x c j k : ℕ} → DependencyPath P a x j → DependencyPath P x c k → DependencyPath P a c (j + k)
+pub paths : {P : Program} {a x c j k : ℕ} → DependencyPath P a x j → DependencyPath P x c k
+    → DependencyPath P a c (j + k)
 paths {P} {c = c} {k = k} (here e) w = subst (λ (z : ℕ). DependencyPath P z c (zero + k)) (sym e) (rw zero-add w)
 paths (positive p v) w = positive p (paths v w)
 paths (negative p v) w = rw suc-add (negative p (paths v w))
@@ -141,8 +142,11 @@ module _ (P : Program) where
       ⊎-elim
       (λ (m : s .entry ∈ s .rule .positives).
       (v .0, positive (record { slot = w .0; rule = s .rule; held = w .1; heads = s .heads; entry = m }) (v .1)))
-      (λ (m : s .entry ∈ s .rule .negatives).
-      (suc (v .0), negative (record { slot = w .0; rule = s .rule; held = w .1; heads = s .heads; entry = m }) (v .1)))
+      (λ (m : s .entry ∈ s .rule .negatives). (
+        suc (v .0),
+        negative (record { slot = w .0; rule = s .rule; held = w .1; heads = s .heads; entry = m })
+            (v .1),
+      ))
       (List·Memᴰ·append-cases (s .rule .positives) (s .among))))
       (reaches-cases (rules P) c k a t)
 
@@ -157,7 +161,8 @@ module _ (P : Program) where
       reaches-within (rules P) c (s .0) (length (rules P)) a (s .1) (along (s .0) (s .2) w)
     where
       -- one step back from what is reached
-      back : (j : ℕ) → Settled (rules P) c j → (list : Rule → List ℕ) → ((r : Rule) (x : ℕ) → x ∈ list r → x ∈ entries r)
+      back : (j : ℕ) → Settled (rules P) c j → (list : Rule → List ℕ)
+          → ((r : Rule) (x : ℕ) → x ∈ list r → x ∈ entries r)
           → (a x : ℕ) → Depends P list a x → reaches (rules P) j x c ≡ true → reaches (rules P) j a c ≡ true
       back j S list among a x d t =
           let m = rules-of P (d .slot) (d .rule) (d .held) in
@@ -180,7 +185,8 @@ module _ (P : Program) where
       let s = f .step in
       ap not (any-of _ (rules P) (s .rule) (rules-of P (s .slot) (s .rule) (s .held))
       (any-of (λ x. reaches (rules P) (length (rules P)) x (s .rule .head)) (s .rule .negatives) (f .entry) (s .entry)
-      (path-reach (paths (f .rest) (subst (λ (z : ℕ). DependencyPath P (c .atom) z zero) (sym (s .heads)) (f .before))))))
+      (path-reach (paths (f .rest)
+      (subst (λ (z : ℕ). DependencyPath P (c .atom) z zero) (sym (s .heads)) (f .before))))))
 
   pub found-cycle : stratified P ≡ false → NegativeCycle P
   unfolding stratified reach
@@ -203,7 +209,8 @@ module _ (P : Program) where
   pub stratified-iff : (stratified P ≡ true) ↔ (NegativeCycle P → ⊥)
   stratified-iff = (
     (λ t c. clash t (cycle-found c)),
-    (λ f. ⊎-elim (λ (t : stratified P ≡ true). t) (λ (t : stratified P ≡ false). absurd (f (found-cycle t))) (test (stratified P))),
+    (λ f. ⊎-elim (λ (t : stratified P ≡ true). t)
+        (λ (t : stratified P ≡ false). absurd (f (found-cycle t))) (test (stratified P))),
   )
 
   pub negative-cycle? : Dec (NegativeCycle P)

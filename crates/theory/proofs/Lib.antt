@@ -3,3 +3,9 @@ pub mod Lists
 pub mod Rules
 pub mod Cycles
 pub mod Strata
+pub mod Fill
+pub mod Derivations
+pub mod Rounds
+pub mod Models
+pub mod Depths
+pub mod Labels

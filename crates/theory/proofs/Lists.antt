@@ -225,3 +225,33 @@ module _ {A : Type 0} where
         count-length (λ y. true) xs,
       )))
       (test (f x))
+
+-- The least number that passes, if s passes.
+
+LeastUpTo : (ℕ → Bool) → ℕ → Type 0
+LeastUpTo f k = (x : ℕ) × (x ≤ k) × (f x ≡ true) × ((u : ℕ) → u < x → f u ≡ false)
+
+scan : (f : ℕ → Bool) (k : ℕ) → LeastUpTo f k ⊎ ((x : ℕ) → x ≤ k → f x ≡ false)
+unfolding LeastUpTo
+scan f zero = ⊎-elim
+    (λ (t : f 0 ≡ true). inl (0, omega arith, t, λ u l. absurd (omega arith)))
+    (λ (t : f 0 ≡ false). inr (λ x l. (let e : x ≡ 0 = omega arith in ap f e ∙ t)))
+    (test (f 0))
+scan f (suc k) = ⊎-elim
+    (λ (w : LeastUpTo f k). inl (w .0, omega (arith, w .1), w .2, w .3))
+    (λ (n : (x : ℕ) → x ≤ k → f x ≡ false). ⊎-elim
+    (λ (t : f (suc k) ≡ true). inl (suc k, omega arith, t, λ u l. n u (omega arith)))
+    (λ (t : f (suc k) ≡ false). inr (λ x l. ⊎-elim
+    (λ (i : x ≤ k). n x i)
+    (λ (i : k < x). (let e : x ≡ suc k = omega arith in ap f e ∙ t))
+    (le-or-lt x k)))
+    (test (f (suc k))))
+    (scan f k)
+
+pub least : (f : ℕ → Bool) (s : ℕ) → f s ≡ true
+    → (t : ℕ) × (t ≤ s) × (f t ≡ true) × ((u : ℕ) → u < t → f u ≡ false)
+unfolding LeastUpTo
+least f s h = ⊎-elim
+    (λ (w : LeastUpTo f s). w)
+    (λ (n : (x : ℕ) → x ≤ s → f x ≡ false). absurd (clash h (n s (omega arith))))
+    (scan f s)

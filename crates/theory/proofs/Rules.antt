@@ -15,7 +15,8 @@ use Rattle.theory.proofs.Lists.{and-l, and-r, and-of, or-cases, or-l, o
 
 -- Some rule held passes.
 
-pub any-rule-at : (f : Rule → Bool) (P : Program) → any-rule f P ≡ true → (s : ℕ) × (r : Rule) × Held P s r × (f r ≡ true)
+pub any-rule-at : (f : Rule → Bool) (P : Program) → any-rule f P ≡ true
+    → (s : ℕ) × (r : Rule) × Held P s r × (f r ≡ true)
 unfolding any
 any-rule-at f [] h = absurd (true≢false (sym h))
 any-rule-at f (none ∷ P) h = let w = any-rule-at f P h in (suc (w .0), w .1, w .2, w .3)
@@ -95,7 +96,8 @@ rule-path q r h p n = λ i. record { head = h i; positives = p i; negatives = n 
 pub same-eq : (q r : Rule) → same q r ≡ true → q ≡ r
 unfolding same
 same-eq q r t =
-    let u = and-r (eqb (q .head) (r .head)) (agree (q .positives) (r .positives) && agree (q .negatives) (r .negatives)) t in
+    let u = and-r (eqb (q .head) (r .head))
+    (agree (q .positives) (r .positives) && agree (q .negatives) (r .negatives)) t in
     rule-path q r
     (eqb-eq _ _ (and-l (eqb (q .head) (r .head)) _ t))
     (agree-eq _ _ (and-l (agree (q .positives) (r .positives)) _ u))

@@ -16,7 +16,8 @@ use Rattle.theory.proofs.Lists.{and-l, and-r, and-of, unless, clash, te
 use Rattle.theory.proofs.Rules.{rules-of, rules-at, valid-negative, valid-of}
 use Rattle.theory.proofs.Cycles.{paths, FirstNegative, first-negative, reach, reach-path, path-reach}
 
--- Strata: a number for each atom, such that no rule's entry lies above its head and each negative entry lies below it.
+-- Strata: a number for each atom, such that no rule's entry lies above its head and each negative entry lies below
+-- it.
 pub record Strata (P : Program) (ℓ : ℕ → ℕ) : Type 0 where
   pub up : (s : ℕ) (r : Rule) → Held P s r → (x : ℕ) → x ∈ r .positives → ℓ x ≤ ℓ (r .head)
   pub over : (s : ℕ) (r : Rule) → Held P s r → (x : ℕ) → x ∈ r .negatives → ℓ x < ℓ (r .head)
@@ -53,18 +54,21 @@ module _ (P : Program) (ℓ : ℕ → ℕ) (L : Strata P ℓ) where
       agree-below M N A B k (λ s r i l. c s r i (omega arith)) (λ s r i l. d s r i (omega arith)) in
       same-test (M x) (N x)
       (λ t. order-within M N k d below (A .order) (A .ordered) x (A .exactly x .0 t) (omega arith))
-      (λ t. order-within N M k c (λ y hy. sym (below y hy)) (B .order) (B .ordered) x (B .exactly x .0 t) (omega arith))
+      (λ t. order-within N M k c
+      (λ y hy. sym (below y hy)) (B .order) (B .ordered) x (B .exactly x .0 t) (omega arith))
 
   pub model-unique : (M N : AtomSet) → Admissible P M → Admissible P N → (x : ℕ) → M x ≡ N x
   model-unique M N A B x =
-      agree-below M N (A .founded) (B .founded) (suc (ℓ x)) (λ s r h l. A .closed s r h) (λ s r h l. B .closed s r h) x
+      agree-below M N (A .founded) (B .founded) (suc (ℓ x)) (λ s r h l. A .closed s r h)
+      (λ s r h l. B .closed s r h) x
       (omega arith)
 
   -- k negative steps go down at least k strata, so none leads back.
 
   pub path-falls : {a c k : ℕ} → DependencyPath P a c k → k + ℓ c ≤ ℓ a
   path-falls (here e) = omega (arith, ap ℓ e)
-  path-falls (positive w v) = omega (arith, path-falls v, ap ℓ (w .heads), L .up (w .slot) (w .rule) (w .held) _ (w .entry))
+  path-falls (positive w v) = omega
+      (arith, path-falls v, ap ℓ (w .heads), L .up (w .slot) (w .rule) (w .held) _ (w .entry))
   path-falls (negative w v) =
       omega (arith, path-falls v, ap ℓ (w .heads), L .over (w .slot) (w .rule) (w .held) _ (w .entry))
 
@@ -153,7 +157,8 @@ module _ (P : Program) where
   -- Without a negative cycle each atom has its exact stratum, and only one.
 
   search-down : (a n : ℕ) → ((k : ℕ) → descends k a ≡ true → k ≤ n) → (k : ℕ) × Stratum P a k
-  search-down a zero high = (zero, record { end = a; path = here refl; most = λ c j w. high j (path-descends j a c w) })
+  search-down a zero high =
+      (zero, record { end = a; path = here refl; most = λ c j w. high j (path-descends j a c w) })
   search-down a (suc n) high = ⊎-elim
       (λ (t : descends (suc n) a ≡ true). (
       let w = descends-path (suc n) a t in

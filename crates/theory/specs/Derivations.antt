@@ -15,7 +15,7 @@ mutual
         → Derivation P M a (suc h)
 
   pub data Derivations (P : Program) (M : AtomSet) : List ℕ → ℕ → Type 0 where
-    none : Derivations P M [] zero
+    leaf : Derivations P M [] zero
     also :
         {a h k : ℕ} {xs : List ℕ} → Derivation P M a h → Derivations P M xs k → Derivations P M (a ∷ xs) (max h k)
 
