@@ -79,6 +79,15 @@ module _ (P : Program) (ℓ : ℕ → ℕ) (L : Strata P ℓ) where
   pub strata-exact : (a c : ℕ) → DependencyPath P a c (ℓ a) → Stratum P a (ℓ a)
   strata-exact a c w = record { end = c; path = w; most = λ z j v. omega (arith, path-falls v) }
 
+-- Exact strata are strata.
+pub exact-strata : (P : Program) (ℓ : ℕ → ℕ) → ((a : ℕ) → Stratum P a (ℓ a)) → Strata P ℓ
+exact-strata P ℓ exact = record {
+  up = λ s r h x m. exact (r .head) .most (exact x .end) (ℓ x)
+      (positive (record { slot = s; rule = r; held = h; heads = refl; entry = m }) (exact x .path));
+  over = λ s r h x m. exact (r .head) .most (exact x .end) (suc (ℓ x))
+      (negative (record { slot = s; rule = r; held = h; heads = refl; entry = m }) (exact x .path));
+}
+
 module _ (P : Program) where
   -- How many rules lie on paths from a: no rule's entry has more than its head, a negative entry has fewer.
   pub rules-below : ℕ → ℕ

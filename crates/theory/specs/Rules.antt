@@ -1,5 +1,5 @@
 -- Rules and programs. Assumes nothing.
-use Prim.Native.Nat.{ℕ}
+use Prim.Native.Nat.{ℕ, _<_}
 use mathlib.Core.Path.{_≡_}
 use mathlib.Core.Bool.{Bool, false, _&&_}
 use mathlib.Core.List.{List, [], _∷_, _++_}
@@ -40,6 +40,10 @@ pub record Occurs (P : Program) (a : ℕ) : Type 0 where
   pub rule : Rule
   pub held : Held P slot rule
   pub there : a ∈ rule .head ∷ entries rule
+
+-- Every atom of the program is below n.
+abbrev pub Bounded : Program → ℕ → Type 0
+Bounded P n = (s : ℕ) (r : Rule) → Held P s r → (x : ℕ) → x ∈ r .head ∷ entries r → x < n
 
 -- Two rules are the same if heads are equal and each list agrees entry for entry, order included.
 unfoldable pub same : Rule → Rule → Bool
