@@ -168,7 +168,7 @@ unfoldable pub greatest : (ℕ → ℕ) → List ℕ → ℕ
 greatest d [] = zero
 greatest d (x ∷ xs) = max (d x) (greatest d xs)
 
-greatest-le : (d : ℕ → ℕ) (h : ℕ) (xs : List ℕ) → ((x : ℕ) → x ∈ xs → d x ≤ h) → greatest d xs ≤ h
+pub greatest-le : (d : ℕ → ℕ) (h : ℕ) (xs : List ℕ) → ((x : ℕ) → x ∈ xs → d x ≤ h) → greatest d xs ≤ h
 unfolding greatest
 greatest-le d h [] f = omega arith
 greatest-le d h (x ∷ xs) f = omega

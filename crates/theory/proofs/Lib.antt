@@ -9,3 +9,6 @@ pub mod Rounds
 pub mod Models
 pub mod Depths
 pub mod Labels
+pub mod Certificate
+pub mod Explanations
+pub mod Tables

@@ -5,7 +5,7 @@ use mathlib.Core.Bool.{true, false}
 use mathlib.Core.List.{List, [], _∷_}
 use mathlib.Core.Logic.{_⊎_, _↔_}
 use mathlib.Core.Option.{some}
-use Rattle.theory.specs.Lists.{_∈_, Steps}
+use Rattle.theory.specs.Lists.{_∈_, Sorted, Steps}
 use Rattle.theory.specs.Rules.{Rule, Program, Held, entries}
 use Rattle.theory.specs.Models.{AtomSet}
 use Rattle.theory.specs.Derivations.{Depth}
@@ -54,10 +54,6 @@ pub record Before (P : Program) (M : AtomSet) (x y : ℕ) : Type 0 where
   pub depth-y : Depth P M y dy
   pub order : (dx < dy) ⊎ ((dx ≡ dy) × (x < y))
 
-abbrev pub ByDepth : Program → AtomSet → List ℕ → Type 0
-ByDepth P M [] = Unit {0}
-ByDepth P M (x ∷ xs) = ((y : ℕ) → y ∈ xs → Before P M x y) × ByDepth P M xs
-
 -- The supporting slots of the atoms xs, one for each.
 abbrev pub SlotsOf : Program → AtomSet → List ℕ → List ℕ → Type 0
 SlotsOf P M [] [] = Unit {0}
@@ -68,6 +64,6 @@ SlotsOf P M (x ∷ xs) (s ∷ ss) = Supporting P M x s × SlotsOf P M xs ss
 -- The reason of a: the supporting slots of all atoms reached, the asked one included, so ordered, each atom once.
 pub record Reason (P : Program) (M : AtomSet) (a : ℕ) (slots : List ℕ) : Type 0 where
   pub atoms : List ℕ
-  pub sorted : ByDepth P M atoms
+  pub sorted : Sorted (Before P M) atoms
   pub exactly : (x : ℕ) → x ∈ atoms ↔ Gathered P M a x
   pub supports : SlotsOf P M atoms slots

@@ -37,14 +37,14 @@ agree [] (y ∷ ys) = false
 agree (x ∷ xs) [] = false
 agree (x ∷ xs) (y ∷ ys) = eqb x y && agree xs ys
 
--- Ascending, without repeats: each number is smaller than all that follow.
-abbrev pub Ascending : List ℕ → Type 0
-Ascending [] = Unit {0}
-Ascending (x ∷ xs) = ((y : ℕ) → y ∈ xs → x < y) × Ascending xs
+-- Each entry comes before all that follow.
+abbrev pub Sorted : (ℕ → ℕ → Type 0) → List ℕ → Type 0
+Sorted B [] = Unit {0}
+Sorted B (x ∷ xs) = ((y : ℕ) → y ∈ xs → B x y) × Sorted B xs
 
 -- xs is written ascending, without repeats, and holds exactly the numbers of which P holds.
 pub record Lists (xs : List ℕ) (P : ℕ → Type 0) : Type 0 where
-  pub ascending : Ascending xs
+  pub ascending : Sorted (λ x y. x < y) xs
   pub exactly : (x : ℕ) → x ∈ xs ↔ P x
 
 -- One or more steps of a relation.

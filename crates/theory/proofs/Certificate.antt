@@ -1,0 +1,421 @@
+-- Kept labels checked as a certificate: conditions on one rule or one atom at a time hold if and only if the kept
+-- labels
+-- are the defined ones. Idea: the kept depths fall from a head to its positive entries, so the in atoms, taken by
+-- depth,
+-- are founded; the local equation of depths (`DepthEquation`) has only the least heights as its solution; and among
+-- the
+-- valid rules of a head those with all positive entries of smaller depth are those whose level is the head's depth.
+-- Assumes nothing.
+use Prim.Native.Nat.{ℕ, zero, suc, _+_, _-_, _≤_, _<_, max}
+use native.Mathlib.Omega.{arith}
+use native.Mathlib.Nat.{eq-or-lt-of-le}
+use mathlib.Core.Path.{_≡_, refl, sym, _∙_, ap, subst, fun-ext}
+use mathlib.Core.Logic.{_⊎_, inl, inr, ⊎-elim, _↔_}
+use mathlib.Core.Bool.{Bool, true, false, not, true≢false}
+use mathlib.Core.List.{List, [], _∷_, List·Memᴰ, List·Memᴰ·head, List·Memᴰ·tail, List·Memᴰ·cases-cons, List·Memᴰ·not-nil, map, Memᴰ·map}
+use Rattle.theory.specs.Lists.{_∈_}
+use Rattle.theory.specs.Rules.{Held, Occurs, Program, Rule}
+use Rattle.theory.specs.Models.{Admissible, AtomSet, Founded, next, Ordered, start, valid}
+use Rattle.theory.specs.Derivations.{also, by, Depth, Derivation, Derivations, leaf}
+use Rattle.theory.specs.Labels.{absent, in-at, is-absent, is-in, is-out, Label, Labelled, out, Supporting, Supports}
+use Rattle.theory.specs.Questions.{is-in-label, rules}
+use Rattle.theory.proofs.Lists.{clash, in-mem, le-or-lt, mem, mem-in, test, unless}
+use Rattle.theory.proofs.Rules.{rules-at, rules-of, valid-positive}
+use Rattle.theory.proofs.Derivations.{entry, last}
+use Rattle.theory.proofs.Rounds.{ordered-rule}
+use Rattle.theory.proofs.Depths.{depth-unique, greatest, greatest-le, settled-depth}
+
+-- The greatest of some atoms' numbers.
+
+pub greatest-at : (d : ℕ → ℕ) (xs : List ℕ) (x : ℕ) → x ∈ xs → d x ≤ greatest d xs
+unfolding greatest
+greatest-at d [] x m = absurd (List·Memᴰ·not-nil m)
+greatest-at d (y ∷ ys) x m = ⊎-elim
+    (λ (e : x ≡ y). omega (arith, ap d e))
+    (λ (m′ : x ∈ ys). omega (arith, greatest-at d ys x m′))
+    (List·Memᴰ·cases-cons m)
+
+-- The level of a rule: 1 more than the greatest depth of its positive entries.
+abbrev pub level : (ℕ → ℕ) → Rule → ℕ
+level d r = suc (greatest d (r .positives))
+
+-- The local equation of depths: no valid rule has a level below its head's depth, and each in atom has a valid rule
+-- whose
+-- level is its depth.
+pub record DepthEquation (P : Program) (M : AtomSet) (d : ℕ → ℕ) : Type 0 where
+  pub least : (s : ℕ) (r : Rule) → Held P s r → valid M r ≡ true → d (r .head) ≤ level d r
+  pub reached :
+      (a : ℕ) → M a ≡ true
+      → (s : ℕ) × (r : Rule) × Held P s r × (r .head ≡ a) × (valid M r ≡ true) × (level d r ≡ d a)
+
+module _ (P : Program) (M : AtomSet) (d : ℕ → ℕ) where
+  -- derivations of all entries, each of its depth, are derivations of the list of the greatest of these
+  pub derivations-of :
+      (xs : List ℕ) → ((x : ℕ) → x ∈ xs → Derivation P M x (d x)) → Derivations P M xs (greatest d xs)
+  unfolding greatest
+  derivations-of [] f = leaf
+  derivations-of (x ∷ xs) f = also (f x (List·Memᴰ·head refl)) (derivations-of xs (λ y m. f y (List·Memᴰ·tail m)))
+
+  module _ (E : DepthEquation P M d) where
+    derive : (k a : ℕ) → d a ≤ k → M a ≡ true → Derivation P M a (d a)
+    derive zero a l t = (let w = E .reached a t in absurd (omega (arith, w .5)))
+    derive (suc k) a l t =
+        let w = E .reached a t in
+        let r = w .1 in
+        subst (λ (h : ℕ). Derivation P M a h) (w .5)
+        (by (w .0) r (w .2) (w .3) (w .4) (derivations-of (r .positives)
+        (λ x m. derive k x (omega (arith, greatest-at d (r .positives) x m, w .5)) (valid-positive M r (w .4) x m))))
+
+    -- The equation has only the depths as its solution.
+    pub equation-depth : (a : ℕ) → M a ≡ true → Depth P M a (d a)
+    equation-depth a t = settled-depth P M d (E .least) a (derive (d a) a (omega arith) t)
+
+  -- And the depths are a solution.
+  pub depth-equation :
+      Admissible P M → ((a : ℕ) → M a ≡ true → Depth P M a (d a)) → DepthEquation P M d
+  depth-equation A D = record {
+    least = λ s r h v. D (r .head) (A .closed s r h v) .least (level d r)
+        (by s r h refl v (derivations-of (r .positives) (λ x m. D x (valid-positive M r v x m) .reached)));
+    reached = λ a t. (
+        let w = last (D a t .reached) in
+        let r = w .rule in
+        let each : (x : ℕ) → x ∈ r .positives → d x ≤ w .under = λ x m. (
+        let i = entry (w .parts) x m in
+        omega (arith, i .2, D x (valid-positive M r (w .good) x m) .least (i .0) (i .1))) in
+        let high : d a ≤ level d r = D a t .least (level d r)
+        (by (w .slot) r (w .held) (w .heads) (w .good)
+        (derivations-of (r .positives) (λ x m. D x (valid-positive M r (w .good) x m) .reached))) in (
+          w .slot,
+          r,
+          w .held,
+          w .heads,
+          w .good,
+          omega
+              (arith, w .height, greatest-le d (w .under) (r .positives) each),
+        ));
+  }
+
+  -- Taken by depth, the in atoms are in a founded order.
+
+  -- an order that has in atoms only, and all of them up to the depth k
+  record UpTo (k : ℕ) (xs : List ℕ) : Type 0 where
+    ordered : Ordered P M xs
+    inside : (x : ℕ) → x ∈ xs → M x ≡ true
+    all : (x : ℕ) → M x ≡ true → d x ≤ k → x ∈ xs
+
+  -- an order with everything of the first, and with a where it is in and no deeper than k + 1
+  record Extended (k : ℕ) (xs ys : List ℕ) (a : ℕ) : Type 0 where
+    upto : UpTo k ys
+    keeps : (x : ℕ) → x ∈ xs → x ∈ ys
+    has : M a ≡ true → d a ≤ suc k → a ∈ ys
+
+  module _ (E : DepthEquation P M d) where
+    behind : (k : ℕ) (xs : List ℕ) (a : ℕ) → UpTo k xs → M a ≡ true → d a ≤ suc k → (a ∈ xs → ⊥) → UpTo k (a ∷ xs)
+    behind k xs a U t l fresh =
+        let w = E .reached a t in
+        let r = w .1 in
+        record {
+          ordered = next (U .ordered) fresh (w .0) r (w .2) (w .3) (w .4)
+              (λ x m. U .all x (valid-positive M r (w .4) x m)
+              (omega (arith, greatest-at d (r .positives) x m, w .5)));
+          inside = λ x m. ⊎-elim (λ (e : x ≡ a). ap M e ∙ t) (λ (i : x ∈ xs). U .inside x i) (List·Memᴰ·cases-cons m);
+          all = λ x i j. List·Memᴰ·tail (U .all x i j);
+        }
+
+    extend : (k : ℕ) (xs : List ℕ) → UpTo k xs → (a : ℕ) → (ys : List ℕ) × Extended k xs ys a
+    extend k xs U a = ⊎-elim
+        (λ (t : mem a xs ≡ true). (xs, stay (λ i l. mem-in a xs t)))
+        (λ (n : mem a xs ≡ false). ⊎-elim
+        (λ (t : M a ≡ true). ⊎-elim
+        (λ (l : d a ≤ suc k). (
+          a ∷ xs,
+          record {
+            upto = behind k xs a U t l (λ m. clash (in-mem a xs m) n);
+            keeps = λ x m. List·Memᴰ·tail m;
+            has = λ i j. List·Memᴰ·head refl;
+          },
+        ))
+        (λ (l : suc k < d a). (xs, stay (λ i j. absurd (omega arith))))
+        (le-or-lt (d a) (suc k)))
+        (λ (t : M a ≡ false). (xs, stay (λ i l. absurd (clash i t))))
+        (test (M a)))
+        (test (mem a xs))
+      where
+        stay : (M a ≡ true → d a ≤ suc k → a ∈ xs) → Extended k xs xs a
+        stay f = record { upto = U; keeps = λ x m. m; has = f }
+
+    -- the heads of some rules put behind, one after another
+    extend-all :
+        (k : ℕ) (xs : List ℕ) → UpTo k xs → (rs : List Rule)
+        → (ys : List ℕ) × UpTo k ys
+        × ((r : Rule) → List·Memᴰ r rs → M (r .head) ≡ true → d (r .head) ≤ suc k → r .head ∈ ys)
+    extend-all k xs U [] = (xs, U, λ r m t l. absurd (List·Memᴰ·not-nil m))
+    extend-all k xs U (q ∷ rs) =
+        let w = extend-all k xs U rs in
+        let z = extend k (w .0) (w .1) (q .head) in (
+          z .0,
+          z .1 .upto,
+          λ r m t l. ⊎-elim
+              (λ (e : r ≡ q). (
+              let h = ap (λ (y : Rule). y .head) e in
+              subst (λ (y : ℕ). y ∈ z .0) (sym h) (z .1 .has (sym (ap M h) ∙ t) (omega (arith, ap d h)))))
+              (λ (i : List·Memᴰ r rs). z .1 .keeps (r .head) (w .2 r i t l))
+              (List·Memᴰ·cases-cons m),
+        )
+
+    levels : (k : ℕ) → (xs : List ℕ) × UpTo k xs
+    levels zero = (
+      [],
+      record {
+        ordered = start;
+        inside = λ x m. absurd (List·Memᴰ·not-nil m);
+        all = λ x t l. (let w = E .reached x t in absurd (omega (arith, w .5)));
+      },
+    )
+    levels (suc k) =
+        let w = levels k in
+        let z = extend-all k (w .0) (w .1) (rules P) in (
+          z .0,
+          record {
+            ordered = z .1 .ordered;
+            inside = z .1 .inside;
+            all = λ x t l. (
+                let v = E .reached x t in
+                let h = v .3 in
+                subst (λ (y : ℕ). y ∈ z .0) h
+                (z .2 (v .1) (rules-of P (v .0) (v .1) (v .2)) (ap M h ∙ t) (omega (arith, ap d h))));
+          },
+        )
+
+    -- every depth is among those of the heads
+    depth-bound : (a : ℕ) → M a ≡ true → d a ≤ greatest d (map (λ r. r .head) (rules P))
+    depth-bound a t =
+        let w = E .reached a t in
+        let l = greatest-at d (map (λ r. r .head) (rules P)) (w .1 .head)
+        (Memᴰ·map (λ r. r .head) (rules-of P (w .0) (w .1) (w .2))) in
+        omega (arith, ap d (w .3))
+
+    pub equation-founded : Founded P M
+    equation-founded =
+        let w = levels (greatest d (map (λ r. r .head) (rules P))) in
+        record {
+          order = w .0;
+          ordered = w .1 .ordered;
+          exactly = λ a. ((λ t. w .1 .all a t (depth-bound a t)), (λ m. w .1 .inside a m));
+        }
+
+-- What is kept of an atom: is it in, and at which depth (0 where it is not in)?
+
+abbrev pub kept-in : (ℕ → Label) → AtomSet
+kept-in label = λ a. is-in-label (label a)
+
+abbrev pub depth-in : Label → ℕ
+depth-in absent = zero
+depth-in out = zero
+depth-in (in-at d s) = d
+
+abbrev pub kept-depth : (ℕ → Label) → ℕ → ℕ
+kept-depth label = λ a. depth-in (label a)
+
+-- The conditions, each on one rule or one atom.
+pub record Certified (P : Program) (label : ℕ → Label) : Type 0 where
+  -- the head of a rule that is valid by the kept labels is in, and not deeper than the rule's level
+  pub closed : (s : ℕ) (r : Rule) → Held P s r → valid (kept-in label) r ≡ true → kept-in label (r .head) ≡ true
+  pub least :
+      (s : ℕ) (r : Rule) → Held P s r → valid (kept-in label) r ≡ true
+      → kept-depth label (r .head) ≤ level (kept-depth label) r
+  -- the kept slot of an in atom is the first that holds a valid rule of it whose level is its depth
+  pub supported :
+      (a d s : ℕ) → label a ≡ in-at d s
+      → (r : Rule) × Held P s r × (r .head ≡ a) × (valid (kept-in label) r ≡ true) × (level (kept-depth label) r ≡ d)
+  pub lowest :
+      (a d s : ℕ) → label a ≡ in-at d s → (t : ℕ) → t < s → (r : Rule) → Held P t r → r .head ≡ a
+      → valid (kept-in label) r ≡ true → level (kept-depth label) r ≡ d → ⊥
+  -- an atom is kept as absent exactly if it does not occur
+  pub out-occurs : (a : ℕ) → label a ≡ out → Occurs P a
+  pub absent-missing : (a : ℕ) → label a ≡ absent → Occurs P a → ⊥
+
+in-label : (l : Label) → is-in-label l ≡ true → (d : ℕ) × (s : ℕ) × (l ≡ in-at d s)
+in-label absent t = absurd (true≢false (sym t))
+in-label out t = absurd (true≢false (sym t))
+in-label (in-at d s) t = (d, s, refl)
+
+module _ (P : Program) (label : ℕ → Label) where
+  abbrev M : AtomSet
+  M = kept-in label
+
+  abbrev d : ℕ → ℕ
+  d = kept-depth label
+
+  module _ (C : Certified P label) where
+    certified-equation : DepthEquation P M d
+    certified-equation = record {
+      least = C .least;
+      reached = λ a t. (
+          let w = in-label (label a) t in
+          let z = C .supported a (w .0) (w .1) (w .2) in
+          (w .1, z .0, z .1, z .2, z .3, z .4 ∙ sym (ap depth-in (w .2))));
+    }
+
+    pub certified-admissible : Admissible P M
+    certified-admissible = record { founded = equation-founded P M d certified-equation; closed = C .closed }
+
+    certified-supporting : (a e s : ℕ) → label a ≡ in-at e s → Depth P M a e → Supporting P M a s
+    certified-supporting a e s q D =
+        let w = C .supported a e s q in
+        let depth : (x : ℕ) → M x ≡ true → Depth P M x (d x) = equation-depth P M d certified-equation in
+        record {
+          supports = record {
+            rule = w .0;
+            held = w .1;
+            heads = w .2;
+            good = w .3;
+            smaller = λ x m. record {
+              less = d x;
+              more = e;
+              depth-x = depth x (valid-positive M (w .0) (w .3) x m);
+              depth-a = D;
+              order = omega (arith, greatest-at d (w .0 .positives) x m, w .4);
+            };
+          };
+          lowest = λ t l S. C .lowest a e s q t l (S .rule) (S .held) (S .heads) (S .good) (
+              let high : d (S .rule .head) ≤ level d (S .rule) = C .least t (S .rule) (S .held) (S .good) in
+              let low : greatest d (S .rule .positives) < e = below (S .rule .positives) (λ x m. (
+              let z = S .smaller x m in
+              omega (
+                arith,
+                z .order,
+                depth-unique D (z .depth-a),
+                depth-unique (depth x (valid-positive M (S .rule) (S .good) x m)) (z .depth-x),
+              ))) in
+              omega (arith, ap d (S .heads), ap depth-in q));
+        }
+      where
+        below : (xs : List ℕ) → ((x : ℕ) → x ∈ xs → d x < e) → greatest d xs < e
+        below xs f = ⊎-elim
+            (λ (i : e ≤ 0). absurd (omega (arith, last (D .reached) .height)))
+            (λ (i : 0 < e). (let j = greatest-le d (e - 1) xs (λ x m. omega (arith, f x m)) in omega arith))
+            (le-or-lt e 0)
+
+    pub certified-labels : (a : ℕ) → Labelled P M a (label a)
+    certified-labels a = go (label a) refl
+      where
+        go : (l : Label) → label a ≡ l → Labelled P M a l
+        go absent e = is-absent (C .absent-missing a e)
+        go out e = is-out (C .out-occurs a e) (ap is-in-label e)
+        go (in-at k s) e =
+            let t : M a ≡ true = ap is-in-label e in
+            let D : Depth P M a k = subst (λ (z : ℕ). Depth P M a z) (ap depth-in e)
+            (equation-depth P M d certified-equation a t) in
+            is-in t D (certified-supporting a k s e D)
+
+-- An atom of the model occurs: it is a head.
+pub in-occurs : (P : Program) (M : AtomSet) → Founded P M → (a : ℕ) → M a ≡ true → Occurs P a
+in-occurs P M F a t =
+    let w = ordered-rule P M (F .order) (F .ordered) a (F .exactly a .0 t) in
+    let h = rules-at P (w .0) (w .1) in
+    record { slot = h .0; rule = w .0; held = h .1; there = List·Memᴰ·head (sym (w .2)) }
+
+-- The defined labels of every atom meet the conditions.
+module _ (P : Program) (N : AtomSet) (label : ℕ → Label) (A : Admissible P N)
+    (L : (a : ℕ) → Labelled P N a (label a)) where
+  kept-model : (a : ℕ) → kept-in label a ≡ N a
+  kept-model a = go (label a) (L a)
+    where
+      go : (l : Label) → Labelled P N a l → is-in-label l ≡ N a
+      go absent (is-absent f) = sym (unless (N a) (λ t. f (in-occurs P N (A .founded) a t)))
+      go out (is-out o t) = sym t
+      go (in-at k s) (is-in t D S) = sym t
+
+  same-set : kept-in label ≡ N
+  same-set = fun-ext kept-model
+
+  record InLabel (a k s : ℕ) : Type 0 where
+    inside : N a ≡ true
+    depth : Depth P N a k
+    support : Supporting P N a s
+
+  in-at-label : (a k s : ℕ) → label a ≡ in-at k s → InLabel a k s
+  in-at-label a k s e = go (label a) e (L a)
+    where
+      go : (l : Label) → l ≡ in-at k s → Labelled P N a l → InLabel a k s
+      go absent q w = absurd (let z : _≡_ {A = ℕ} 0 1 = cc in omega arith)
+      go out q w = absurd (let z : _≡_ {A = ℕ} 0 1 = cc in omega arith)
+      go (in-at j t) q (is-in i D S) =
+          let u : j ≡ k = cc in
+          let v : t ≡ s = cc in
+          record {
+            inside = i;
+            depth = subst (λ (z : ℕ). Depth P N a z) u D;
+            support = subst (λ (z : ℕ). Supporting P N a z) v S;
+          }
+
+  depth-kept : (a : ℕ) → N a ≡ true → Depth P N a (kept-depth label a)
+  depth-kept a t =
+      let w = in-label (label a) (kept-model a ∙ t) in
+      subst (λ (z : ℕ). Depth P N a z) (sym (ap depth-in (w .2))) (in-at-label a (w .0) (w .1) (w .2) .depth)
+
+  equation : DepthEquation P N (kept-depth label)
+  equation = depth-equation P N (kept-depth label) A depth-kept
+
+  -- a rule of a, valid, whose level is a's depth, supports a
+  level-supports : (a k t : ℕ) (r : Rule) → Depth P N a k → Held P t r → r .head ≡ a → valid N r ≡ true
+      → level (kept-depth label) r ≡ k → Supports P N a t
+  level-supports a k t r D h e v l = record {
+    rule = r;
+    held = h;
+    heads = e;
+    good = v;
+    smaller = λ x m. record {
+      less = kept-depth label x;
+      more = k;
+      depth-x = depth-kept x (valid-positive N r v x m);
+      depth-a = D;
+      order = omega (arith, greatest-at (kept-depth label) (r .positives) x m);
+    };
+  }
+
+  -- and a rule that supports a has that level
+  supports-level : (a k t : ℕ) → Depth P N a k → (S : Supports P N a t) → level (kept-depth label) (S .rule) ≡ k
+  supports-level a k t D S =
+      let r = S .rule in
+      let e : kept-depth label a ≡ k = depth-unique
+      (depth-kept a (ap N (sym (S .heads)) ∙ A .closed t r (S .held) (S .good))) D in
+      let high = equation .least t r (S .held) (S .good) in
+      let low = greatest-le (kept-depth label) (k - 1) (r .positives) (λ x m. (
+      let z = S .smaller x m in
+      omega (
+        arith,
+        z .order,
+        depth-unique D (z .depth-a),
+        depth-unique (depth-kept x (valid-positive N r (S .good) x m)) (z .depth-x),
+      ))) in
+      omega (arith, ap (kept-depth label) (S .heads), last (D .reached) .height)
+
+  same-valid : (r : Rule) → valid (kept-in label) r ≡ valid N r
+  same-valid r = ap (λ (X : AtomSet). valid X r) same-set
+
+  pub labels-certified : Certified P label
+  labels-certified = record {
+    closed = λ s r h v. kept-model (r .head) ∙ A .closed s r h (sym (same-valid r) ∙ v);
+    least = λ s r h v. equation .least s r h (sym (same-valid r) ∙ v);
+    supported = λ a k s e. (
+        let w = in-at-label a k s e in
+        let S = w .support .supports in
+        (S .rule, S .held, S .heads, same-valid (S .rule) ∙ S .good, supports-level a k s (w .depth) S));
+    lowest = λ a k s e t l r h q v z. (
+        let w = in-at-label a k s e in
+        w .support .lowest t l (level-supports a k t r (w .depth) h q (sym (same-valid r) ∙ v) z));
+    out-occurs = λ a e. out-label a (label a) e (L a);
+    absent-missing = λ a e. absent-label a (label a) e (L a);
+  }
+    where
+      out-label : (a : ℕ) (l : Label) → l ≡ out → Labelled P N a l → Occurs P a
+      out-label a absent e w = absurd (let z : _≡_ {A = ℕ} 0 1 = cc in omega arith)
+      out-label a out e (is-out o t) = o
+      out-label a (in-at k s) e w = absurd (let z : _≡_ {A = ℕ} 0 1 = cc in omega arith)
+
+      absent-label : (a : ℕ) (l : Label) → l ≡ absent → Labelled P N a l → Occurs P a → ⊥
+      absent-label a absent e (is-absent f) = f
+      absent-label a out e w = absurd (let z : _≡_ {A = ℕ} 0 1 = cc in omega arith)
+      absent-label a (in-at k s) e w = absurd (let z : _≡_ {A = ℕ} 0 1 = cc in omega arith)
