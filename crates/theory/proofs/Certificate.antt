@@ -12,18 +12,20 @@ use native.Mathlib.Nat.{eq-or-lt-of-le}
 use mathlib.Core.Path.{_≡_, refl, sym, _∙_, ap, subst, fun-ext}
 use mathlib.Core.Logic.{_⊎_, inl, inr, ⊎-elim, _↔_}
 use mathlib.Core.Bool.{Bool, true, false, not, true≢false}
-use mathlib.Core.List.{List, [], _∷_, List·Memᴰ, List·Memᴰ·head, List·Memᴰ·tail, List·Memᴰ·cases-cons, List·Memᴰ·not-nil, map, Memᴰ·map}
+use mathlib.Core.List.{List, [], _∷_, List·Memᴰ, List·Memᴰ·head, List·Memᴰ·tail, List·Memᴰ·cases-cons}
+use mathlib.Core.List.{List·Memᴰ·not-nil, map, Memᴰ·map}
 use Rattle.theory.specs.Lists.{_∈_}
 use Rattle.theory.specs.Rules.{Held, Occurs, Program, Rule}
 use Rattle.theory.specs.Models.{Admissible, AtomSet, Founded, next, Ordered, start, valid}
 use Rattle.theory.specs.Derivations.{also, by, Depth, Derivation, Derivations, leaf}
-use Rattle.theory.specs.Labels.{absent, in-at, is-absent, is-in, is-out, Label, Labelled, out, Supporting, Supports}
+use Rattle.theory.specs.Labels.{absent, in-at, is-absent, is-in, is-out, Label, Labelled, out, Supporting}
+use Rattle.theory.specs.Labels.{Supports}
 use Rattle.theory.specs.Questions.{is-in-label, rules}
 use Rattle.theory.proofs.Lists.{clash, in-mem, le-or-lt, mem, mem-in, test, unless}
-use Rattle.theory.proofs.Rules.{rules-at, rules-of, valid-positive}
+use Rattle.theory.proofs.Rules.{rules-of, valid-positive}
 use Rattle.theory.proofs.Derivations.{entry, last}
-use Rattle.theory.proofs.Rounds.{ordered-rule}
 use Rattle.theory.proofs.Depths.{depth-unique, greatest, greatest-le, settled-depth}
+use Rattle.theory.proofs.Labels.{in-occurs}
 
 -- The greatest of some atoms' numbers.
 
@@ -308,13 +310,6 @@ module _ (P : Program) (label : ℕ → Label) where
             let D : Depth P M a k = subst (λ (z : ℕ). Depth P M a z) (ap depth-in e)
             (equation-depth P M d certified-equation a t) in
             is-in t D (certified-supporting a k s e D)
-
--- An atom of the model occurs: it is a head.
-pub in-occurs : (P : Program) (M : AtomSet) → Founded P M → (a : ℕ) → M a ≡ true → Occurs P a
-in-occurs P M F a t =
-    let w = ordered-rule P M (F .order) (F .ordered) a (F .exactly a .0 t) in
-    let h = rules-at P (w .0) (w .1) in
-    record { slot = h .0; rule = w .0; held = h .1; there = List·Memᴰ·head (sym (w .2)) }
 
 -- The defined labels of every atom meet the conditions.
 module _ (P : Program) (N : AtomSet) (label : ℕ → Label) (A : Admissible P N)

@@ -10,11 +10,13 @@ use mathlib.Core.List.{List, [], _∷_, _++_, List·Memᴰ, Memᴰ·append-left,
 use lib.Dec.{eqb}
 use lib.ListN.{length}
 use Rattle.theory.specs.Lists.{_∈_, any}
-use Rattle.theory.specs.Rules.{Rule, Program, Held, entries}
-use Rattle.theory.specs.Dependencies.{Depends, Positively, Negatively, DependencyPath, here, positive, negative, NegativeCycle}
-use Rattle.theory.specs.Questions.{rules, reaches, stratified}
-use Rattle.theory.proofs.Lists.{and-l, and-r, and-of, or-cases, or-l, or-r, unless, clash, test, not-true, false-not, le-or-lt, eqb-eq, eqb-of, any-at, any-of, count, count-length, count-le, count-lt, count-all}
-use Rattle.theory.proofs.Rules.{rules-of, rules-at}
+use Rattle.theory.specs.Rules.{entries, Program, Rule}
+use Rattle.theory.specs.Dependencies.{DependencyPath, Depends, here, negative, NegativeCycle, Negatively}
+use Rattle.theory.specs.Dependencies.{positive}
+use Rattle.theory.specs.Questions.{reaches, rules, stratified}
+use Rattle.theory.proofs.Lists.{and-l, and-of, and-r, any-at, any-of, clash, count, count-all, count-lt}
+use Rattle.theory.proofs.Lists.{eqb-eq, eqb-of, le-or-lt, or-cases, or-l, or-r, test}
+use Rattle.theory.proofs.Rules.{rules-at, rules-of}
 
 -- Two paths that meet are one.
 pub paths : {P : Program} {a x c j k : ℕ} → DependencyPath P a x j → DependencyPath P x c k

@@ -7,14 +7,16 @@ use native.Mathlib.Decide.{ℕ-discrete}
 use mathlib.Core.Path.{_≡_, refl, sym, _∙_, ap, ap₂, subst, fun-ext}
 use mathlib.Core.Bool.{Bool, true, false, not, _&&_, _||_, true≢false}
 use mathlib.Core.Logic.{_⊎_, inl, inr, ⊎-elim, _↔_}
-use mathlib.Core.List.{List, [], _∷_, List·Memᴰ, List·Memᴰ·head, List·Memᴰ·tail, List·Memᴰ·cases-cons, List·Memᴰ·not-nil}
+use mathlib.Core.List.{List, [], _∷_, List·Memᴰ, List·Memᴰ·head, List·Memᴰ·tail, List·Memᴰ·cases-cons}
+use mathlib.Core.List.{List·Memᴰ·not-nil}
 use lib.Dec.{eqb}
 use lib.ListN.{length}
 use Rattle.theory.specs.Lists.{_∈_, every}
 use Rattle.theory.specs.Rules.{any-rule, Held, Program, Rule}
 use Rattle.theory.specs.Models.{AtomSet, Closed, Founded, next, Ordered, start, valid}
 use Rattle.theory.specs.Derivations.{by, Depth, Derivation}
-use Rattle.theory.proofs.Lists.{and-l, and-of, and-r, clash, count, count-length, count-lt, eqb-eq, eqb-of, every-at, every-of, in-mem, le-or-lt, mem, mem-in, test, unless}
+use Rattle.theory.proofs.Lists.{and-l, and-of, and-r, clash, count, count-length, count-lt, eqb-eq, eqb-of}
+use Rattle.theory.proofs.Lists.{every-at, every-of, in-mem, le-or-lt, mem, mem-in, test, unless}
 use Rattle.theory.proofs.Rules.{any-rule-at, any-rule-of}
 use Rattle.theory.proofs.Derivations.{entry, gather, last}
 

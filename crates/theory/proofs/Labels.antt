@@ -5,7 +5,8 @@ use native.Mathlib.Omega.{arith}
 use mathlib.Core.Path.{_≡_, refl, sym, _∙_, ap, ap₂, subst, fun-ext}
 use mathlib.Core.Logic.{_⊎_, inl, inr, ⊎-elim, _↔_}
 use mathlib.Core.Bool.{Bool, true, false, not, _&&_, true≢false}
-use mathlib.Core.List.{List, [], _∷_, List·Memᴰ, List·Memᴰ·head, List·Memᴰ·tail, List·Memᴰ·cases-cons, List·Memᴰ·not-nil}
+use mathlib.Core.List.{List, [], _∷_, List·Memᴰ, List·Memᴰ·head, List·Memᴰ·tail, List·Memᴰ·cases-cons}
+use mathlib.Core.List.{List·Memᴰ·not-nil}
 use lib.Dec.{eqb}
 use lib.ListN.{getD}
 use mathlib.Core.Option.{Option, none, some, Option·some-injective, Option·none-ne-some}
@@ -13,10 +14,14 @@ use Rattle.theory.specs.Lists.{_∈_, every, first}
 use Rattle.theory.specs.Rules.{Occurs, passes, Program, Rule}
 use Rattle.theory.specs.Models.{AtomSet, Founded, valid}
 use Rattle.theory.specs.Derivations.{Depth}
-use Rattle.theory.specs.Labels.{absent, in-at, is-absent, is-in, is-out, Label, Labelled, out, spoiler, Supporting, Supports}
-use Rattle.theory.proofs.Lists.{and-l, and-of, and-r, clash, eqb-eq, eqb-of, every-at, every-of, le-or-lt, least, not-false, not-true, test}
-use Rattle.theory.proofs.Rules.{occurs-at, occurs-of, occurs-test, valid-of}
+use Rattle.theory.specs.Labels.{absent, in-at, is-absent, is-in, is-out, Label, Labelled, out, spoiler}
+use Rattle.theory.specs.Labels.{Supporting, Supports}
+use Rattle.theory.proofs.Lists.{and-l, and-of, and-r, clash, eqb-eq, eqb-of, every-at, every-of, le-or-lt}
+use Rattle.theory.proofs.Lists.{least, not-false, not-true, test}
+use Rattle.theory.proofs.Rules.{occurs-at, occurs-of, occurs-test, rules-at, valid-negative, valid-of}
+use Rattle.theory.proofs.Rules.{valid-positive}
 use Rattle.theory.proofs.Derivations.{entry, last}
+use Rattle.theory.proofs.Rounds.{ordered-rule}
 use Rattle.theory.proofs.Depths.{depth-unique, derived-within, in-depth, within, within-depth}
 
 -- slot s supports a, whose depth is k + 1
@@ -100,9 +105,16 @@ supported P M a (suc k) D =
       },
     )
 
--- every atom has a label
-pub labelled : (P : Program) (M : AtomSet) → Founded P M → (a : ℕ) → (l : Label) × Labelled P M a l
-labelled P M F a = ⊎-elim
+-- An atom of the model occurs: it is a head.
+pub in-occurs : (P : Program) (M : AtomSet) → Founded P M → (a : ℕ) → M a ≡ true → Occurs P a
+in-occurs P M F a t =
+    let w = ordered-rule P M (F .order) (F .ordered) a (F .exactly a .0 t) in
+    let h = rules-at P (w .0) (w .1) in
+    record { slot = h .0; rule = w .0; held = h .1; there = List·Memᴰ·head (sym (w .2)) }
+
+-- Every atom has a label.
+pub label-exists : (P : Program) (M : AtomSet) → Founded P M → (a : ℕ) → (l : Label) × Labelled P M a l
+label-exists P M F a = ⊎-elim
     (λ (t : M a ≡ true).
     (let d = in-depth P M F a t in let s = supported P M a (d .0) (d .1) in
     (in-at (d .0) (s .0), is-in t (d .1) (s .1))))
@@ -111,20 +123,20 @@ labelled P M F a = ⊎-elim
     (test (occurs-test P a)))
     (test (M a))
 
--- and one only
-pub label-unique : (P : Program) (M : AtomSet) (a : ℕ) (k l : Label) → (M a ≡ true → Occurs P a) → Labelled P M a k
-    → Labelled P M a l → k ≡ l
-label-unique P M a k l oc (is-absent f) (is-absent g) = refl
-label-unique P M a k l oc (is-absent f) (is-out o n) = absurd (f o)
-label-unique P M a k l oc (is-absent f) (is-in t D S) = absurd (f (oc t))
-label-unique P M a k l oc (is-out o n) (is-absent g) = absurd (g o)
-label-unique P M a k l oc (is-out o n) (is-out p m) = refl
-label-unique P M a k l oc (is-out o n) (is-in t D S) = absurd (clash t n)
-label-unique P M a k l oc (is-in t D S) (is-absent g) = absurd (g (oc t))
-label-unique P M a k l oc (is-in t D S) (is-out p m) = absurd (clash t m)
-label-unique P M a k l oc (is-in t D S) (is-in u E R) = ap₂ in-at (depth-unique D E) (supporting-unique P M a _ _ S R)
+-- And only one.
+pub label-unique :
+    (P : Program) (M : AtomSet) → Founded P M → (a : ℕ) (k l : Label) → Labelled P M a k → Labelled P M a l → k ≡ l
+label-unique P M F a k l (is-absent f) (is-absent g) = refl
+label-unique P M F a k l (is-absent f) (is-out o n) = absurd (f o)
+label-unique P M F a k l (is-absent f) (is-in t D S) = absurd (f (in-occurs P M F a t))
+label-unique P M F a k l (is-out o n) (is-absent g) = absurd (g o)
+label-unique P M F a k l (is-out o n) (is-out p m) = refl
+label-unique P M F a k l (is-out o n) (is-in t D S) = absurd (clash t n)
+label-unique P M F a k l (is-in t D S) (is-absent g) = absurd (g (in-occurs P M F a t))
+label-unique P M F a k l (is-in t D S) (is-out p m) = absurd (clash t m)
+label-unique P M F a k l (is-in t D S) (is-in u E R) = ap₂ in-at (depth-unique D E) (supporting-unique P M a _ _ S R)
 
--- two models that agree give the same labels
+-- Two models that agree give the same labels.
 pub label-moves : (P : Program) (M N : AtomSet) → ((x : ℕ) → M x ≡ N x) → (a : ℕ) (l : Label) → Labelled P M a l
     → Labelled P N a l
 label-moves P M N e a l w = subst (λ (X : AtomSet). Labelled P X a l) (fun-ext e) w
@@ -156,36 +168,56 @@ first-none f (y ∷ ys) e x m = ⊎-elim
     (λ (m′ : x ∈ ys). first-none f ys (sym (first-miss f y ys t) ∙ e) x m′) (List·Memᴰ·cases-cons m))
     (test (f y))
 
--- a spoiler spoils
-pub spoils : (M : AtomSet) (r : Rule) (x : ℕ) → spoiler M r ≡ some x
-    → ((x ∈ r .positives) × (M x ≡ false)) ⊎ ((x ∈ r .negatives) × (M x ≡ true))
+-- The positive list is read first: a spoiling positive entry comes before any negative one.
+pub spoiler-positive :
+    (M : AtomSet) (r : Rule) (x : ℕ) → first (λ y. not (M y)) (r .positives) ≡ some x → spoiler M r ≡ some x
 unfolding spoiler
-spoils M r x e = go (first (λ p. not (M p)) (r .positives)) refl e
-  where
-    go : (o : Option ℕ) → first
-        (λ p. not (M p)) (r .positives) ≡ o
-        → Path (Option ℕ) (elim o as (λ z. Option ℕ) [ some y ↦ some y | none ↦ first M (r .negatives) ]) (some x)
-        → ((x ∈ r .positives) × (M x ≡ false)) ⊎ ((x ∈ r .negatives) × (M x ≡ true))
-    go (some y) h q = (let w = first-at (λ p. not (M p)) (r .positives) x (h ∙ q) in inl (w .0, not-true _ (w .1)))
-    go none h q = inr (first-at M (r .negatives) x q)
+spoiler-positive M r x e = rw (e, spoiler)
 
--- a rule without one is valid
-pub unspoilt : (M : AtomSet) (r : Rule) → spoiler M r ≡ none → valid M r ≡ true
+pub spoiler-negative :
+    (M : AtomSet) (r : Rule) → first (λ y. not (M y)) (r .positives) ≡ none → spoiler M r ≡ first M (r .negatives)
 unfolding spoiler
-unspoilt M r e = go (first (λ p. not (M p)) (r .positives)) refl e
+spoiler-negative M r e = rw (e, spoiler)
+
+-- A spoiler spoils: a positive entry that is out, or a negative one that is in.
+pub spoils :
+    (M : AtomSet) (r : Rule) (x : ℕ) → spoiler M r ≡ some x
+    → ((x ∈ r .positives) × (M x ≡ false)) ⊎ ((x ∈ r .negatives) × (M x ≡ true))
+spoils M r x e = go (first (λ y. not (M y)) (r .positives)) refl
   where
-    go : (o : Option ℕ) → first
-        (λ p. not (M p)) (r .positives) ≡ o
-        → Path (Option ℕ) (elim o as (λ z. Option ℕ) [ some y ↦ some y | none ↦ first M (r .negatives) ]) none
-        → valid M r ≡ true
-    go (some y) h q = absurd (Option·none-ne-some y (sym q))
-    go none h q = valid-of M r (λ p m. not-false (M p) (first-none (λ p. not (M p)) (r .positives) h p m))
-        (λ n m. first-none M (r .negatives) q n m)
+    go : (o : Option ℕ) → first (λ y. not (M y)) (r .positives) ≡ o
+        → ((x ∈ r .positives) × (M x ≡ false)) ⊎ ((x ∈ r .negatives) × (M x ≡ true))
+    go (some y) h =
+        let q : some y ≡ some x = sym (spoiler-positive M r y h) ∙ e in
+        let w = first-at (λ y. not (M y)) (r .positives) x (h ∙ q) in
+        inl (w .0, not-true _ (w .1))
+    go none h = inr (first-at M (r .negatives) x (sym (spoiler-negative M r h) ∙ e))
+
+-- A rule has no spoiler if and only if it is valid.
+
+pub no-spoiler-valid : (M : AtomSet) (r : Rule) → spoiler M r ≡ none → valid M r ≡ true
+no-spoiler-valid M r e = go (first (λ y. not (M y)) (r .positives)) refl
+  where
+    go : (o : Option ℕ) → first (λ y. not (M y)) (r .positives) ≡ o → valid M r ≡ true
+    go (some y) h = absurd (Option·none-ne-some y (sym e ∙ spoiler-positive M r y h))
+    go none h = valid-of M r
+        (λ p m. not-false (M p) (first-none (λ y. not (M y)) (r .positives) h p m))
+        (λ n m. first-none M (r .negatives) (sym (spoiler-negative M r h) ∙ e) n m)
+
+pub valid-no-spoiler : (M : AtomSet) (r : Rule) → valid M r ≡ true → spoiler M r ≡ none
+valid-no-spoiler M r v = go (spoiler M r) refl
+  where
+    go : (o : Option ℕ) → spoiler M r ≡ o → spoiler M r ≡ none
+    go none e = e
+    go (some x) e = ⊎-elim
+        (λ (w : (x ∈ r .positives) × (M x ≡ false)). absurd (clash (valid-positive M r v x (w .0)) (w .1)))
+        (λ (w : (x ∈ r .negatives) × (M x ≡ true)). absurd (clash (w .1) (valid-negative M r v x (w .0))))
+        (spoils M r x e)
 
 -- a rule that is not valid has a spoiler
-pub spoilt-by : (M : AtomSet) (r : Rule) → valid M r ≡ false → (x : ℕ) × (spoiler M r ≡ some x)
-spoilt-by M r v = go (spoiler M r) refl
+pub spoiler-exists : (M : AtomSet) (r : Rule) → valid M r ≡ false → (x : ℕ) × (spoiler M r ≡ some x)
+spoiler-exists M r v = go (spoiler M r) refl
   where
     go : (o : Option ℕ) → spoiler M r ≡ o → (x : ℕ) × (spoiler M r ≡ some x)
-    go none e = absurd (clash (unspoilt M r e) v)
+    go none e = absurd (clash (no-spoiler-valid M r e) v)
     go (some x) e = (x, e)

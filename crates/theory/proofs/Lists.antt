@@ -6,10 +6,11 @@ use native.Mathlib.Decide.{decLe}
 use mathlib.Core.Path.{_≡_, refl, sym, _∙_, ap, ap₂, subst}
 use mathlib.Core.Logic.{_⊎_, inl, inr, ⊎-elim, _↔_}
 use mathlib.Core.Bool.{Bool, true, false, not, _&&_, _||_, true≢false}
-use mathlib.Core.List.{List, [], _∷_, List·Memᴰ, List·Memᴰ·head, List·Memᴰ·tail, List·Memᴰ·cases-cons, List·Memᴰ·not-nil}
+use mathlib.Core.List.{List, [], _∷_, List·Memᴰ, List·Memᴰ·head, List·Memᴰ·tail, List·Memᴰ·cases-cons}
+use mathlib.Core.List.{List·Memᴰ·not-nil}
 use lib.Dec.{T, eqb, leb, ltb, eqb→eq, eqb-refl, leb→le, ltb→lt, le→leb, lt→ltb}
 use lib.ListN.{length}
-use Rattle.theory.specs.Lists.{_∈_, every, any, distinct, agree}
+use Rattle.theory.specs.Lists.{_∈_, agree, any, every}
 
 -- Tests.
 

@@ -5,7 +5,8 @@ use native.Mathlib.Nat.{eq-or-lt-of-le}
 use mathlib.Core.Path.{_≡_, refl, sym, _∙_, ap, subst}
 use mathlib.Core.Logic.{_⊎_, inl, inr, ⊎-elim, ⊎-swap, _↔_}
 use mathlib.Core.Bool.{Bool, true, false, not, _&&_, _||_, true≢false}
-use mathlib.Core.List.{List, [], _∷_, List·Memᴰ, List·Memᴰ·head, List·Memᴰ·tail, List·Memᴰ·cases-cons, List·Memᴰ·not-nil}
+use mathlib.Core.List.{List, [], _∷_, List·Memᴰ, List·Memᴰ·head, List·Memᴰ·tail, List·Memᴰ·cases-cons}
+use mathlib.Core.List.{List·Memᴰ·not-nil}
 use mathlib.Core.Option.{Option, none, some, Option·none-ne-some}
 use lib.Dec.{eqb}
 use lib.ListN.{length, getD}
@@ -14,7 +15,8 @@ use Rattle.theory.specs.Rules.{Held, Program, Rule}
 use Rattle.theory.specs.Models.{Admissible, AtomSet, next, Ordered, start, valid}
 use Rattle.theory.specs.Derivations.{Derivation}
 use Rattle.theory.specs.Questions.{rules}
-use Rattle.theory.proofs.Lists.{and-l, and-of, and-r, clash, count, count-length, count-lt, eqb-eq, eqb-of, false-not, le-or-lt, not-true, or-false-l, or-false-r, test, unless}
+use Rattle.theory.proofs.Lists.{and-l, and-of, and-r, clash, count, count-length, count-lt, eqb-eq, eqb-of}
+use Rattle.theory.proofs.Lists.{false-not, le-or-lt, not-true, or-false-l, or-false-r, test, unless}
 use Rattle.theory.proofs.Rules.{rules-of, valid-negative, valid-of, valid-positive}
 use Rattle.theory.proofs.Strata.{Strata}
 use Rattle.theory.proofs.Fill.{Filled, inside, mark, meets, rise, with, with-keep, with-self}

@@ -3,15 +3,17 @@ use Prim.Native.Nat.{ℕ, zero, suc, _<_}
 use mathlib.Core.Path.{_≡_, refl, sym, _∙_, ap, subst}
 use mathlib.Core.Logic.{_⊎_, inl, inr, ⊎-elim}
 use mathlib.Core.Bool.{Bool, true, false, not, _&&_, true≢false}
-use mathlib.Core.List.{List, [], _∷_, _++_, List·Memᴰ, List·Memᴰ·head, List·Memᴰ·tail, List·Memᴰ·cases-cons, List·Memᴰ·not-nil}
+use mathlib.Core.List.{List, [], _∷_, _++_, List·Memᴰ, List·Memᴰ·head, List·Memᴰ·tail, List·Memᴰ·cases-cons}
+use mathlib.Core.List.{List·Memᴰ·not-nil}
 use mathlib.Core.Option.{Option, none, some, Option·some-injective, Option·none-ne-some}
 use lib.Dec.{eqb}
 use lib.ListN.{getD}
-use Rattle.theory.specs.Lists.{_∈_, every, any, agree}
-use Rattle.theory.specs.Rules.{Rule, Program, Held, passes, any-rule, entries, Occurs, same}
+use Rattle.theory.specs.Lists.{_∈_, agree, any, every}
+use Rattle.theory.specs.Rules.{any-rule, entries, Held, Occurs, passes, Program, Rule, same}
 use Rattle.theory.specs.Models.{AtomSet, valid}
 use Rattle.theory.specs.Questions.{rules}
-use Rattle.theory.proofs.Lists.{and-l, and-r, and-of, or-cases, or-l, or-r, not-true, false-not, every-at, every-of, eqb-eq, eqb-of, agree-eq, agree-refl, mem, mem-in, in-mem}
+use Rattle.theory.proofs.Lists.{agree-eq, agree-refl, and-l, and-of, and-r, eqb-eq, eqb-of, every-at}
+use Rattle.theory.proofs.Lists.{every-of, false-not, in-mem, mem, mem-in, not-true, or-cases, or-l, or-r}
 
 -- Some rule held passes.
 

@@ -8,13 +8,15 @@ use mathlib.Core.Bool.{Bool, true, false, _&&_}
 use mathlib.Core.List.{List, [], _∷_, List·Memᴰ, List·Memᴰ·cases-cons, List·Memᴰ·not-nil}
 use lib.ListN.{length}
 use Rattle.theory.specs.Lists.{_∈_, any}
-use Rattle.theory.specs.Rules.{Rule, Program, Held}
-use Rattle.theory.specs.Models.{AtomSet, valid, Ordered, start, next, Founded, Admissible}
-use Rattle.theory.specs.Dependencies.{Negatively, DependencyPath, here, positive, negative, NegativeCycle, Stratum}
+use Rattle.theory.specs.Rules.{Held, Program, Rule}
+use Rattle.theory.specs.Models.{Admissible, AtomSet, Founded, next, Ordered, start, valid}
+use Rattle.theory.specs.Dependencies.{DependencyPath, here, negative, NegativeCycle, Negatively, positive}
+use Rattle.theory.specs.Dependencies.{Stratum}
 use Rattle.theory.specs.Questions.{rules}
-use Rattle.theory.proofs.Lists.{and-l, and-r, and-of, unless, clash, test, same-test, le-or-lt, any-at, any-of, count, count-length, count-le, count-lt}
-use Rattle.theory.proofs.Rules.{rules-of, rules-at, valid-negative, valid-of}
-use Rattle.theory.proofs.Cycles.{paths, FirstNegative, first-negative, reach, reach-path, path-reach}
+use Rattle.theory.proofs.Lists.{and-l, and-of, and-r, any-at, any-of, clash, count, count-le, count-length}
+use Rattle.theory.proofs.Lists.{count-lt, le-or-lt, same-test, test, unless}
+use Rattle.theory.proofs.Rules.{rules-at, rules-of, valid-negative, valid-of}
+use Rattle.theory.proofs.Cycles.{first-negative, path-reach, paths, reach, reach-path}
 
 -- Strata: a number for each atom, such that no rule's entry lies above its head and each negative entry lies below
 -- it.

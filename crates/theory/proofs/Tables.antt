@@ -4,7 +4,8 @@ use native.Mathlib.Omega.{arith}
 use mathlib.Core.Path.{_≡_, refl, sym, _∙_, ap, ap₂, subst}
 use mathlib.Core.Logic.{_⊎_, inl, inr, ⊎-elim}
 use mathlib.Core.Bool.{Bool, true, false, not, _&&_, _||_, true≢false}
-use mathlib.Core.List.{List, [], _∷_, map, List·Memᴰ, List·Memᴰ·head, List·Memᴰ·tail, List·Memᴰ·cases-cons, List·Memᴰ·not-nil, Memᴰ·map}
+use mathlib.Core.List.{List, [], _∷_, map, List·Memᴰ, List·Memᴰ·head, List·Memᴰ·tail, List·Memᴰ·cases-cons}
+use mathlib.Core.List.{List·Memᴰ·not-nil, Memᴰ·map}
 use mathlib.Core.Option.{Option, none, some}
 use lib.Dec.{eqb, leb}
 use lib.ListN.{getD}
@@ -15,10 +16,12 @@ use Rattle.theory.specs.Labels.{absent, in-at, Label, Labelled, out}
 use Rattle.theory.specs.Questions.{first-no, lowest-free, reaches, rules, stratified}
 use Rattle.theory.specs.Book.{accepted, after, after-all, answer, Answer, answers, empty, refused, slot}
 use Rattle.theory.specs.Tables.{document, Each, Example, Line, Shows, tables}
-use Rattle.theory.proofs.Lists.{and-l, and-of, and-r, clash, eqb-eq, eqb-of, every-at, le-or-lt, leb-le, mem, mem-in, not-true, or-cases, test}
+use Rattle.theory.proofs.Lists.{and-l, and-of, and-r, clash, eqb-eq, eqb-of, every-at, le-or-lt, leb-le, mem}
+use Rattle.theory.proofs.Lists.{mem-in, not-true, or-cases, test}
 use Rattle.theory.proofs.Rules.{any-rule-of, occurs-at, occurs-test}
 use Rattle.theory.proofs.Depths.{greatest}
-use Rattle.theory.proofs.Certificate.{Certified, certified-admissible, certified-labels, kept-depth, kept-in, level}
+use Rattle.theory.proofs.Certificate.{Certified, certified-admissible, certified-labels, kept-depth, kept-in}
+use Rattle.theory.proofs.Certificate.{level}
 
 -- The label that the lines give an atom: absent if no line names it.
 lookup : List Line → ℕ → Label

@@ -6,8 +6,9 @@ use mathlib.Core.List.{List, [], _∷_}
 use Rattle.theory.specs.Rules.{Rule, Program, Held}
 use Rattle.theory.specs.Models.{AtomSet, valid}
 
--- A derivation of an atom, with its height (number of levels): a rule held, valid in M, with that head, and a derivation
--- of each of its positive entries. Its height is 1 more than the greatest height among those, of which none counts 0.
+-- A derivation of an atom, with its height (number of levels): a rule held, valid in M and with that head, together
+-- with a derivation of each of its positive entries. Its height is 1 if the positive list is empty, else 1 more than
+-- the greatest height among those derivations.
 mutual
   pub data Derivation (P : Program) (M : AtomSet) : ℕ → ℕ → Type 0 where
     by :

@@ -1,4 +1,4 @@
--- What a label rests on: support, affected atoms, repercussions; justifications, consequences, reasons. Assumes nothing.
+-- What a label rests on (support, affected, repercussions), justifications, consequences, reasons. Assumes nothing.
 use Prim.Native.Nat.{ℕ, _<_}
 use mathlib.Core.Path.{_≡_}
 use mathlib.Core.Bool.{true, false}

@@ -15,7 +15,7 @@ AtomSet = ℕ → Bool
 unfoldable pub valid : AtomSet → Rule → Bool
 valid M r = every M (r .positives) && every (λ x. not (M x)) (r .negatives)
 
--- An order of atoms, the latest first, in which each is the head of a valid rule whose positive entries all come earlier.
+-- An order of atoms, the latest first: each is the head of a valid rule whose positive entries all come earlier.
 pub data Ordered (P : Program) (M : AtomSet) : List ℕ → Type 0 where
   start : Ordered P M []
   next :

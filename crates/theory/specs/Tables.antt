@@ -71,7 +71,8 @@ tables =
     ∷ shows (from 1 2 ∷ from 2 1 ∷ []) (slots-from 0 2) (1 is out ∷ 2 is out ∷ [])
     -- T4, and with slot 2 removed
     ∷ shows (from 1 2 ∷ from 2 1 ∷ fact 2 ∷ []) (slots-from 0 3) (1 is in-at 2 0 ∷ 2 is in-at 1 2 ∷ [])
-    ∷ shows (from 1 2 ∷ from 2 1 ∷ fact 2 ∷ remove 2 ∷ []) (slots-from 0 3 ++ (accepted ∷ [])) (1 is out ∷ 2 is out ∷ [])
+    ∷ shows (from 1 2 ∷ from 2 1 ∷ fact 2 ∷ remove 2 ∷ [])
+    (slots-from 0 3 ++ (accepted ∷ [])) (1 is out ∷ 2 is out ∷ [])
     -- T5, and with a fact
     ∷ shows (unless 1 2 ∷ []) (slots-from 0 1) (1 is in-at 1 0 ∷ 2 is out ∷ [])
     ∷ shows (unless 1 2 ∷ fact 2 ∷ []) (slots-from 0 2) (1 is out ∷ 2 is in-at 1 1 ∷ [])
