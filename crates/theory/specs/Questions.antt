@@ -87,15 +87,11 @@ module _ (limits : Limits) where
   abbrev pub slot-questions : Program → ℕ → List Question
   slot-questions P s = asks 8 (ltb s (limits .slots)) ∷ asks 9 (is-some (getD P s none)) ∷ []
 
-  -- Label. 10: Is the atom number below 256?
-  abbrev pub label-questions : ℕ → List Question
-  label-questions a = asks 10 (ltb a (limits .atoms)) ∷ []
+  -- Label, justifications, consequences, repercussions. 10: Is the atom number below 256?
+  abbrev pub atom-questions : ℕ → List Question
+  atom-questions a = asks 10 (ltb a (limits .atoms)) ∷ []
 
-  -- Justifications, consequences, repercussions: 10, then 11: Is the lent buffer long enough?
-  abbrev pub list-questions : ℕ → ℕ → ℕ → List Question
-  list-questions a count room = asks 10 (ltb a (limits .atoms)) ∷ asks 11 (leb count room) ∷ []
-
-  -- Reason: 10, then 12: Is the atom in?  Then 11.
-  abbrev pub reason-questions : ℕ → Label → ℕ → ℕ → List Question
-  reason-questions a label count room =
-      asks 10 (ltb a (limits .atoms)) ∷ asks 12 (is-in-label label) ∷ asks 11 (leb count room) ∷ []
+  -- Reason: 10, then 12: Is the atom in?  (11, whether the lent buffer is long enough, is asked of what is to be
+  -- written, after these: see the calls' contracts.)
+  abbrev pub reason-questions : ℕ → Label → List Question
+  reason-questions a label = asks 10 (ltb a (limits .atoms)) ∷ asks 12 (is-in-label label) ∷ []
