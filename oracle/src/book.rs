@@ -1,0 +1,87 @@
+//! The plain book: pages of rules, fed the calls' arguments as they came.
+//!
+//! It asks its questions in its own words and shares with the calls only what a rule and a
+//! loop through a negation are, so that a list of calls can be held against it.
+
+use crate::limits::{ATOMS, ENTRIES, SLOTS};
+use crate::loops::has_loop_through_negation;
+use crate::rules::{Program, Rule};
+
+#[derive(Clone, PartialEq, Eq, Debug)]
+pub struct Book {
+    pages: Program,
+}
+
+/// A question with its number: the answer "no" refuses.
+type Question = (u32, fn(&Book, &Rule) -> bool);
+
+/// What an addition asks, in order.
+const ADDITION: [Question; 7] = [
+    (1, |_, rule| rule.head < ATOMS as u32),
+    (2, |_, rule| rule.entries().count() <= ENTRIES),
+    (3, |_, rule| {
+        rule.entries().all(|entry| entry < ATOMS as u32)
+    }),
+    (4, |_, rule| {
+        each_once(&rule.positives) && each_once(&rule.negatives)
+    }),
+    (5, |book, rule| !book.pages.contains(&Some(rule.clone()))),
+    (6, |book, _| book.pages.contains(&None)),
+    (7, |book, rule| !has_loop_through_negation(&book.with(rule))),
+];
+
+fn each_once(list: &[u32]) -> bool {
+    let mut sorted = list.to_vec();
+    sorted.sort_unstable();
+    sorted.windows(2).all(|pair| pair[0] != pair[1])
+}
+
+impl Book {
+    /// The book with every page free.
+    pub fn empty() -> Book {
+        Book {
+            pages: vec![None; SLOTS],
+        }
+    }
+
+    /// What each page holds.
+    pub fn pages(&self) -> &Program {
+        &self.pages
+    }
+
+    /// The pages and the rule besides, wherever it would go.
+    fn with(&self, rule: &Rule) -> Program {
+        let mut pages = self.pages.clone();
+        pages.push(Some(rule.clone()));
+        pages
+    }
+
+    /// Puts the rule on the lowest free page and answers the page's number, or answers the
+    /// number of the first "no" and stays.
+    pub fn add(&mut self, head: u32, positives: &[u32], negatives: &[u32]) -> Result<u32, u32> {
+        let rule = Rule {
+            head,
+            positives: positives.to_vec(),
+            negatives: negatives.to_vec(),
+        };
+        if let Some((number, _)) = ADDITION.iter().find(|(_, passes)| !passes(self, &rule)) {
+            return Err(*number);
+        }
+        let page = self.pages.iter().take_while(|page| page.is_some()).count();
+        self.pages[page] = Some(rule);
+        Ok(page as u32)
+    }
+
+    /// Frees the page and answers that it was accepted, or answers the number of the first
+    /// "no" and stays.
+    pub fn remove(&mut self, slot: u32) -> Result<(), u32> {
+        match self.pages.get_mut(slot as usize) {
+            None => Err(8),
+            Some(None) => Err(9),
+            Some(page) => {
+                *page = None;
+                Ok(())
+            }
+        }
+    }
+}

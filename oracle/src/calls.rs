@@ -1,0 +1,184 @@
+//! The calls over a raw table. A refused call leaves the table and the lent buffer as they are.
+
+use crate::labels::{Label, Labelled};
+use crate::limits::{ATOMS, SLOTS};
+use crate::loops::has_loop_through_negation;
+use crate::questions::{rule_from, Refusal};
+use crate::relations;
+use crate::rules::{held, Rule};
+use crate::sound::sound_content;
+use crate::table::RawTable;
+
+/// What the spoiler call answers for a held rule.
+#[derive(Clone, Copy, PartialEq, Eq, Debug)]
+pub enum Spoiler {
+    Valid,
+    Atom(u32),
+}
+
+/// Question 15.
+fn ask_sound(table: &RawTable) -> Result<Labelled, Refusal> {
+    sound_content(table).ok_or(Refusal::TableUnsound)
+}
+
+/// Questions 8 and 9.
+fn ask_held(labelled: &Labelled, slot: u32) -> Result<&Rule, Refusal> {
+    let slot_holds = labelled
+        .program
+        .get(slot as usize)
+        .ok_or(Refusal::SlotTooLarge)?;
+    slot_holds.as_ref().ok_or(Refusal::SlotFree)
+}
+
+/// Questions 15 and 10.
+fn ask_atom(table: &RawTable, atom: u32) -> Result<Labelled, Refusal> {
+    let labelled = ask_sound(table)?;
+    if atom as usize >= ATOMS {
+        return Err(Refusal::AtomTooLarge);
+    }
+    Ok(labelled)
+}
+
+/// Question 11; then the list is written from the start of the buffer and its count answered.
+fn lend(list: &[u32], buffer: &mut [u32]) -> Result<u32, Refusal> {
+    let count = list.len() as u32;
+    let room = buffer
+        .get_mut(..list.len())
+        .ok_or(Refusal::BufferTooShort { needed: count })?;
+    room.copy_from_slice(list);
+    Ok(count)
+}
+
+/// Adds the rule in the lowest free slot and answers that slot.
+pub fn add(
+    table: &mut RawTable,
+    head: u32,
+    positives: &[u32],
+    negatives: &[u32],
+) -> Result<u32, Refusal> {
+    let mut program = ask_sound(table)?.program;
+    let rule = rule_from(head, positives, negatives)?;
+    if held(&program).any(|(_, other)| *other == rule) {
+        return Err(Refusal::SameRule);
+    }
+    let slot = (0..SLOTS)
+        .find(|&slot| program[slot].is_none())
+        .ok_or(Refusal::NoFreeSlot)?;
+    program[slot] = Some(rule);
+    if has_loop_through_negation(&program) {
+        return Err(Refusal::LoopThroughNegation);
+    }
+    *table = RawTable::keeping(&Labelled::of(program));
+    Ok(slot as u32)
+}
+
+/// Frees the slot.
+pub fn remove(table: &mut RawTable, slot: u32) -> Result<(), Refusal> {
+    let labelled = ask_sound(table)?;
+    ask_held(&labelled, slot)?;
+    let mut program = labelled.program;
+    program[slot as usize] = None;
+    *table = RawTable::keeping(&Labelled::of(program));
+    Ok(())
+}
+
+pub fn label(table: &RawTable, atom: u32) -> Result<Label, Refusal> {
+    Ok(ask_atom(table, atom)?.label(atom))
+}
+
+pub fn spoiler(table: &RawTable, slot: u32) -> Result<Spoiler, Refusal> {
+    let labelled = ask_sound(table)?;
+    let rule = ask_held(&labelled, slot)?;
+    Ok(relations::spoiler(&labelled, rule).map_or(Spoiler::Valid, Spoiler::Atom))
+}
+
+pub fn justifications(table: &RawTable, atom: u32, buffer: &mut [u32]) -> Result<u32, Refusal> {
+    lend(
+        &relations::justifications(&ask_atom(table, atom)?, atom),
+        buffer,
+    )
+}
+
+pub fn consequences(table: &RawTable, atom: u32, buffer: &mut [u32]) -> Result<u32, Refusal> {
+    lend(
+        &relations::consequences(&ask_atom(table, atom)?, atom),
+        buffer,
+    )
+}
+
+pub fn repercussions(table: &RawTable, atom: u32, buffer: &mut [u32]) -> Result<u32, Refusal> {
+    lend(
+        &relations::repercussions(&ask_atom(table, atom)?, atom),
+        buffer,
+    )
+}
+
+/// The reason's slots; question 12 comes before 11.
+pub fn reason(table: &RawTable, atom: u32, buffer: &mut [u32]) -> Result<u32, Refusal> {
+    let labelled = ask_atom(table, atom)?;
+    let slots = relations::reason(&labelled, atom).ok_or(Refusal::AtomNotIn)?;
+    lend(&slots, buffer)
+}
+
+/// Any call with its arguments, for lists of calls.
+#[derive(Clone, PartialEq, Eq, Debug)]
+pub enum Call {
+    Add {
+        head: u32,
+        positives: Vec<u32>,
+        negatives: Vec<u32>,
+    },
+    Remove {
+        slot: u32,
+    },
+    Label {
+        atom: u32,
+    },
+    Spoiler {
+        slot: u32,
+    },
+    Justifications {
+        atom: u32,
+    },
+    Consequences {
+        atom: u32,
+    },
+    Repercussions {
+        atom: u32,
+    },
+    Reason {
+        atom: u32,
+    },
+}
+
+/// What an accepted call answers.
+#[derive(Clone, Copy, PartialEq, Eq, Debug)]
+pub enum Answer {
+    Slot(u32),
+    Accepted,
+    Label(Label),
+    Spoiler(Spoiler),
+    Count(u32),
+}
+
+impl Call {
+    /// Makes the call; those that lend no buffer leave it alone.
+    pub fn make(&self, table: &mut RawTable, buffer: &mut [u32]) -> Result<Answer, Refusal> {
+        match self {
+            Call::Add {
+                head,
+                positives,
+                negatives,
+            } => add(table, *head, positives, negatives).map(Answer::Slot),
+            Call::Remove { slot } => remove(table, *slot).map(|()| Answer::Accepted),
+            Call::Label { atom } => label(table, *atom).map(Answer::Label),
+            Call::Spoiler { slot } => spoiler(table, *slot).map(Answer::Spoiler),
+            Call::Justifications { atom } => {
+                justifications(table, *atom, buffer).map(Answer::Count)
+            }
+            Call::Consequences { atom } => consequences(table, *atom, buffer).map(Answer::Count),
+            Call::Repercussions { atom } => repercussions(table, *atom, buffer).map(Answer::Count),
+            Call::Reason { atom } => reason(table, *atom, buffer).map(Answer::Count),
+        }
+    }
+}

@@ -1,0 +1,93 @@
+//! What one line of a sheet says.
+
+use crate::limits::LINE_BYTES;
+
+#[derive(Clone, PartialEq, Eq, Debug)]
+pub enum Line {
+    /// Prints nothing.
+    Blank,
+    /// Question 14 is answered "no".
+    TooLong,
+    /// Question 13 is answered "no".
+    Formless,
+    Command(Command),
+}
+
+#[derive(Clone, PartialEq, Eq, Debug)]
+pub enum Command {
+    Add {
+        head: u32,
+        positives: Vec<u32>,
+        negatives: Vec<u32>,
+    },
+    Remove {
+        slot: u32,
+    },
+    Why {
+        atom: u32,
+    },
+    Labels,
+}
+
+/// Reads a line without its newline. Over-long lines of spaces are not blank, so length is
+/// asked first and blankness only of what is short enough.
+pub fn read_line(line: &[u8]) -> Line {
+    if line.len() > LINE_BYTES {
+        return Line::TooLong;
+    }
+    let tokens: Vec<&[u8]> = line
+        .split(|&byte| byte == b' ')
+        .filter(|token| !token.is_empty())
+        .collect();
+    if tokens.is_empty() {
+        return Line::Blank;
+    }
+    read_command(&tokens).map_or(Line::Formless, Line::Command)
+}
+
+fn read_command(tokens: &[&[u8]]) -> Option<Command> {
+    match tokens {
+        [b"A", head, b":", lists @ ..] => read_addition(head, lists),
+        [b"R", slot] => Some(Command::Remove {
+            slot: read_number(slot)?,
+        }),
+        [b"W", atom] => Some(Command::Why {
+            atom: read_number(atom)?,
+        }),
+        [b"L"] => Some(Command::Labels),
+        _ => None,
+    }
+}
+
+/// The positives stand before the first `!`, the negatives after it. A second `!` or `:` is
+/// no number, so it spoils the form.
+fn read_addition(head: &[u8], lists: &[&[u8]]) -> Option<Command> {
+    let mark = lists.iter().position(|token| *token == b"!");
+    let (positives, negatives) = match mark {
+        Some(place) => (&lists[..place], &lists[place + 1..]),
+        None => (lists, &[][..]),
+    };
+    Some(Command::Add {
+        head: read_number(head)?,
+        positives: read_numbers(positives)?,
+        negatives: read_numbers(negatives)?,
+    })
+}
+
+fn read_numbers(tokens: &[&[u8]]) -> Option<Vec<u32>> {
+    tokens.iter().map(|token| read_number(token)).collect()
+}
+
+/// A number has 1 to 5 decimal digits and no needless leading zero.
+fn read_number(token: &[u8]) -> Option<u32> {
+    let needless_zero = token.len() > 1 && token[0] == b'0';
+    let digits_only = token.iter().all(u8::is_ascii_digit);
+    if token.is_empty() || token.len() > 5 || needless_zero || !digits_only {
+        return None;
+    }
+    Some(
+        token
+            .iter()
+            .fold(0, |number, digit| number * 10 + u32::from(digit - b'0')),
+    )
+}

@@ -1,0 +1,80 @@
+//! Tables damaged in exactly one field. Most are unsound, not all: soundness decides.
+
+use crate::limits::{ATOMS, ENTRIES, SLOTS};
+use crate::random::Random;
+use crate::table::RawTable;
+
+/// A field of a rule or of a label.
+#[derive(Clone, Copy, PartialEq, Eq, Debug)]
+pub enum Field {
+    RuleState,
+    Head,
+    Positives,
+    Negatives,
+    Entry,
+    LabelState,
+    Depth,
+    SupportingSlot,
+}
+
+pub const FIELDS: [Field; 8] = [
+    Field::RuleState,
+    Field::Head,
+    Field::Positives,
+    Field::Negatives,
+    Field::Entry,
+    Field::LabelState,
+    Field::Depth,
+    Field::SupportingSlot,
+];
+
+/// The table with one field of that kind changed, in a random slot or for a random atom.
+pub fn damaged(random: &mut Random, table: &RawTable, field: Field) -> RawTable {
+    let mut table = table.clone();
+    let slot = random.below(SLOTS);
+    let atom = random.below(ATOMS);
+    let place = random.below(ENTRIES);
+    let (rule, label) = (&mut table.rules[slot], &mut table.labels[atom]);
+    match field {
+        Field::RuleState => rule.state = other_small(random, rule.state),
+        Field::Head => rule.head = other(random, rule.head),
+        Field::Positives => rule.positives = other_small(random, rule.positives),
+        Field::Negatives => rule.negatives = other_small(random, rule.negatives),
+        Field::Entry => rule.entries[place] = other(random, rule.entries[place]),
+        Field::LabelState => label.state = other_small(random, label.state),
+        Field::Depth => label.depth = other(random, label.depth),
+        Field::SupportingSlot => label.slot = other(random, label.slot),
+    }
+    table
+}
+
+/// A number that differs from the one that stood: a neighbour, a limit, or any.
+fn other(random: &mut Random, stood: u16) -> u16 {
+    let number = match random.below(5) {
+        0 => stood.wrapping_add(1),
+        1 => stood.wrapping_sub(1),
+        2 => *random.pick(&[0, 1, 255, 256, 257, 65_535]),
+        3 => random.below(ATOMS) as u16,
+        _ => random.word() as u16,
+    };
+    if number == stood {
+        stood.wrapping_add(1)
+    } else {
+        number
+    }
+}
+
+/// As `other`, for a field of one byte.
+fn other_small(random: &mut Random, stood: u8) -> u8 {
+    let number = match random.below(4) {
+        0 => stood.wrapping_add(1),
+        1 => stood.wrapping_sub(1),
+        2 => *random.pick(&[0, 1, 2, 3, 8, 9, 128, 255]),
+        _ => random.word() as u8,
+    };
+    if number == stood {
+        stood.wrapping_add(1)
+    } else {
+        number
+    }
+}

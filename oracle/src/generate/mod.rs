@@ -1,0 +1,44 @@
+//! Seeded generators of what engines are compared on.
+
+pub mod calls;
+pub mod damage;
+pub mod edges;
+pub mod faults;
+pub mod lines;
+pub mod programs;
+pub mod sheets;
+
+use crate::labels::Labelled;
+use crate::random::Random;
+use crate::rules::Program;
+use crate::table::RawTable;
+
+/// The sound table of a program without a loop through a negation.
+pub fn table_of(program: Program) -> RawTable {
+    RawTable::keeping(&Labelled::of(program))
+}
+
+/// A sound table of a random flavour, one time in eight an edge table.
+pub fn sound_table(random: &mut Random) -> RawTable {
+    if random.below(8) == 0 {
+        return table_of(random.pick(&edges::programs()).clone());
+    }
+    let flavour = *random.pick(&programs::FLAVOURS);
+    table_of(programs::program(random, flavour))
+}
+
+/// A table for the question of soundness: sound, damaged in one field, or with a fault.
+pub fn mixed_table(random: &mut Random) -> RawTable {
+    match random.below(10) {
+        0..=3 => sound_table(random),
+        4..=7 => {
+            let field = *random.pick(&damage::FIELDS);
+            let table = sound_table(random);
+            damage::damaged(random, &table, field)
+        }
+        _ => {
+            let fault = *random.pick(&faults::FAULTS);
+            faults::faulty(random, fault)
+        }
+    }
+}

@@ -1,0 +1,16 @@
+//! The limits of document 01, in one place.
+
+/// How many slots a table has; slot numbers are below it.
+pub const SLOTS: usize = 256;
+
+/// How many atoms there are; atom numbers are below it.
+pub const ATOMS: usize = 256;
+
+/// How many entries both lists of a rule have together at most.
+pub const ENTRIES: usize = 8;
+
+/// How many bytes a line of a sheet has at most, its newline not counted.
+pub const LINE_BYTES: usize = 120;
+
+/// How many bytes of its input a program reads at most.
+pub const INPUT_BYTES: usize = 1_048_576;

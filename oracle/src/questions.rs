@@ -1,0 +1,75 @@
+//! The questions that calls ask, and the refusals that follow a "no".
+
+use crate::limits::{ATOMS, ENTRIES};
+use crate::rules::Rule;
+
+/// Which question was answered "no"; 11 also carries the length needed.
+#[derive(Clone, Copy, PartialEq, Eq, Debug)]
+pub enum Refusal {
+    HeadTooLarge,
+    TooManyEntries,
+    EntryTooLarge,
+    RepeatedAtom,
+    SameRule,
+    NoFreeSlot,
+    LoopThroughNegation,
+    SlotTooLarge,
+    SlotFree,
+    AtomTooLarge,
+    BufferTooShort { needed: u32 },
+    AtomNotIn,
+    TableUnsound,
+}
+
+impl Refusal {
+    /// The number of the question in document 01.
+    pub fn number(self) -> u32 {
+        match self {
+            Refusal::HeadTooLarge => 1,
+            Refusal::TooManyEntries => 2,
+            Refusal::EntryTooLarge => 3,
+            Refusal::RepeatedAtom => 4,
+            Refusal::SameRule => 5,
+            Refusal::NoFreeSlot => 6,
+            Refusal::LoopThroughNegation => 7,
+            Refusal::SlotTooLarge => 8,
+            Refusal::SlotFree => 9,
+            Refusal::AtomTooLarge => 10,
+            Refusal::BufferTooShort { .. } => 11,
+            Refusal::AtomNotIn => 12,
+            Refusal::TableUnsound => 15,
+        }
+    }
+}
+
+/// Questions 1 to 4 of a head and two lists: the rule they make, or the first refusal.
+pub fn rule_from(head: u32, positives: &[u32], negatives: &[u32]) -> Result<Rule, Refusal> {
+    let too_large = |atom: u32| atom as usize >= ATOMS;
+    if too_large(head) {
+        return Err(Refusal::HeadTooLarge);
+    }
+    if positives.len() + negatives.len() > ENTRIES {
+        return Err(Refusal::TooManyEntries);
+    }
+    if positives
+        .iter()
+        .chain(negatives)
+        .any(|&entry| too_large(entry))
+    {
+        return Err(Refusal::EntryTooLarge);
+    }
+    if has_repeat(positives) || has_repeat(negatives) {
+        return Err(Refusal::RepeatedAtom);
+    }
+    Ok(Rule {
+        head,
+        positives: positives.to_vec(),
+        negatives: negatives.to_vec(),
+    })
+}
+
+fn has_repeat(list: &[u32]) -> bool {
+    list.iter()
+        .enumerate()
+        .any(|(place, atom)| list[..place].contains(atom))
+}

@@ -1,0 +1,98 @@
+//! What stands in relation to an atom: spoilers, supports, repercussions, justifications,
+//! consequences and reasons.
+
+use crate::atoms::AtomSet;
+use crate::labels::{Label, Labelled};
+use crate::limits::ATOMS;
+use crate::rules::{held, Rule};
+
+/// The first spoiling entry, the positive list read first: a positive entry spoils if it is
+/// not in, a negative one if it is. `None` for a valid rule.
+pub fn spoiler(labelled: &Labelled, rule: &Rule) -> Option<u32> {
+    let positive = rule.positives.iter().find(|&&atom| !labelled.is_in(atom));
+    positive
+        .or_else(|| rule.negatives.iter().find(|&&atom| labelled.is_in(atom)))
+        .copied()
+}
+
+/// All entries of the supporting rule of an in atom; the spoilers of the rules of an out
+/// atom; nothing for an absent one.
+pub fn support(labelled: &Labelled, atom: u32) -> AtomSet {
+    let rules_of_atom = held(&labelled.program).filter(|(_, rule)| rule.head == atom);
+    match labelled.label(atom) {
+        Label::Absent => AtomSet::empty(),
+        Label::In { slot, .. } => rules_of_atom
+            .filter(|&(place, _)| place == slot)
+            .flat_map(|(_, rule)| rule.entries())
+            .collect(),
+        Label::Out => rules_of_atom
+            .filter_map(|(_, rule)| spoiler(labelled, rule))
+            .collect(),
+    }
+}
+
+/// The atoms affected by each atom, by atom number: those that have it in their support.
+fn affected(labelled: &Labelled) -> Vec<Vec<u32>> {
+    let mut affected = vec![Vec::new(); ATOMS];
+    for (atom, _) in labelled.occurring() {
+        for supporter in support(labelled, atom).ascending() {
+            affected[supporter as usize].push(atom);
+        }
+    }
+    affected
+}
+
+/// All atoms reached from the atom by one or more steps to an affected one, ascending.
+pub fn repercussions(labelled: &Labelled, atom: u32) -> Vec<u32> {
+    let affected = affected(labelled);
+    let mut reached = AtomSet::empty();
+    let mut open = vec![atom];
+    while let Some(from) = open.pop() {
+        for &next in &affected[from as usize] {
+            if reached.insert(next) {
+                open.push(next);
+            }
+        }
+    }
+    reached.ascending().collect()
+}
+
+/// The slots of the rules with that head, ascending.
+pub fn justifications(labelled: &Labelled, atom: u32) -> Vec<u32> {
+    held(&labelled.program)
+        .filter(|(_, rule)| rule.head == atom)
+        .map(|(slot, _)| slot)
+        .collect()
+}
+
+/// The heads of the rules with the atom as an entry, ascending, without repeats.
+pub fn consequences(labelled: &Labelled, atom: u32) -> Vec<u32> {
+    let mentions = |rule: &Rule| rule.entries().any(|entry| entry == atom);
+    let heads: AtomSet = held(&labelled.program)
+        .filter(|(_, rule)| mentions(rule))
+        .map(|(_, rule)| rule.head)
+        .collect();
+    heads.ascending().collect()
+}
+
+/// The supporting slots of all atoms reached from the atom by going to the positive entries
+/// of supporting rules, by depth and then by atom number; `None` if the atom is not in.
+pub fn reason(labelled: &Labelled, atom: u32) -> Option<Vec<u32>> {
+    let mut reached = AtomSet::empty();
+    let mut open = vec![atom];
+    let mut found: Vec<(u32, u32, u32)> = Vec::new();
+    while let Some(next) = open.pop() {
+        let Label::In { depth, slot } = labelled.label(next) else {
+            return None;
+        };
+        if reached.insert(next) {
+            found.push((depth, next, slot));
+            let supporting = labelled.program[slot as usize]
+                .as_ref()
+                .expect("a supporting slot holds a rule");
+            open.extend(&supporting.positives);
+        }
+    }
+    found.sort_unstable();
+    Some(found.into_iter().map(|(_, _, slot)| slot).collect())
+}

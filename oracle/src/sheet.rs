@@ -1,0 +1,118 @@
+//! The sheet program: bytes in, bytes out.
+//!
+//! It keeps the plain book and labels its pages by the definitions. Question 15 is not asked:
+//! the book starts from the empty table and each line leaves a sound one.
+
+use crate::book::Book;
+use crate::command::{read_line, Command, Line};
+use crate::labels::{Label, Labelled};
+use crate::limits::{ATOMS, INPUT_BYTES};
+use crate::relations::reason;
+
+/// A sheet under way: the book, and what has been printed.
+struct Sheet {
+    book: Book,
+    /// The labels of the book's pages, once asked for since the last change.
+    labelled: Option<Labelled>,
+    printed: String,
+}
+
+/// The whole of what the sheet program prints for this input.
+pub fn run(input: &[u8]) -> Vec<u8> {
+    let mut sheet = Sheet {
+        book: Book::empty(),
+        labelled: None,
+        printed: String::new(),
+    };
+    for (line, number) in lines(input).into_iter().zip(1..) {
+        if let Err(refusal) = sheet.obey(read_line(line)) {
+            sheet.print(&format!("line {number} refused {refusal}"));
+        }
+    }
+    sheet.printed.into_bytes()
+}
+
+/// The lines without their newlines. What follows the last newline is a line only if it has
+/// bytes. Bytes past the limit are not there.
+fn lines(input: &[u8]) -> Vec<&[u8]> {
+    let read = &input[..input.len().min(INPUT_BYTES)];
+    let mut lines: Vec<&[u8]> = read.split(|&byte| byte == b'\n').collect();
+    if lines.last().is_some_and(|last| last.is_empty()) {
+        lines.pop();
+    }
+    lines
+}
+
+/// A label as a line of `L` shows it.
+pub fn shown(atom: u32, label: Label) -> String {
+    match label {
+        Label::Absent => format!("{atom} absent"),
+        Label::Out => format!("{atom} out"),
+        Label::In { depth, slot } => format!("{atom} in {depth} {slot}"),
+    }
+}
+
+impl Sheet {
+    fn print(&mut self, line: &str) {
+        self.printed.push_str(line);
+        self.printed.push('\n');
+    }
+
+    /// Does what the line says, or gives the number of its refusal.
+    fn obey(&mut self, line: Line) -> Result<(), u32> {
+        match line {
+            Line::Blank => Ok(()),
+            Line::TooLong => Err(14),
+            Line::Formless => Err(13),
+            Line::Command(Command::Add {
+                head,
+                positives,
+                negatives,
+            }) => self.add(head, &positives, &negatives),
+            Line::Command(Command::Remove { slot }) => self.remove(slot),
+            Line::Command(Command::Why { atom }) => self.why(atom),
+            Line::Command(Command::Labels) => {
+                self.print_labels();
+                Ok(())
+            }
+        }
+    }
+
+    fn add(&mut self, head: u32, positives: &[u32], negatives: &[u32]) -> Result<(), u32> {
+        let slot = self.book.add(head, positives, negatives)?;
+        self.labelled = None;
+        self.print(&format!("slot {slot}"));
+        Ok(())
+    }
+
+    fn remove(&mut self, slot: u32) -> Result<(), u32> {
+        self.book.remove(slot)?;
+        self.labelled = None;
+        self.print(&format!("removed {slot}"));
+        Ok(())
+    }
+
+    fn labelled(&mut self) -> &Labelled {
+        let Sheet { book, labelled, .. } = self;
+        labelled.get_or_insert_with(|| Labelled::of(book.pages().clone()))
+    }
+
+    fn why(&mut self, atom: u32) -> Result<(), u32> {
+        if atom as usize >= ATOMS {
+            return Err(10);
+        }
+        let slots = reason(self.labelled(), atom).ok_or(12u32)?;
+        let fields: String = slots.iter().map(|slot| format!(" {slot}")).collect();
+        self.print(&format!("why{fields}"));
+        Ok(())
+    }
+
+    fn print_labels(&mut self) {
+        let lines: Vec<String> = self
+            .labelled()
+            .occurring()
+            .map(|(atom, label)| shown(atom, label))
+            .collect();
+        lines.iter().for_each(|line| self.print(line));
+    }
+}

@@ -1,0 +1,70 @@
+//! Question 15: is a raw table sound?
+
+use crate::labels::Labelled;
+use crate::limits::ENTRIES;
+use crate::loops::has_loop_through_negation;
+use crate::questions::rule_from;
+use crate::rules::{held, Program, Rule};
+use crate::table::{RawLabel, RawRule, RawTable, FREE, HELD};
+use std::collections::HashSet;
+
+/// A slot that no sound table has.
+struct Wrong;
+
+/// What a slot holds: `Ok(None)` for a free one that stands as in the empty table, `Ok` with
+/// the rule for a held one that passes 1 to 4 with its filler as in the empty table.
+fn slot_content(raw: &RawRule) -> Result<Option<Rule>, Wrong> {
+    match raw.state {
+        FREE if *raw == RawRule::EMPTY => Ok(None),
+        HELD => held_rule(raw).map(Some).ok_or(Wrong),
+        _ => Err(Wrong),
+    }
+}
+
+fn held_rule(raw: &RawRule) -> Option<Rule> {
+    let positives = raw.positives as usize;
+    let used = positives + raw.negatives as usize;
+    if used > ENTRIES {
+        return None;
+    }
+    let (listed, filler) = raw.entries.split_at(used);
+    if filler != &RawRule::EMPTY.entries[used..] {
+        return None;
+    }
+    let entries: Vec<u32> = listed.iter().map(|&entry| entry.into()).collect();
+    rule_from(
+        raw.head.into(),
+        &entries[..positives],
+        &entries[positives..],
+    )
+    .ok()
+}
+
+fn no_two_same(program: &[Option<Rule>]) -> bool {
+    let mut earlier = HashSet::new();
+    held(program).all(|(_, rule)| earlier.insert(rule))
+}
+
+/// The program that the table holds, if all that soundness asks of the rules is so: each
+/// passes 1 to 4, no two are the same, and there is no loop through a negation.
+pub fn sound_rules(table: &RawTable) -> Option<Program> {
+    let slots: Result<Program, Wrong> = table.rules.iter().map(slot_content).collect();
+    let program = slots.ok()?;
+    (no_two_same(&program) && !has_loop_through_negation(&program)).then_some(program)
+}
+
+/// The program and its labels, if the table is sound: the rules are, and each atom's label,
+/// depth and supporting slot is kept as defined, with nothing kept for an atom not in.
+pub fn sound_content(table: &RawTable) -> Option<Labelled> {
+    let labelled = Labelled::of(sound_rules(table)?);
+    let as_defined = labelled
+        .labels
+        .iter()
+        .map(|&label| RawLabel::keeping(label))
+        .eq(table.labels.iter().copied());
+    as_defined.then_some(labelled)
+}
+
+pub fn sound(table: &RawTable) -> bool {
+    sound_content(table).is_some()
+}

@@ -1,0 +1,129 @@
+//! Admissible models: every subset tried, against the definitions and the large-table path.
+
+use crate::notation::program;
+use oracle::alternation::model;
+use oracle::atoms::AtomSet;
+use oracle::generate::edges;
+use oracle::generate::programs::{program as of_flavour, small, unlayered, FLAVOURS};
+use oracle::loops::has_loop_through_negation;
+use oracle::model::{admissible, admissible_models, founded};
+use oracle::random::Random;
+use oracle::rules::{held, Rule};
+
+fn set(atoms: &[u32]) -> AtomSet {
+    atoms.iter().copied().collect()
+}
+
+/// Founded word for word: some order among all orders of M does it.
+fn some_order_founds(program: &[Option<Rule>], earlier: &[u32], rest: &[u32]) -> bool {
+    let m: AtomSet = earlier.iter().chain(rest).copied().collect();
+    rest.is_empty()
+        || rest.iter().any(|&next| {
+            let supports = |rule: &Rule| {
+                rule.head == next
+                    && rule.valid_in(&m)
+                    && rule.positives.iter().all(|entry| earlier.contains(entry))
+            };
+            let others: Vec<u32> = rest.iter().copied().filter(|&atom| atom != next).collect();
+            held(program).any(|(_, rule)| supports(rule))
+                && some_order_founds(program, &[earlier, &[next]].concat(), &others)
+        })
+}
+
+#[test]
+fn founded_is_that_some_order_exists() {
+    let mut random = Random::seeded(11);
+    let mut seen = [0, 0];
+    for _ in 0..400 {
+        let program = unlayered(&mut random, 5, 7);
+        for chosen in 0..32u32 {
+            let atoms: Vec<u32> = (0..5).filter(|atom| chosen >> atom & 1 == 1).collect();
+            let found = founded(&program, &set(&atoms));
+            assert_eq!(
+                found,
+                some_order_founds(&program, &[], &atoms),
+                "{atoms:?} in {program:?}"
+            );
+            seen[usize::from(found)] += 1;
+        }
+    }
+    assert!(
+        seen.iter().all(|&count| count > 500),
+        "both answers occur: {seen:?}"
+    );
+}
+
+#[test]
+fn without_a_loop_through_a_negation_exactly_one_model_is_admissible() {
+    let mut random = Random::seeded(12);
+    for _ in 0..3_000 {
+        let program = small(&mut random, 8, 12, 16);
+        assert!(
+            !has_loop_through_negation(&program),
+            "layers let no loop in: {program:?}"
+        );
+        assert_eq!(
+            Some(admissible_models(&program)),
+            model(&program).map(|m| vec![m]),
+            "{program:?}"
+        );
+    }
+}
+
+#[test]
+fn on_large_tables_the_two_sides_meet_in_an_admissible_model() {
+    let mut random = Random::seeded(14);
+    let generated = (0..180).map(|round| of_flavour(&mut random, FLAVOURS[round % FLAVOURS.len()]));
+    for program in generated.chain(edges::programs()) {
+        let m = model(&program).expect("no loop through a negation");
+        assert!(admissible(&program, &m), "{program:?}");
+    }
+}
+
+#[test]
+fn with_loops_there_are_none_one_or_several_and_the_two_sides_meet_only_in_the_only_one() {
+    let mut random = Random::seeded(13);
+    let mut counts = [0; 3];
+    let mut met = 0;
+    for _ in 0..4_000 {
+        let program = unlayered(&mut random, 6, 8);
+        let models = admissible_models(&program);
+        if let Some(m) = model(&program) {
+            assert_eq!(models, [m], "{program:?}");
+            met += 1;
+        } else {
+            assert!(has_loop_through_negation(&program), "{program:?}");
+        }
+        if has_loop_through_negation(&program) {
+            counts[models.len().min(2)] += 1;
+        }
+    }
+    assert!(
+        counts.iter().all(|&count| count > 20),
+        "none, one and several occur: {counts:?}"
+    );
+    assert!(met > 500, "the sides meet often: {met}");
+}
+
+#[test]
+fn example_1_has_one_model() {
+    assert_eq!(
+        admissible_models(&program(&["1 <", "2 < 1"])),
+        [set(&[1, 2])]
+    );
+}
+
+#[test]
+fn example_2_has_two_models_and_rejects_the_sets_named_there() {
+    let program = program(&["1 < 2", "2 < !3", "3 < !1"]);
+    assert_eq!(admissible_models(&program), [set(&[1, 2]), set(&[3])]);
+    for rejected in [&[][..], &[2, 3], &[1, 2, 3]] {
+        assert!(!admissible(&program, &set(rejected)), "{rejected:?}");
+    }
+}
+
+#[test]
+fn a_rule_against_its_own_head_leaves_no_model_unless_the_head_stands_anyway() {
+    assert_eq!(admissible_models(&program(&["1 < !1"])), []);
+    assert_eq!(admissible_models(&program(&["1 < !1", "1 <"])), [set(&[1])]);
+}

@@ -1,0 +1,154 @@
+//! Refusals: the order of the questions, and that a refused call leaves everything alone.
+
+use crate::notation::{add, table};
+use oracle::calls::{self, Call};
+use oracle::generate::calls::call;
+use oracle::generate::mixed_table;
+use oracle::questions::Refusal;
+use oracle::random::Random;
+use oracle::sound::sound;
+use oracle::table::RawTable;
+use std::collections::BTreeMap;
+
+#[test]
+fn a_refused_call_changes_no_table_and_writes_no_entry() {
+    let mut random = Random::seeded(71);
+    let mut refused: BTreeMap<u32, usize> = BTreeMap::new();
+    for _ in 0..400 {
+        let mut table = mixed_table(&mut random);
+        for _ in 0..10 {
+            let call = call(&mut random, 256, 256);
+            let mut buffer: Vec<u32> = (0..random.below(6)).map(|_| random.word() as u32).collect();
+            let (table_before, buffer_before) = (table.clone(), buffer.clone());
+            if let Err(refusal) = call.make(&mut table, &mut buffer) {
+                assert_eq!(
+                    (&table, &buffer),
+                    (&table_before, &buffer_before),
+                    "{call:?}"
+                );
+                *refused.entry(refusal.number()).or_default() += 1;
+            }
+        }
+    }
+    for number in [1, 2, 3, 4, 6, 7, 8, 9, 10, 11, 12, 15] {
+        assert!(
+            refused.contains_key(&number),
+            "{number} occurs: {refused:?}"
+        );
+    }
+}
+
+#[test]
+fn every_call_asks_first_whether_the_table_is_sound() {
+    let mut unsound = table(&["1 <"]);
+    unsound.labels[1].depth = 2;
+    let large = 256;
+    let all = [
+        Call::Add {
+            head: large,
+            positives: vec![],
+            negatives: vec![],
+        },
+        Call::Remove { slot: large },
+        Call::Label { atom: large },
+        Call::Spoiler { slot: large },
+        Call::Justifications { atom: large },
+        Call::Consequences { atom: large },
+        Call::Repercussions { atom: large },
+        Call::Reason { atom: large },
+    ];
+    for call in all {
+        assert_eq!(
+            call.make(&mut unsound, &mut []),
+            Err(Refusal::TableUnsound),
+            "{call:?}"
+        );
+    }
+}
+
+#[test]
+fn an_addition_asks_in_the_order_of_the_line() {
+    let steps = [
+        ("256 < 1 1 1 1 1 1 1 1 256", 1),
+        ("255 < 1 1 1 1 1 1 1 1 256", 2),
+        ("255 < 1 1 1 1 1 1 1 256", 3),
+        ("255 < 1 1 1 1 1 1 1 !1", 4),
+        ("255 < !1 !1", 4),
+        ("1 < 2", 5),
+        ("2 < !1", 7),
+        ("4294967295 <", 1),
+        ("1 < 4294967295", 3),
+        ("65536 <", 1),
+    ];
+    let mut table = table(&["1 < 2"]);
+    let before = table.clone();
+    for (text, number) in steps {
+        assert_eq!(add(&mut table, text), Err(number), "{text}");
+    }
+    assert_eq!(table, before);
+}
+
+#[test]
+fn an_atom_may_stand_in_both_lists_and_counts_twice() {
+    assert_eq!(
+        add(&mut RawTable::empty(), "9 < 1 2 3 4 !1 !2 !3 !4"),
+        Ok(0)
+    );
+    assert_eq!(
+        add(&mut RawTable::empty(), "9 < 1 2 3 4 5 !1 !2 !3 !4"),
+        Err(2)
+    );
+}
+
+#[test]
+fn slots_are_asked_for_their_number_before_their_rule() {
+    let mut table = table(&["1 <"]);
+    assert_eq!(calls::remove(&mut table, 256), Err(Refusal::SlotTooLarge));
+    assert_eq!(calls::remove(&mut table, 255), Err(Refusal::SlotFree));
+    assert_eq!(calls::spoiler(&table, u32::MAX), Err(Refusal::SlotTooLarge));
+    assert_eq!(calls::spoiler(&table, 1), Err(Refusal::SlotFree));
+}
+
+#[test]
+fn a_short_buffer_learns_the_length_needed_and_an_exact_one_is_enough() {
+    let table = table(&["1 <", "2 < 1", "3 < 2", "1 < 2"]);
+    let mut exact = [7; 3];
+    assert_eq!(
+        calls::reason(&table, 3, &mut exact[..2]),
+        Err(Refusal::BufferTooShort { needed: 3 })
+    );
+    assert_eq!(exact, [7; 3]);
+    assert_eq!(calls::reason(&table, 3, &mut exact), Ok(3));
+    assert_eq!(exact, [0, 1, 2]);
+    assert_eq!(
+        calls::justifications(&table, 1, &mut []),
+        Err(Refusal::BufferTooShort { needed: 2 })
+    );
+    assert_eq!(calls::consequences(&table, 200, &mut []), Ok(0));
+}
+
+#[test]
+fn a_reason_asks_for_the_atom_before_the_buffer() {
+    let table = table(&["1 < 2"]);
+    assert_eq!(
+        calls::reason(&table, 256, &mut []),
+        Err(Refusal::AtomTooLarge)
+    );
+    assert_eq!(calls::reason(&table, 1, &mut []), Err(Refusal::AtomNotIn));
+    assert_eq!(calls::reason(&table, 77, &mut []), Err(Refusal::AtomNotIn));
+}
+
+#[test]
+fn every_accepted_change_leaves_a_sound_table() {
+    let mut random = Random::seeded(72);
+    let mut accepted = 0;
+    for _ in 0..100 {
+        let mut table = oracle::generate::sound_table(&mut random);
+        for _ in 0..5 {
+            let call = call(&mut random, 256, 256);
+            accepted += usize::from(call.make(&mut table, &mut [0; 256]).is_ok());
+            assert!(sound(&table), "{call:?}");
+        }
+    }
+    assert!(accepted > 100, "{accepted}");
+}

@@ -1,0 +1,233 @@
+//! Spoilers, supports, repercussions, justifications, consequences and reasons.
+
+use crate::notation::table;
+use oracle::calls::{self, Spoiler};
+use oracle::generate::programs::small;
+use oracle::labels::{Label, Labelled};
+use oracle::random::Random;
+use oracle::relations::{consequences, justifications, reason, repercussions, spoiler, support};
+use oracle::rules::Rule;
+use oracle::table::RawTable;
+
+/// What a call that lends a buffer writes.
+type Listing = fn(&RawTable, u32, &mut [u32]) -> Result<u32, oracle::questions::Refusal>;
+
+fn listed(call: Listing, table: &RawTable, atom: u32) -> Vec<u32> {
+    let mut buffer = vec![u32::MAX; 256];
+    let count = call(table, atom, &mut buffer).expect("an accepted call") as usize;
+    assert!(
+        buffer[count..].iter().all(|&entry| entry == u32::MAX),
+        "later entries stay"
+    );
+    buffer.truncate(count);
+    buffer
+}
+
+#[test]
+fn the_spoiler_is_the_first_spoiling_entry_positives_read_first() {
+    let table = table(&["1 <", "2 <", "9 < 1 7 6 !2", "8 < 1 !5 !2 !1", "7 < 1 !6"]);
+    let spoilers: Vec<Spoiler> = (0..5)
+        .map(|slot| calls::spoiler(&table, slot).unwrap())
+        .collect();
+    assert_eq!(
+        spoilers,
+        [
+            Spoiler::Valid,
+            Spoiler::Valid,
+            Spoiler::Atom(6),
+            Spoiler::Atom(2),
+            Spoiler::Valid
+        ]
+    );
+}
+
+#[test]
+fn a_rule_has_a_spoiler_exactly_if_it_is_not_valid_and_the_spoiler_spoils() {
+    let mut random = Random::seeded(41);
+    let mut seen = [0, 0];
+    for _ in 0..1_000 {
+        let labelled = Labelled::of(small(&mut random, 8, 12, 16));
+        for rule in labelled.program.iter().flatten() {
+            let spoiling: Vec<u32> = rule
+                .positives
+                .iter()
+                .filter(|&&atom| !labelled.is_in(atom))
+                .chain(rule.negatives.iter().filter(|&&atom| labelled.is_in(atom)))
+                .copied()
+                .collect();
+            assert_eq!(
+                spoiler(&labelled, rule),
+                spoiling.first().copied(),
+                "{rule:?} in {labelled:?}"
+            );
+            assert!(
+                !spoiling.is_empty() || labelled.is_in(rule.head),
+                "{rule:?} in {labelled:?}"
+            );
+            seen[usize::from(spoiling.is_empty())] += 1;
+        }
+    }
+    assert!(
+        seen.iter().all(|&count| count > 500),
+        "both answers occur: {seen:?}"
+    );
+}
+
+#[test]
+fn the_support_of_an_in_atom_has_the_negative_entries_too() {
+    let table = table(&["3 <", "1 < 3 !2 !4", "1 <"]);
+    assert_eq!(
+        listed(calls::repercussions, &table, 2),
+        [],
+        "1 rests on the fact in slot 2: its depth is 1"
+    );
+    let labelled = Labelled::of(oracle::sound::sound_rules(&table).unwrap());
+    assert_eq!(support(&labelled, 1).ascending().count(), 0);
+    let negated = crate::notation::table(&["3 <", "1 < 3 !2 !4"]);
+    assert_eq!(listed(calls::repercussions, &negated, 2), [1]);
+    assert_eq!(listed(calls::repercussions, &negated, 4), [1]);
+    assert_eq!(listed(calls::repercussions, &negated, 3), [1]);
+}
+
+#[test]
+fn a_fact_in_a_higher_slot_leaves_the_support_to_the_lower_slot() {
+    let table = table(&["1 < !2", "1 <"]);
+    assert_eq!(calls::label(&table, 1), Ok(Label::In { depth: 1, slot: 0 }));
+    assert_eq!(listed(calls::repercussions, &table, 2), [1]);
+}
+
+/// Steps to an affected atom, closed over all atoms in between.
+fn closed_steps(labelled: &Labelled) -> Vec<Vec<bool>> {
+    let supports: Vec<_> = (0..256).map(|atom| support(labelled, atom)).collect();
+    let atoms: Vec<u32> = labelled.occurring().map(|(atom, _)| atom).collect();
+    let mut steps: Vec<Vec<bool>> = (0..256)
+        .map(|a| (0..256).map(|h| supports[h].contains(a)).collect())
+        .collect();
+    for &between in &atoms {
+        for &from in &atoms {
+            for &to in &atoms {
+                let (b, f, t) = (between as usize, from as usize, to as usize);
+                steps[f][t] |= steps[f][b] && steps[b][t];
+            }
+        }
+    }
+    steps
+}
+
+#[test]
+fn repercussions_are_all_atoms_reached_by_one_or_more_steps() {
+    let mut random = Random::seeded(42);
+    let mut own = 0;
+    for _ in 0..400 {
+        let labelled = Labelled::of(small(&mut random, 8, 12, 16));
+        let steps = closed_steps(&labelled);
+        for atom in 0..256u32 {
+            let reached: Vec<u32> = (0..256)
+                .filter(|&to| steps[atom as usize][to as usize])
+                .collect();
+            assert_eq!(
+                repercussions(&labelled, atom),
+                reached,
+                "{atom} in {labelled:?}"
+            );
+            own += usize::from(reached.contains(&atom));
+        }
+    }
+    assert!(own > 20, "some atoms are among their own: {own}");
+}
+
+#[test]
+fn justifications_and_consequences_go_by_the_rules_alone() {
+    let table = table(&["1 < 2", "3 < 1 !2", "1 < !2", "2 < 2", "3 < !2"]);
+    assert_eq!(listed(calls::justifications, &table, 1), [0, 2]);
+    assert_eq!(listed(calls::justifications, &table, 4), []);
+    assert_eq!(listed(calls::consequences, &table, 2), [1, 2, 3]);
+    assert_eq!(listed(calls::consequences, &table, 1), [3]);
+    assert_eq!(listed(calls::consequences, &table, 200), []);
+}
+
+#[test]
+fn justifications_and_consequences_name_each_rule_that_they_should() {
+    let mut random = Random::seeded(43);
+    for _ in 0..300 {
+        let labelled = Labelled::of(small(&mut random, 8, 12, 16));
+        let rules: Vec<(u32, &Rule)> = oracle::rules::held(&labelled.program).collect();
+        for atom in 0..256 {
+            let slots = justifications(&labelled, atom);
+            assert!(
+                slots.windows(2).all(|pair| pair[0] < pair[1]),
+                "{labelled:?}"
+            );
+            assert!(
+                rules
+                    .iter()
+                    .all(|(slot, rule)| slots.contains(slot) == (rule.head == atom)),
+                "{labelled:?}"
+            );
+            let heads = consequences(&labelled, atom);
+            assert!(
+                heads.windows(2).all(|pair| pair[0] < pair[1]),
+                "{labelled:?}"
+            );
+            let names = |head: u32| {
+                rules
+                    .iter()
+                    .any(|(_, rule)| rule.head == head && rule.entries().any(|e| e == atom))
+            };
+            assert!(
+                (0..256).all(|head| heads.contains(&head) == names(head)),
+                "{labelled:?}"
+            );
+        }
+    }
+}
+
+#[test]
+fn the_reason_goes_from_the_shallowest_to_the_asked_atom_each_atom_once() {
+    let table = table(&["1 < 2 3", "3 < 4", "2 < 4", "4 <", "5 < 1 2 !9"]);
+    assert_eq!(listed(calls::reason, &table, 5), [3, 2, 1, 0, 4]);
+    assert_eq!(listed(calls::reason, &table, 4), [3]);
+    assert_eq!(
+        calls::reason(&table, 9, &mut []).map_err(|refusal| refusal.number()),
+        Err(12)
+    );
+}
+
+/// The atoms of a reason, gathered as document 01 says it: from an atom to the positive
+/// entries of its supporting rule, and on from there.
+fn gather(labelled: &Labelled, atom: u32, gathered: &mut Vec<(u32, u32, u32)>) {
+    let Label::In { depth, slot } = labelled.label(atom) else {
+        panic!("{atom} is not in")
+    };
+    gathered.push((depth, atom, slot));
+    for &entry in &labelled.program[slot as usize].as_ref().unwrap().positives {
+        gather(labelled, entry, gathered);
+    }
+}
+
+#[test]
+fn reasons_hold_the_supporting_slots_of_all_atoms_gathered() {
+    let mut random = Random::seeded(44);
+    let mut longest = 0;
+    for _ in 0..1_000 {
+        let labelled = Labelled::of(small(&mut random, 8, 12, 16));
+        for atom in 0..256 {
+            if !labelled.is_in(atom) {
+                assert_eq!(reason(&labelled, atom), None, "{labelled:?}");
+                continue;
+            }
+            let mut gathered = Vec::new();
+            gather(&labelled, atom, &mut gathered);
+            gathered.sort_unstable();
+            gathered.dedup();
+            let slots: Vec<u32> = gathered.iter().map(|&(_, _, slot)| slot).collect();
+            longest = longest.max(slots.len());
+            assert_eq!(
+                reason(&labelled, atom),
+                Some(slots),
+                "{atom} in {labelled:?}"
+            );
+        }
+    }
+    assert!(longest >= 4, "some reason is long: {longest}");
+}

@@ -1,0 +1,190 @@
+//! Question 15: which raw tables are sound.
+
+use crate::notation::table;
+use oracle::generate::damage::{damaged, Field, FIELDS};
+use oracle::generate::faults::{faulty, FAULTS};
+use oracle::generate::programs::{program, Flavour};
+use oracle::generate::{sound_table, table_of};
+use oracle::random::Random;
+use oracle::sound::sound;
+use oracle::table::{RawLabel, RawRule, RawTable, FREE, HELD, IN, OUT};
+
+#[test]
+fn the_empty_table_is_sound_and_all_zero() {
+    let empty = RawTable::empty();
+    assert!(sound(&empty));
+    assert_eq!(empty.to_bytes(), vec![0; 6656]);
+    assert_eq!(RawTable::from_bytes(&[0; 6656]), Some(empty));
+    assert_eq!(RawTable::from_bytes(&[0; 6655]), None);
+    assert_eq!(RawTable::from_bytes(&[0; 6657]), None);
+}
+
+#[test]
+fn tables_survive_encoding_in_the_order_of_the_fields() {
+    let table = table(&["1 <", "201 < 1 !2"]);
+    let bytes = table.to_bytes();
+    assert_eq!(
+        bytes[21..42],
+        [1, 201, 0, 1, 1, 1, 0, 2, 0, 0, 0, 0, 0, 0, 0, 0, 0, 0, 0, 0, 0]
+    );
+    assert_eq!(bytes[256 * 21 + 201 * 5..][..5], [2, 2, 0, 1, 0]);
+    assert_eq!(bytes[256 * 21 + 2 * 5..][..5], [1, 0, 0, 0, 0]);
+    let mut random = Random::seeded(61);
+    for _ in 0..50 {
+        let bytes: Vec<u8> = (0..RawTable::BYTES).map(|_| random.word() as u8).collect();
+        assert_eq!(RawTable::from_bytes(&bytes).unwrap().to_bytes(), bytes);
+    }
+}
+
+/// What is changed, in words, and the change.
+type Change = (&'static str, fn(&mut RawTable));
+
+const CHANGES: [Change; 17] = [
+    ("a rule with no such state", |table| {
+        table.rules[0].state = 2
+    }),
+    ("a free slot with a head", |table| table.rules[9].head = 1),
+    ("a free slot with a count", |table| {
+        table.rules[9].positives = 1
+    }),
+    ("a free slot with an entry", |table| {
+        table.rules[255].entries[7] = 1
+    }),
+    ("a freed slot with its rule left", |table| {
+        table.rules[0].state = FREE
+    }),
+    ("an entry past the list's end", |table| {
+        table.rules[1].entries[2] = 1
+    }),
+    ("a head past the limit", |table| table.rules[0].head = 256),
+    ("an entry past the limit", |table| {
+        table.rules[1].entries[0] = 257
+    }),
+    ("counts past eight", |table| table.rules[0].negatives = 9),
+    ("counts that wrap to eight", |table| {
+        (table.rules[0].positives, table.rules[0].negatives) = (255, 9)
+    }),
+    ("an in atom called out", |table| {
+        table.labels[1] = RawLabel {
+            state: OUT,
+            depth: 0,
+            slot: 0,
+        }
+    }),
+    ("an out atom called in", |table| {
+        table.labels[4] = RawLabel {
+            state: IN,
+            depth: 1,
+            slot: 2,
+        }
+    }),
+    ("an occurring atom called absent", |table| {
+        table.labels[5].state = 0
+    }),
+    ("an absent atom called out", |table| {
+        table.labels[6].state = 1
+    }),
+    ("a wrong depth", |table| table.labels[2].depth = 1),
+    ("a wrong slot", |table| table.labels[2].slot = 0),
+    ("an out atom with a slot", |table| table.labels[4].slot = 2),
+];
+
+#[test]
+fn any_other_state_depth_slot_or_filler_is_unsound() {
+    let sound_one = table(&["1 <", "2 < 1 !3", "4 < 5"]);
+    assert!(sound(&sound_one));
+    for (what, change) in CHANGES {
+        let mut table = sound_one.clone();
+        change(&mut table);
+        assert!(!sound(&table), "{what}");
+    }
+}
+
+#[test]
+fn repeated_atoms_same_rules_and_loops_through_a_negation_are_unsound() {
+    let mut repeated = table(&["2 <", "1 < 2 3"]);
+    repeated.rules[1].entries[1] = 2;
+    repeated.labels[3] = RawLabel::EMPTY;
+    repeated.labels[1] = RawLabel {
+        state: IN,
+        depth: 2,
+        slot: 1,
+    };
+    let mut same = table(&["1 <"]);
+    same.rules[7] = same.rules[0];
+    let mut negates_itself = table(&["1 <"]);
+    negates_itself.rules[1] = RawRule {
+        state: HELD,
+        head: 1,
+        positives: 0,
+        negatives: 1,
+        entries: [1, 0, 0, 0, 0, 0, 0, 0],
+    };
+    for unsound in [repeated, same, negates_itself] {
+        assert!(!sound(&unsound), "{:?}", &unsound.rules[..2]);
+    }
+}
+
+#[test]
+fn the_same_atoms_in_another_order_are_another_rule() {
+    assert!(sound(&table(&[
+        "1 < 2 3", "1 < 3 2", "1 < 2 !3", "1 < 3 !2"
+    ])));
+}
+
+#[test]
+fn the_misreadings_of_t4_are_unsound() {
+    let mut first_valid_slot = table(&["1 < 2", "2 < 1", "2 <"]);
+    first_valid_slot.labels[2].slot = 1;
+    assert!(!sound(&first_valid_slot));
+    let mut both_stay_in = table(&["1 < 2", "2 < 1", "2 <"]);
+    both_stay_in.rules[2] = RawRule::EMPTY;
+    assert!(!sound(&both_stay_in));
+    both_stay_in.labels[2].slot = 1;
+    assert!(!sound(&both_stay_in));
+}
+
+#[test]
+fn generated_tables_are_sound_and_each_kind_of_damage_is_noticed() {
+    let mut random = Random::seeded(62);
+    let mut unsound = [0; FIELDS.len()];
+    for round in 0..800 {
+        let sound_one = sound_table(&mut random);
+        assert!(sound(&sound_one));
+        let damaged_one = damaged(&mut random, &sound_one, FIELDS[round % FIELDS.len()]);
+        assert_ne!(damaged_one, sound_one);
+        unsound[round % FIELDS.len()] += usize::from(!sound(&damaged_one));
+    }
+    assert!(
+        unsound.iter().all(|&count| count >= 80),
+        "of a hundred each: {unsound:?}"
+    );
+}
+
+#[test]
+fn each_fault_is_noticed() {
+    let mut random = Random::seeded(64);
+    let mut unsound = [0; FAULTS.len()];
+    for round in 0..1_000 {
+        let kind = round % FAULTS.len();
+        unsound[kind] += usize::from(!sound(&faulty(&mut random, FAULTS[kind])));
+    }
+    assert!(
+        unsound.iter().all(|&count| count > 40),
+        "of two hundred each: {unsound:?}"
+    );
+}
+
+#[test]
+fn damage_to_a_label_is_always_noticed() {
+    let mut random = Random::seeded(63);
+    for _ in 0..300 {
+        let sound_one = table_of(program(&mut random, Flavour::Churned));
+        for field in [Field::LabelState, Field::Depth, Field::SupportingSlot] {
+            assert!(
+                !sound(&damaged(&mut random, &sound_one, field)),
+                "{field:?}"
+            );
+        }
+    }
+}
