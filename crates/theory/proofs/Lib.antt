@@ -10,5 +10,6 @@ pub mod Models
 pub mod Depths
 pub mod Labels
 pub mod Certificate
+pub mod Questions
 pub mod Explanations
 pub mod Tables

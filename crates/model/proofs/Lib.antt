@@ -1,0 +1,4 @@
+-- What the loops of the crate keep. Nothing here needs to be believed: all of it is checked.
+pub mod Visits
+pub mod Rounds
+pub mod Greatest

@@ -1,0 +1,82 @@
+-- The rounds over the table's own slots and numbers, and the answers that they end with. Assumes nothing.
+-- The numbers of slots and atoms are parameters of each law.
+use Prim.Native.Nat.{ℕ, _+_, _≤_, _<_}
+use native.Mathlib.Omega.{arith}
+use mathlib.Core.Path.{_≡_, refl, sym, _∙_, ap, subst}
+use mathlib.Core.Bool.{Bool, true, false, _||_}
+use mathlib.Core.List.{List, [], _∷_, List·Memᴰ·head}
+use mathlib.Core.Option.{none, some}
+use lib.ListN.{length, getD, replicate}
+use Rattle.theory.specs.Rules.{Program, Bounded}
+use Rattle.theory.specs.Rules as theory
+use Rattle.theory.specs.Questions.{rules}
+use Rattle.table.specs.declared.Rule.{Rule}
+use Rattle.table.specs.Sets.{number}
+use Rattle.table.specs.Rules.{slotOf, programOf, pastRule}
+use Rattle.table.proofs.Members.{all-alike}
+use Rattle.table.proofs.Programs.{program-at, program-length, held-rule}
+use Rattle.strata.specs.Answer.{StrataOf}
+use Rattle.strata.specs.Needed.{needed, Raised}
+use Rattle.strata.proofs.Answer.{told-strata, told-cycle}
+use Rattle.strata.proofs.Rounds.{Rounds, Slots, rounds-start, slots-start, slot-next}
+use Rattle.strata.proofs.Rounds.{slots-over, slots-rest, slots-passed}
+
+-- No more rules are held than there are slots.
+few-rules : (P : Program) → length (rules P) ≤ length P
+unfolding rules
+few-rules [] = omega arith
+few-rules (none ∷ P) = omega (arith, few-rules P)
+few-rules (some r ∷ P) = omega (arith, few-rules P)
+
+module _ (rows : List Rule) (S : ℕ) (long : length rows ≡ S) where
+  few : length (rules (programOf rows)) ≤ S
+  few = omega (arith, few-rules (programOf rows), program-length rows)
+
+  -- The loop over the rounds and the loop over the slots begin.
+  pub start : (b : ℕ) → Rounds (programOf rows) S 0 (number (replicate b 0))
+  start b = rounds-start (programOf rows) S few (number (replicate b 0)) (λ a. all-alike b a 0)
+
+  pub begin : (k : ℕ) (xs : List ℕ) → Rounds (programOf rows) S k (number xs)
+      → Slots (programOf rows) S k 0 (number xs) false
+  begin k xs R = slots-start (programOf rows) S few k (number xs) R
+
+  module _ (k i : ℕ) (xs : List ℕ) (raised : Bool) (T : Slots (programOf rows) S k i (number xs) raised) where
+    -- A slot needs a number above S.
+    pub passed : (n : ℕ) → n ≡ needed (number xs) (slotOf (getD rows i pastRule)) → S < n
+        → StrataOf (programOf rows) (record { acyclic = false; of = xs })
+    passed n e l =
+        told-cycle (programOf rows) xs
+        (slots-passed (programOf rows) S few k (number xs) i raised T
+        (omega (arith, ap (needed (number xs)) (program-at rows i))))
+
+    -- One slot.
+    pub next :
+        (b : ℕ) → length xs ≡ b → Bounded (programOf rows) b → (n : ℕ) (ys : List ℕ) (flag : Bool)
+        → n ≡ needed (number xs) (slotOf (getD rows i pastRule))
+        → Raised xs (getD rows i pastRule .head .0) n ys flag
+        → Slots (programOf rows) S k (i + 1) (number ys) (flag || raised)
+    next b wide B n ys flag e R =
+        slot-next (programOf rows) S few k i xs ys raised flag _ n T
+        (e ∙ ap (needed (number xs)) (sym (program-at rows i)))
+        (λ r h. (
+        let q : r .head ≡ getD rows i pastRule .head .0 =
+        sym (ap (λ (p : theory.Rule). p .head) (held-rule rows i r h)) in
+        (q, omega (arith, q, B i r h (r .head) (List·Memᴰ·head refl)))))
+        R
+
+    -- A round is over that raised none, or one.
+    pub rest : raised ≡ false → S ≤ i → StrataOf (programOf rows) (record { acyclic = true; of = xs })
+    rest t l =
+        told-strata (programOf rows) xs
+        (slots-rest (programOf rows) S few k (number xs) i (omega (arith, program-length rows))
+        (subst (λ u. Slots (programOf rows) S k i (number xs) u) t T))
+
+    pub more : raised ≡ true → S ≤ i → Rounds (programOf rows) S (k + 1) (number xs)
+    more t l =
+        slots-over (programOf rows) S few k (number xs) i (omega (arith, program-length rows))
+        (subst (λ u. Slots (programOf rows) S k i (number xs) u) t T)
+
+  -- S + 1 rounds each raised a number.
+  pub over : (k : ℕ) (xs : List ℕ) → Rounds (programOf rows) S k (number xs) → S < k
+      → StrataOf (programOf rows) (record { acyclic = false; of = xs })
+  over k xs R l = told-cycle (programOf rows) xs (R .late l)

@@ -1,0 +1,83 @@
+-- `strata::greatest` meets its contract: what is found and what is left give the whole. Assumes nothing.
+use Prim.Native.Nat.{_-_, max}
+use native.Mathlib.Omega.{arith}
+use mathlib.Core.Path.{_≡_}
+use lib.ListN.{length, length-map}
+use lib.Seq.{slice}
+use borrow.Author.Needs.{needs}
+use Rattle.theory.specs.Tables.{document}
+use Rattle.table.specs.Sets.{number}
+use Rattle.table.specs.Rules.{numbers}
+use Rattle.strata.specs.Needed.{greatest}
+use Rattle.strata.proofs.Numbers.{greatest-over, greatest-next}
+use Rattle.strata.proofs.greatest.Statement.{statement}
+use Rattle.strata.proofs.greatest.Tie as tie
+use Rattle.strata.proofs.greatest.Reads as reads
+use Rattle.strata.proofs.greatest.Lts as lts
+use Rattle.strata.proofs.larger.Reads as larger-reads
+use Rattle.table.proofs.sets.number_of.Reads as number-of-reads
+
+abbrev Inv-loop : tie.InvT-loop
+Inv-loop from to kept step rule most₀ j₀ most j =
+    max most (greatest step (number kept) (numbers (slice j to (rule .entries))))
+    ≡ greatest step (number kept) (numbers (slice from to (rule .entries)))
+
+abbrev μ-loop : tie.MeasureT-loop
+μ-loop from to kept step rule most₀ j₀ most j = to - j
+
+loop-holds : tie.Need-loop-holds Inv-loop μ-loop
+loop-holds c = omega arith
+
+mul-a : tie.Need-mul-a Inv-loop μ-loop
+mul-a c = search needs
+
+element-copy-out-a : tie.Need-element-copy-out-a Inv-loop μ-loop
+element-copy-out-a c = search needs
+
+number-of-requires : tie.Need-number-of-requires Inv-loop μ-loop
+number-of-requires c κs = search needs
+
+cast-larger : tie.Need-cast-larger Inv-loop μ-loop
+cast-larger c = search needs
+
+add-larger : tie.Need-add-larger Inv-loop μ-loop
+add-larger c = search needs
+
+larger-requires : tie.Need-larger-requires Inv-loop μ-loop
+larger-requires c κs = search needs
+
+add-j : tie.Need-add-j Inv-loop μ-loop
+add-j c = search needs
+
+loop-less : tie.Need-loop-less Inv-loop μ-loop
+loop-less c = search needs
+
+loop-again : tie.Need-loop-again Inv-loop μ-loop
+loop-again c =
+    let s = c .before .before .before .before .before in
+    let long : length (s .args .t1 .entries) ≡ document .entries =
+    simp length-map at (s .good .0 .1 .1 .1 .1 .1 .1 .0 .1 .0 .1) in
+    greatest-next _ _ (s .args .t1 .entries) (c .before .before .before .before .loop .j) (s .args .to) _ _ _ _
+    (c .before .before .before .loop-test .taken) (omega arith) (c .before .number-of .ensures) (c .larger .ensures)
+    (c .before .before .before .before .loop .inv)
+
+returns : tie.Need-returns Inv-loop μ-loop
+returns c = greatest-over _ _ _ _ _ _ _ (c .loop-test .left) (c .before .loop .inv)
+
+pub greatest-spec : {M : Type 1} → statement M
+greatest-spec =
+    tie.close
+    (tie.spec
+    Inv-loop
+    μ-loop
+    loop-holds
+    mul-a
+    element-copy-out-a
+    number-of-requires
+    cast-larger
+    add-larger
+    larger-requires
+    add-j
+    loop-less
+    loop-again
+    returns)

@@ -1,0 +1,136 @@
+-- `strata::strata` meets its contract: by what the rounds keep. Assumes nothing.
+use Prim.Native.Nat.{_+_, _-_, _≤_}
+use native.Mathlib.Omega.{arith}
+use mathlib.Core.Path.{_≡_, refl, _∙_}
+use lib.ListN.{length}
+use borrow.Author.Needs.{needs}
+use Rattle.theory.specs.Tables.{document}
+use Rattle.theory.proofs.Lists.{not-true, not-false}
+use Rattle.table.specs.Sets.{number}
+use Rattle.table.specs.Rules.{programOf}
+use Rattle.strata.proofs.Rounds.{Rounds, Slots}
+use Rattle.strata.proofs.Numbers.{raised-length}
+use Rattle.strata.proofs.Arrays.{start, begin, passed, next, rest, more, over}
+use Rattle.strata.proofs.strata.Statement.{statement}
+use Rattle.strata.proofs.strata.Tie as tie
+use Rattle.strata.proofs.strata.Reads as reads
+use Rattle.strata.proofs.strata.Lts as lts
+use Rattle.strata.proofs.needed.Reads as needed-reads
+use Rattle.strata.proofs.raise.Reads as raise-reads
+
+abbrev Inv-loop2 : tie.InvT-loop2
+Inv-loop2 rules of₀ round raised₀ i₀ of raised i =
+    (i ≤ document .slots) × (length of ≡ document .atoms)
+    × Slots (programOf rules) (document .slots) round i (number of) raised
+
+abbrev μ-loop2 : tie.MeasureT-loop2
+μ-loop2 rules of₀ round raised₀ i₀ of raised i = document .slots - i
+
+abbrev Inv-loop : tie.InvT-loop
+Inv-loop rules of₀ round₀ of round =
+    (round ≤ document .slots + 1) × (length of ≡ document .atoms)
+    × Rounds (programOf rules) (document .slots) round (number of)
+
+abbrev μ-loop : tie.MeasureT-loop
+μ-loop rules of₀ round₀ of round = document .slots + 1 - round
+
+loop-holds : tie.Need-loop-holds Inv-loop2 μ-loop2 Inv-loop μ-loop
+loop-holds c =
+    (omega arith, refl, start (c .args .t1) (document .slots) (search needs) (document .atoms))
+
+loop2-holds : tie.Need-loop2-holds Inv-loop2 μ-loop2 Inv-loop μ-loop
+loop2-holds c = (
+  omega arith,
+  c .before .loop .inv .1,
+  begin (c .before .before .args .t1) (document .slots) (search needs) _ (c .before .loop .of)
+      (c .before .loop .inv .2),
+)
+
+mul-rule : tie.Need-mul-rule Inv-loop2 μ-loop2 Inv-loop μ-loop
+mul-rule c = search needs
+
+array-copy-out-rule : tie.Need-array-copy-out-rule Inv-loop2 μ-loop2 Inv-loop μ-loop
+array-copy-out-rule c = search needs
+
+needed-requires : tie.Need-needed-requires Inv-loop2 μ-loop2 Inv-loop μ-loop
+needed-requires c κs = search needs
+
+returns : tie.Need-returns Inv-loop2 μ-loop2 Inv-loop μ-loop
+returns c =
+    let t = c .before .before .before .before .before .loop2 in
+    let a = c .before .before .before .before .before .before .before .before .args in
+    passed (a .t1) (document .slots) (search needs) _ (t .i) (t .of) (t .raised) (t .inv .2) _
+    (c .before .needed .ensures) (c .if1 .taken)
+
+cast-raise : tie.Need-cast-raise Inv-loop2 μ-loop2 Inv-loop μ-loop
+cast-raise c = search needs
+
+raise-requires : tie.Need-raise-requires Inv-loop2 μ-loop2 Inv-loop μ-loop
+raise-requires c κs = search needs
+
+add-i : tie.Need-add-i Inv-loop2 μ-loop2 Inv-loop μ-loop
+add-i c = search needs
+
+loop2-less : tie.Need-loop2-less Inv-loop2 μ-loop2 Inv-loop μ-loop
+loop2-less c = search needs
+
+loop2-again : tie.Need-loop2-again Inv-loop2 μ-loop2 Inv-loop μ-loop
+loop2-again c =
+    let t = c .before .before .before .before .before .before .before .loop2 in
+    let s = c .before .before .before .before .before .before .before .before .before .before in (
+      omega arith,
+      raised-length _ _ _ _ _ (c .raise .ensures) ∙ t .inv .1,
+      next (s .args .t1) (document .slots) (search needs) _ (t .i) (t .of) (t .raised) (t .inv .2) (document .atoms)
+          (t .inv .1) (s .pre) _ _ _ (c .before .before .before .needed .ensures) (c .raise .ensures),
+    )
+
+returns-2 : tie.Need-returns-2 Inv-loop2 μ-loop2 Inv-loop μ-loop
+returns-2 c =
+    let t = c .before .before .loop2 in
+    rest (c .before .before .before .before .before .args .t1) (document .slots) (search needs) _ (t .i) (t .of)
+    (t .raised) (t .inv .2) (not-true _ (c .if2 .taken)) (c .before .loop2-test .left)
+
+add-round : tie.Need-add-round Inv-loop2 μ-loop2 Inv-loop μ-loop
+add-round c = search needs
+
+loop-less : tie.Need-loop-less Inv-loop2 μ-loop2 Inv-loop μ-loop
+loop-less c = search needs
+
+loop-again : tie.Need-loop-again Inv-loop2 μ-loop2 Inv-loop μ-loop
+loop-again c =
+    let t = c .before .before .loop2 in (
+      omega arith,
+      t .inv .1,
+      more (c .before .before .before .before .before .args .t1) (document .slots) (search needs) _ (t .i) (t .of)
+          (t .raised) (t .inv .2) (not-false _ (c .if2 .left)) (c .before .loop2-test .left),
+    )
+
+returns-3 : tie.Need-returns-3 Inv-loop2 μ-loop2 Inv-loop μ-loop
+returns-3 c =
+    over (c .before .before .args .t1) (document .slots) (search needs) _ _ (c .before .loop .inv .2)
+    (c .loop-test .left)
+
+pub strata-spec : {M : Type 1} → statement M
+strata-spec =
+    tie.close
+    (tie.spec
+    Inv-loop2
+    μ-loop2
+    Inv-loop
+    μ-loop
+    loop-holds
+    loop2-holds
+    mul-rule
+    array-copy-out-rule
+    needed-requires
+    returns
+    cast-raise
+    raise-requires
+    add-i
+    loop2-less
+    loop2-again
+    returns-2
+    add-round
+    loop-less
+    loop-again
+    returns-3)

@@ -1,0 +1,24 @@
+-- The number that a rule needs its head to have, and an atom's number raised to one. Assumes nothing.
+use Prim.Native.Nat.{ℕ, _+_, _≤_, _<_, max}
+use mathlib.Core.Path.{_≡_}
+use mathlib.Core.Bool.{Bool, true, false}
+use mathlib.Core.List.{List, [], _∷_}
+use mathlib.Core.Option.{Option, none, some}
+use lib.ListN.{set}
+use Rattle.theory.specs.Rules.{Rule}
+use Rattle.table.specs.Sets.{number}
+
+-- The greatest of the numbers of some atoms, each made greater by a step; 0 if there is no atom.
+unfoldable pub greatest : ℕ → (ℕ → ℕ) → List ℕ → ℕ
+greatest step ℓ [] = 0
+greatest step ℓ (x ∷ xs) = max (step + ℓ x) (greatest step ℓ xs)
+
+-- The least number for the head at which no entry lies above it and each negative entry lies below it.
+abbrev pub needed : (ℕ → ℕ) → Option Rule → ℕ
+needed ℓ none = 0
+needed ℓ (some r) = max (greatest 0 ℓ (r .positives)) (greatest 1 ℓ (r .negatives))
+
+-- The atom's number becomes n if it is lower, and the flag says whether it was.
+pub record Raised (before : List ℕ) (a n : ℕ) (after : List ℕ) (flag : Bool) : Type 0 where
+  pub kept : flag ≡ false → (n ≤ number before a) × (after ≡ before)
+  pub higher : flag ≡ true → (number before a < n) × (after ≡ set before a n)

@@ -1,0 +1,109 @@
+// The strata of a table's rules: for each atom the most negative steps on a path of dependencies from it.
+use table::Atom;
+use table::Rule;
+use table::Table;
+use table::rules::negative_end;
+use table::rules::positive_end;
+use table::sets::number_of;
+use table::sets::set_number;
+ghost use mathlib.Core.Path.{_≡_};
+ghost use Prim.Native.Nat.{_≤_, max};
+ghost use lib.Seq.{slice};
+ghost use Rattle.theory.specs.Rules.{Bounded};
+ghost use Rattle.theory.specs.Tables.{document};
+ghost use Rattle.table.specs.Sets.{number};
+ghost use Rattle.table.specs.Rules.{numbers, slotOf, programOf};
+ghost use Rattle.strata.specs.Answer.{StrataOf};
+ghost use Rattle.strata.specs.Needed.{greatest, needed, Raised};
+
+// Either each atom's stratum, or that there is a negative cycle; `of` says nothing then.
+pub struct Stratification {
+    pub acyclic: bool,
+    pub of: [u16; Table::ATOMS],
+}
+
+// The greater of the two.
+fn larger(x: usize, y: usize) -> usize
+    ensures { λ r. ⌜ r ≡ max x y ⌝ }
+{
+    if x < y { y } else { x }
+}
+
+// The greatest number among the entries from `from` to below `to`, each `step` more than is kept for it; 0 if none.
+fn greatest(rule: Rule, from: usize, to: usize, kept: &[u16; Table::ATOMS], step: u16) -> usize
+    requires { ⌜ to ≤ document .entries ⌝ }
+    ensures { λ r. ⌜ r ≡ greatest step (number (now (kept .entry))) (numbers (slice from to (rule .entries))) ⌝ }
+{
+    let mut most: usize = 0;
+    let mut j = from;
+    while j < to {
+        let a = rule.entries[j];
+        let n = number_of(kept, a);
+        most = larger(most, step as usize + n as usize);
+        j += 1;
+    }
+    most
+}
+
+// The least number that the slot's rule lets its head have: no entry above it, each negative entry below it.
+fn needed(rule: Rule, kept: &[u16; Table::ATOMS]) -> usize
+    ensures { λ r. ⌜ r ≡ needed (number (now (kept .entry))) (slotOf rule) ⌝ }
+{
+    if rule.state == 0 {
+        return 0;
+    }
+    let p = positive_end(rule);
+    let n = negative_end(rule);
+    let positive = greatest(rule, 0, p, kept, 0);
+    let negative = greatest(rule, p, n, kept, 1);
+    larger(positive, negative)
+}
+
+// The atom's number becomes `n` if it is lower: was it?
+fn raise(kept: &mut [u16; Table::ATOMS], a: Atom, n: u16) -> bool
+    ensures { λ r. ⌜ Raised (now (kept .entry)) (a .0) n (now (kept .exit)) r ⌝ }
+{
+    if n <= number_of(kept, a) {
+        return false;
+    }
+    set_number(kept, a, n);
+    true
+}
+
+// Rounds over the slots, each of which raises heads to what their rules need, up to the first that raises none.
+// Only a negative cycle lets a number pass SLOTS, or a round that SLOTS others came before still raise one.
+pub fn strata(rules: [Rule; Table::SLOTS]) -> Stratification
+    requires { ⌜ Bounded (programOf rules) (document .atoms) ⌝ }
+    ensures { λ r. ⌜ StrataOf (programOf rules) r ⌝ }
+{
+    let mut of: [u16; Table::ATOMS] = [0; Table::ATOMS];
+    let mut round: usize = 0;
+    while round <= Table::SLOTS {
+        let mut raised = false;
+        let mut i: usize = 0;
+        while i < Table::SLOTS {
+            let rule = rules[i];
+            let n = needed(rule, &of);
+            if n > Table::SLOTS {
+                return Stratification {
+                    acyclic: false,
+                    of: of,
+                };
+            }
+            let higher = raise(&mut of, rule.head, n as u16);
+            raised = higher | raised;
+            i += 1;
+        }
+        if !raised {
+            return Stratification {
+                acyclic: true,
+                of: of,
+            };
+        }
+        round += 1;
+    }
+    Stratification {
+        acyclic: false,
+        of: of,
+    }
+}

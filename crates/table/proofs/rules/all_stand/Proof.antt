@@ -1,0 +1,83 @@
+-- `table::rules::all_stand` meets its contract. Assumes nothing.
+-- The loop keeps: what is left of the part answers for the whole of it.
+use Prim.Native.Nat.{_-_}
+use native.Mathlib.Omega.{arith}
+use mathlib.Core.Path.{_≡_, refl, sym, _∙_}
+use lib.ListN.{length, length-map}
+use lib.Seq.{slice}
+use borrow.Author.Needs.{needs}
+use Rattle.theory.specs.Lists.{every}
+use Rattle.theory.specs.Tables.{document}
+use Rattle.table.specs.Sets.{member, standing}
+use Rattle.table.specs.Rules.{numbers}
+use Rattle.table.proofs.Members.{differs, differs-not}
+use Rattle.table.proofs.Entries.{every-over, every-next, every-stop}
+use Rattle.table.proofs.rules.all_stand.Statement.{statement}
+use Rattle.table.proofs.rules.all_stand.Tie as tie
+
+abbrev Inv-loop : tie.InvT-loop
+Inv-loop from to flags wanted rule j₀ j =
+    every (standing wanted (member flags)) (numbers (slice j to (rule .entries)))
+    ≡ every (standing wanted (member flags)) (numbers (slice j₀ to (rule .entries)))
+
+abbrev μ-loop : tie.MeasureT-loop
+μ-loop from to flags wanted rule j₀ j = to - j
+
+-- what owning the rule tells of its entries
+long : (s : tie.Start Inv-loop μ-loop) → length (s .args .t1 .entries) ≡ document .entries
+long s = simp length-map at (s .good .0 .1 .1 .1 .1 .1 .1 .0 .1 .0 .1)
+
+loop-holds : tie.Need-loop-holds Inv-loop μ-loop
+loop-holds c = refl
+
+mul-a : tie.Need-mul-a Inv-loop μ-loop
+mul-a c = search needs
+
+element-copy-out-a : tie.Need-element-copy-out-a Inv-loop μ-loop
+element-copy-out-a c = search needs
+
+has-requires : tie.Need-has-requires Inv-loop μ-loop
+has-requires c κs = search needs
+
+returns : tie.Need-returns Inv-loop μ-loop
+returns c =
+    let l = c .before .before .before .before in
+    let k = long (l .before) in
+    sym (every-stop _ (l .before .args .t1 .entries) (l .loop .j) _
+    (c .before .before .before .loop-test .taken) (omega arith)
+    (differs _ _ _ _ (c .before .has .ensures) (c .if1 .taken)))
+    ∙ l .loop .inv
+
+add-j : tie.Need-add-j Inv-loop μ-loop
+add-j c = search needs
+
+loop-less : tie.Need-loop-less Inv-loop μ-loop
+loop-less c = search needs
+
+loop-again : tie.Need-loop-again Inv-loop μ-loop
+loop-again c =
+    let l = c .before .before .before .before in
+    let k = long (l .before) in
+    sym (every-next _ (l .before .args .t1 .entries) (l .loop .j) _
+    (c .before .before .before .loop-test .taken) (omega arith)
+    (differs-not _ _ _ _ (c .before .has .ensures) (c .if1 .left)))
+    ∙ l .loop .inv
+
+returns-2 : tie.Need-returns-2 Inv-loop μ-loop
+returns-2 c = sym (every-over _ _ _ _ (c .loop-test .left)) ∙ c .before .loop .inv
+
+pub all-stand-spec : {M : Type 1} → statement M
+all-stand-spec =
+    tie.close
+    (tie.spec
+    Inv-loop
+    μ-loop
+    loop-holds
+    mul-a
+    element-copy-out-a
+    has-requires
+    returns
+    add-j
+    loop-less
+    loop-again
+    returns-2)

@@ -1,0 +1,7 @@
+-- What the table's bytes stand for, in the words of the theory. A reader of any contract believes these.
+pub mod Sets
+pub mod Rules
+pub mod Labels
+pub mod Questions
+pub mod Clean
+pub mod Sound

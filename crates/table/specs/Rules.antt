@@ -1,0 +1,49 @@
+-- A slot of the table as the theory's rule, and what the calls on one rule answer. Assumes nothing.
+use Prim.Native.Nat.{ℕ, zero, suc}
+use mathlib.Core.List.{List, [], map}
+use mathlib.Core.Option.{Option, none, some}
+use lib.ListN.{take, drop}
+use Rattle.theory.specs.Rules.{Program}
+use Rattle.theory.specs.Rules as theory
+use Rattle.table.specs.declared.Atom.{Atom}
+use Rattle.table.specs.declared.Rule.{Rule}
+use Rattle.table.specs.declared.Spoiler.{Spoiler}
+use Rattle.table.specs.declared.Spoiler.the-variants.{Nothing, Entry}
+
+-- Atoms by their numbers.
+abbrev pub numbers : List Atom → List ℕ
+numbers atoms = map (λ a. a .0) atoms
+
+-- The rule that a slot's fields stand for: the positive list first among the entries, the negative list after it.
+-- Whatever the counts say, a list ends where the entries end.
+abbrev pub ruleOf : Rule → theory.Rule
+ruleOf r =
+    record {
+      head = r .head .0;
+      positives = numbers (take (r .positives) (r .entries));
+      negatives = numbers (take (r .negatives) (drop (r .positives) (r .entries)));
+    }
+
+-- A slot is free (state 0) or holds one rule.
+abbrev pub held-in : ℕ → theory.Rule → Option theory.Rule
+held-in zero r = none
+held-in (suc n) r = some r
+
+abbrev pub slotOf : Rule → Option theory.Rule
+slotOf r = held-in (r .state) (ruleOf r)
+
+-- The program that the table's slots hold.
+abbrev pub programOf : List Rule → Program
+programOf rules = map slotOf rules
+
+-- The spoiler that an answer names, if it names one.
+abbrev pub spoilerOf : Spoiler → Option ℕ
+spoilerOf Nothing = none
+spoilerOf (Entry a) = some (a .0)
+
+-- What an array of slots, or of entries, reads as past its end.
+abbrev pub noAtom : Atom
+noAtom = record { 0 = 0 }
+
+abbrev pub pastRule : Rule
+pastRule = record { state = 0; head = noAtom; positives = 0; negatives = 0; entries = [] }
