@@ -1,0 +1,5 @@
+-- Laws of the passes over the slots. Nothing here needs to be believed: all of it is checked.
+pub mod Slots
+pub mod Levels
+pub mod Claims
+pub mod Marks

@@ -1,0 +1,91 @@
+-- The kept labels are the defined ones: of one atom, of each atom passed, and of all. Assumes nothing.
+use Prim.Native.Nat.{ℕ, _+_, _≤_, _<_}
+use native.Mathlib.Omega.{arith}
+use mathlib.Core.Path.{_≡_, refl, sym, _∙_, ap, subst}
+use mathlib.Core.Logic.{_⊎_, ⊎-elim}
+use mathlib.Core.Bool.{Bool, true, false, true≢false}
+use mathlib.Core.List.{List}
+use lib.ListN.{length, getD, set}
+use lib.Seq.{getD-set-same, getD-set-other}
+use Rattle.theory.specs.Rules.{Program, Bounded, Occurs}
+use Rattle.theory.specs.Models.{AtomSet, Admissible}
+use Rattle.theory.specs.Dependencies.{NegativeCycle}
+use Rattle.theory.specs.Labels.{Labelled, is-absent, is-out, is-in}
+use Rattle.theory.specs.Tables.{document}
+use Rattle.theory.proofs.Lists.{le-or-lt, clash}
+use Rattle.table.specs.declared.Label.{Label}
+use Rattle.table.specs.Labels.{labelOf, absentLabel}
+use Rattle.table.specs.Clean.{CleanLabel}
+use Rattle.table.proofs.Entries.{past}
+use Rattle.depths.specs.Numbers.{DepthsOf, SupportsOf, OccurringIn}
+use Rattle.labels.specs.Labelling.{labelFor, Labels, LabellingOf, Assembled}
+
+-- The label of one atom, by whether it is in and whether it occurs.
+module _ (i o : Bool) (d s : ℕ) where
+  pub kept-in : i ≡ true → record { state = 2; depth = d; slot = record { 0 = s } } ≡ labelFor i o d s
+  kept-in t = cc
+
+  pub kept-out : i ≡ false → o ≡ true → record { state = 1; depth = 0; slot = record { 0 = 0 } } ≡ labelFor i o d s
+  kept-out t u = cc
+
+  pub kept-absent : i ≡ false → o ≡ false → absentLabel ≡ labelFor i o d s
+  kept-absent t u = cc
+
+  pub clean-for : CleanLabel (labelFor i o d s)
+  clean-for = go i o
+    where
+      go : (i o : Bool) → CleanLabel (labelFor i o d s)
+      go true o = record { known = omega arith; depth = λ l. absurd (omega arith); slot = λ l. absurd (omega arith) }
+      go false true = record { known = omega arith; depth = λ l. refl; slot = λ l. refl }
+      go false false = record { known = omega arith; depth = λ l. refl; slot = λ l. refl }
+
+-- One more atom's label is put.
+pub one-more :
+    (f : ℕ → Label) (labels : List Label) (a : ℕ) → a < length labels
+    → ((k : ℕ) → k < a → getD labels k absentLabel ≡ f k)
+    → (l : Label) → l ≡ f a → (k : ℕ) → k < a + 1 → getD (set labels a l) k absentLabel ≡ f k
+one-more f labels a h below l e k j = ⊎-elim
+    (λ (m : a ≤ k). (let q : k ≡ a = omega arith in
+    rw q (getD-set-same labels a l absentLabel h ∙ e)))
+    (λ (m : k < a). getD-set-other labels a k l absentLabel (λ q. omega arith) ∙ below k m)
+    (le-or-lt a k)
+
+-- The labels put together from what was found of the program are the defined ones.
+module _ (P : Program) (bounded : Bounded P (document .atoms)) (M O : AtomSet) (d s : ℕ → ℕ)
+    (admissible : Admissible P M) (deep : DepthsOf P M d) (supports : SupportsOf P M s) (occurs : OccurringIn P O)
+  where
+    -- an atom that is in, or occurs, or neither
+    labelled-for : (a : ℕ) → Labelled P M a (labelOf (labelFor (M a) (O a) (d a) (s a)))
+    labelled-for a = go (M a) refl (O a) refl
+      where
+        go : (i : Bool) → M a ≡ i → (o : Bool) → O a ≡ o → Labelled P M a (labelOf (labelFor i o (d a) (s a)))
+        go true t o u = is-in t (deep .deep a t) (supports .supporting a t)
+        go false t true u = is-out (occurs a .0 u) t
+        go false t false u = is-absent (λ w. clash (occurs a .1 w) u)
+
+    -- no atom past the limit occurs
+    not-past : (a : ℕ) → document .atoms ≤ a → Occurs P a → ⊥
+    not-past a l w = omega (arith, bounded (w .slot) (w .rule) (w .held) a (w .there))
+
+    pub labels-are : (labels : List Label) → Assembled M O d s labels → Labels P M labels
+    labels-are labels A = record {
+      admissible = admissible;
+      labelled = λ a. ⊎-elim
+          (λ (l : document .atoms ≤ a). subst (λ (x : Label). Labelled P M a (labelOf x))
+          (past labels a absentLabel (omega (arith, A .long)))
+          (is-absent (not-past a l)))
+          (λ (l : a < document .atoms).
+          subst (λ (x : Label). Labelled P M a (labelOf x)) (sym (A .each a l)) (labelled-for a))
+          (le-or-lt (document .atoms) a);
+      clean = λ a l. subst CleanLabel (sym (A .each a l)) (clean-for (M a) (O a) (d a) (s a));
+    }
+
+-- The two answers.
+pub told-labels :
+    (P : Program) (M : AtomSet) (labels : List Label) → (NegativeCycle P → ⊥) → Labels P M labels
+    → LabellingOf P (record { acyclic = true; labels = labels })
+told-labels P M labels free L = record { acyclic = λ t. (free, (M, L)); cyclic = λ t. absurd (true≢false t) }
+
+pub told-cycle :
+    (P : Program) (labels : List Label) → NegativeCycle P → LabellingOf P (record { acyclic = false; labels = labels })
+told-cycle P labels c = record { acyclic = λ t. absurd (true≢false (sym t)); cyclic = λ t. c }

@@ -1,0 +1,2 @@
+-- Laws behind the labels. Nothing here needs to be believed.
+pub mod Kept

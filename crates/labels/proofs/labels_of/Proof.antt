@@ -1,0 +1,60 @@
+-- `labels::labels_of` answers the labels of all atoms, or that there is a negative cycle. Assumes nothing.
+use borrow.Author.Needs.{needs}
+use Rattle.theory.proofs.Lists.{not-true, not-false}
+use Rattle.strata.proofs.Answer.{answer-strata, answer-acyclic}
+use Rattle.labels.proofs.Kept.{labels-are, told-labels, told-cycle}
+use Rattle.labels.proofs.labels_of.Statement.{statement}
+use Rattle.labels.proofs.labels_of.Tie as tie
+
+strata-requires : tie.Need-strata-requires
+strata-requires c κs = search needs
+
+returns : tie.Need-returns
+returns c =
+    let told = c .before .before .before in
+    told-cycle _ _ (told .strata .ensures .cyclic (not-true _ (c .if1 .taken)))
+
+in-atoms-requires : tie.Need-in-atoms-requires
+in-atoms-requires c κs =
+    let told = c .before .before .before .before in
+    record {
+      bounded = told .before .pre;
+      strata = answer-strata _ _ (told .strata .ensures) (not-false _ (c .before .if1 .left));
+    }
+
+depths-requires : tie.Need-depths-requires
+depths-requires c κs = search needs
+
+supports-requires : tie.Need-supports-requires
+supports-requires c κs = search needs
+
+occurring-requires : tie.Need-occurring-requires
+occurring-requires c κs = search needs
+
+assemble-requires : tie.Need-assemble-requires
+assemble-requires c κs = search needs
+
+returns-2 : tie.Need-returns-2
+returns-2 c =
+    let all = c .before .before .before .before .before in
+    let slots = all .before in
+    let deep = slots .before .before .before in
+    let model = deep .before .before in
+    let test = model .before .before in
+    let told = test .before .before .before in
+    told-labels _ _ _ (answer-acyclic _ _ (told .strata .ensures) (not-false _ (test .if1 .left)))
+    (labels-are _ (told .before .pre) _ _ _ _ (model .in-atoms .ensures) (deep .depths .ensures)
+    (slots .supports .ensures) (all .occurring .ensures) _ (c .assemble .ensures))
+
+pub labels-of-spec : {M : Type 1} → statement M
+labels-of-spec =
+    tie.close
+    (tie.spec
+    strata-requires
+    returns
+    in-atoms-requires
+    depths-requires
+    supports-requires
+    occurring-requires
+    assemble-requires
+    returns-2)

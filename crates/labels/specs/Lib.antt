@@ -1,0 +1,2 @@
+-- What is found of the labels.
+pub mod Labelling

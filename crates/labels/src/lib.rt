@@ -1,0 +1,100 @@
+// The labels of a table's rules: strata, in atoms, depths, supporting slots and occurrence, put together.
+use depths::depths;
+use depths::occurring;
+use depths::supports;
+use model::in_atoms;
+use strata::strata;
+use table::Label;
+use table::Rule;
+use table::Slot;
+use table::Table;
+ghost use mathlib.Core.Path.{_≡_};
+ghost use Prim.Native.Nat.{ℕ, _<_};
+ghost use Rattle.theory.specs.Rules.{Bounded};
+ghost use Rattle.theory.specs.Tables.{document};
+ghost use Rattle.table.specs.Rules.{programOf};
+ghost use Rattle.table.specs.Labels.{absentLabel};
+ghost use Rattle.table.specs.Sets.{member, number};
+ghost use Rattle.labels.specs.Labelling.{labelFor, LabellingOf, Assembled};
+
+// Either the labels of all atoms, or that there is a negative cycle; `labels` says nothing then.
+pub struct Labelling {
+    pub acyclic: bool,
+    pub labels: [Label; Table::ATOMS],
+}
+
+// The label of an atom that is in the model, or occurs, or neither.
+fn label_for(is_in: bool, occurs: bool, depth: u16, slot: u16) -> Label
+    ensures { λ r. ⌜ r ≡ labelFor is_in occurs depth slot ⌝ }
+{
+    if is_in {
+        return Label {
+            state: 2,
+            depth: depth,
+            slot: Slot(slot),
+        };
+    }
+    let state: u8 = if occurs { 1 } else { 0 };
+    Label {
+        state: state,
+        depth: 0,
+        slot: Slot(0),
+    }
+}
+
+// Each atom's label from what was found of it.
+fn assemble(
+    model: &[bool; Table::ATOMS],
+    occurs: &[bool; Table::ATOMS],
+    depths: &[u16; Table::ATOMS],
+    slots: &[u16; Table::ATOMS],
+) -> [Label; Table::ATOMS]
+    ensures { λ r. ⌜ Assembled (member (now (model .entry))) (member (now (occurs .entry))) (number (now (depths .entry))) (number (now (slots .entry))) r ⌝ }
+{
+    let absent = Label {
+        state: 0,
+        depth: 0,
+        slot: Slot(0),
+    };
+    let mut labels: [Label; Table::ATOMS] = [absent; Table::ATOMS];
+    let m = &model[..];
+    let o = &occurs[..];
+    let d = &depths[..];
+    let s = &slots[..];
+    let mut a: usize = 0;
+    while a < Table::ATOMS {
+        let label = label_for(m[a], o[a], d[a], s[a]);
+        labels[a] = label;
+        a += 1;
+    }
+    labels
+}
+
+// The labels of all atoms by the rules.
+pub fn labels_of(rules: [Rule; Table::SLOTS]) -> Labelling
+    requires { ⌜ Bounded (programOf rules) (document .atoms) ⌝ }
+    ensures { λ r. ⌜ LabellingOf (programOf rules) r ⌝ }
+{
+    let s = strata(rules);
+    let of = s.of;
+    if !s.acyclic {
+        let absent = Label {
+            state: 0,
+            depth: 0,
+            slot: Slot(0),
+        };
+        return Labelling {
+            acyclic: false,
+            labels: [absent; Table::ATOMS],
+        };
+    }
+    let found = in_atoms(rules, &of);
+    let deep = depths(rules, &found);
+    let slots = supports(rules, &found, &deep);
+    let occurs = occurring(rules);
+    let labels = assemble(&found, &occurs, &deep, &slots);
+    Labelling {
+        acyclic: true,
+        labels: labels,
+    }
+}
