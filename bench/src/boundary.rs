@@ -1,0 +1,75 @@
+//! The proved engine's phases, as the static library exports them. The only unsafe code here.
+
+use oracle::limits::{ATOMS, ENTRIES, SLOTS};
+use oracle::table::{RawLabel, RawRule, RawTable};
+
+#[repr(C)]
+#[derive(Clone, Copy, PartialEq, Eq, Debug)]
+pub struct Rule {
+    pub state: u8,
+    pub head: u16,
+    pub positives: u8,
+    pub negatives: u8,
+    pub entries: [u16; ENTRIES],
+}
+
+#[repr(C)]
+#[derive(Clone, Copy, PartialEq, Eq, Debug)]
+pub struct Label {
+    pub state: u8,
+    pub depth: u16,
+    pub slot: u16,
+}
+
+#[repr(C)]
+#[derive(Clone, Copy, PartialEq, Eq, Debug)]
+pub struct Table {
+    pub rules: [Rule; SLOTS],
+    pub labels: [Label; ATOMS],
+}
+
+/// The table with the labels that its rules give, or as it came: 0 where it was labelled, else the
+/// number of the question that its rules answer no (15 or 7).
+#[repr(C)]
+pub struct Labelled {
+    pub refused: u32,
+    pub table: Table,
+}
+
+extern "C" {
+    fn probe_sound(table: Table) -> u32;
+    fn probe_labels(table: Table) -> Labelled;
+}
+
+/// Question 15, answered by the proved engine.
+pub fn sound(table: &Table) -> bool {
+    // SAFETY: the function takes any table by value and keeps nothing.
+    unsafe { probe_sound(*table) == 1 }
+}
+
+/// The labels of the table's rules, by the proved engine.
+pub fn labels(table: &Table) -> Labelled {
+    // SAFETY: as above.
+    unsafe { probe_labels(*table) }
+}
+
+impl From<&RawTable> for Table {
+    fn from(raw: &RawTable) -> Table {
+        let rule = |r: &RawRule| Rule {
+            state: r.state,
+            head: r.head,
+            positives: r.positives,
+            negatives: r.negatives,
+            entries: r.entries,
+        };
+        let label = |l: &RawLabel| Label {
+            state: l.state,
+            depth: l.depth,
+            slot: l.slot,
+        };
+        Table {
+            rules: std::array::from_fn(|slot| rule(&raw.rules[slot])),
+            labels: std::array::from_fn(|atom| label(&raw.labels[atom])),
+        }
+    }
+}

@@ -1,0 +1,86 @@
+//! The tables that are timed.
+
+use crate::boundary::Table;
+use oracle::generate::table_of;
+use oracle::limits::SLOTS;
+use oracle::loops::has_loop_through_negation;
+use oracle::random::Random;
+use oracle::rules::{Program, Rule};
+
+fn rule(head: u32, positives: &[u32], negatives: &[u32]) -> Rule {
+    Rule {
+        head,
+        positives: positives.to_vec(),
+        negatives: negatives.to_vec(),
+    }
+}
+
+fn program(rules: Vec<Rule>) -> Program {
+    let mut slots: Program = rules.into_iter().map(Some).collect();
+    slots.resize(SLOTS, None);
+    slots
+}
+
+/// Each atom from the one before; the fact stands in the lowest slot, or in the highest.
+fn chain(length: u32, ascending: bool) -> Program {
+    let mut rules = vec![rule(0, &[], &[])];
+    rules.extend((1..length).map(|a| rule(a, &[a - 1], &[])));
+    if !ascending {
+        rules.reverse();
+    }
+    program(rules)
+}
+
+/// Atom groups of five, each group above the one before by a negation.
+fn strata(count: u32) -> Program {
+    let mut rules = Vec::new();
+    for k in 0..count {
+        let base = 5 * k;
+        let below: Vec<u32> = if k == 0 { vec![] } else { vec![base - 1] };
+        rules.push(rule(base, &[], &below));
+        rules.extend((1..5).map(|i| rule(base + i, &[base + i - 1], &[])));
+    }
+    program(rules)
+}
+
+/// Random rules with this many entries each; entries mostly below the head, so that most are accepted.
+fn random(seed: u64, count: usize, entries: usize) -> Program {
+    let mut random = Random::seeded(seed);
+    let mut slots: Program = vec![None; SLOTS];
+    let mut filled = 0;
+    while filled < count {
+        let head = random.below(250) as u32 + 4;
+        let mut list: Vec<u32> = Vec::new();
+        while list.len() < entries.min(head as usize) {
+            let x = random.below(head as usize) as u32;
+            if !list.contains(&x) {
+                list.push(x);
+            }
+        }
+        let cut = random.below(list.len() + 1);
+        let new = rule(head, &list[cut..], &list[..cut]);
+        if slots.iter().flatten().any(|old| *old == new) {
+            continue;
+        }
+        slots[filled] = Some(new);
+        filled += 1;
+    }
+    assert!(!has_loop_through_negation(&slots));
+    slots
+}
+
+/// The shapes by name.
+pub fn all() -> Vec<(&'static str, Table)> {
+    let shapes = vec![
+        ("chain of 200, ascending", chain(200, true)),
+        ("chain of 200, descending", chain(200, false)),
+        ("30 strata", strata(30)),
+        ("random, 175 rules", random(1, 175, 3)),
+        ("full, 256 rules", random(2, 256, 3)),
+        ("dense, 255 rules of 8 entries", random(3, 255, 8)),
+    ];
+    shapes
+        .into_iter()
+        .map(|(name, p)| (name, Table::from(&table_of(p))))
+        .collect()
+}

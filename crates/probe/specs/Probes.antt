@@ -1,0 +1,33 @@
+-- What the probes answer: the engine's contracts as numbers. Assumes nothing.
+use Prim.Native.Nat.{ℕ, _<_}
+use mathlib.Core.Path.{_≡_}
+use mathlib.Core.Logic.{_↔_}
+use lib.ListN.{getD}
+use Rattle.theory.specs.Models.{AtomSet}
+use Rattle.theory.specs.Dependencies.{NegativeCycle}
+use Rattle.theory.specs.Tables.{document}
+use Rattle.table.specs.declared.Table.{Table}
+use Rattle.table.specs.Rules.{programOf, pastRule}
+use Rattle.table.specs.Clean.{WellFormed}
+use Rattle.table.specs.Sound.{Sound}
+use Rattle.sound.specs.Slots.{Single}
+use Rattle.labels.specs.Labelling.{Labels}
+use Rattle.probe.specs.declared.Relabelled.{Relabelled}
+
+-- 1 for a sound table, 0 for any other.
+pub data SoundProbe (t : Table) : ℕ → Type 0 where
+  is-sound : Sound t → SoundProbe t 1
+  is-not : (Sound t → ⊥) → SoundProbe t 0
+
+-- The rules are sound by themselves: each slot well formed, no two rules the same.
+pub record RulesFit (t : Table) : Type 0 where
+  pub slots : (s : ℕ) → s < document .slots → WellFormed (getD (t .rules) s pastRule)
+  pub single : Single (programOf (t .rules))
+
+-- The table with the labels of its rules; or as it came, where they do not fit (15) or have a negative cycle (7).
+pub data LabelsProbe (t : Table) : Relabelled → Type 0 where
+  unfit : (RulesFit t → ⊥) → LabelsProbe t (record { refused = 15; table = t })
+  cyclic : RulesFit t → NegativeCycle (programOf (t .rules)) → LabelsProbe t (record { refused = 7; table = t })
+  labelled :
+      (M : AtomSet) (u : Table) → RulesFit t → u .rules ≡ t .rules → Labels (programOf (u .rules)) M (u .labels)
+      → LabelsProbe t (record { refused = 0; table = u })

@@ -1,0 +1,62 @@
+// The engine's phases, exported for comparison runs and benchmarks. Not part of the library's interface.
+use labels::labels_of;
+use sound::slots::no_two_same;
+use sound::slots::slots_well_formed;
+use sound::sound;
+use table::Table;
+ghost use mathlib.Core.Path.{_≡_};
+ghost use Rattle.probe.specs.Probes.{SoundProbe, LabelsProbe};
+
+// The table with the labels that its rules give, or as it came: `refused` is 0, or the number of the question that the
+// rules answer no (15 or 7).
+#[repr(C)]
+pub struct Relabelled {
+    pub refused: u32,
+    pub table: Table,
+}
+
+// Question 15: 1 for yes, 0 for no.
+#[no_mangle]
+pub extern "C" fn probe_sound(table: Table) -> u32
+    ensures { λ r. ⌜ SoundProbe table r ⌝ }
+{
+    if sound(table) {
+        return 1;
+    }
+    0
+}
+
+// The labels of the table's rules, where these are sound by themselves.
+#[no_mangle]
+pub extern "C" fn probe_labels(table: Table) -> Relabelled
+    ensures { λ r. ⌜ LabelsProbe table r ⌝ }
+{
+    let rules = table.rules;
+    if !slots_well_formed(rules) {
+        return Relabelled {
+            refused: 15,
+            table: table,
+        };
+    }
+    if !no_two_same(rules) {
+        return Relabelled {
+            refused: 15,
+            table: table,
+        };
+    }
+    let l = labels_of(rules);
+    let labels = l.labels;
+    if !l.acyclic {
+        return Relabelled {
+            refused: 7,
+            table: table,
+        };
+    }
+    Relabelled {
+        refused: 0,
+        table: Table {
+            rules: rules,
+            labels: labels,
+        },
+    }
+}

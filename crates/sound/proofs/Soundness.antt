@@ -1,0 +1,182 @@
+-- What the passes test is what soundness asks, both ways. Assumes nothing.
+use Prim.Native.Nat.{ℕ, _≤_, _<_}
+use native.Mathlib.Omega.{arith}
+use mathlib.Core.Path.{_≡_, refl, sym, _∙_, ap, subst}
+use mathlib.Core.Logic.{⊎-elim}
+use mathlib.Core.Bool.{Bool, true, false}
+use mathlib.Core.List.{List, _∷_, List·Memᴰ·head, List·Memᴰ·cases-cons}
+use mathlib.Core.Option.{Option, none, some, Option·none-ne-some}
+use lib.Dec.{ltb}
+use lib.ListN.{length, getD, length-map, List·getD-eq-default}
+use Rattle.theory.specs.Lists.{_∈_, every}
+use Rattle.theory.specs.Rules.{Rule, Program, Held, Occurs, Bounded, entries}
+use Rattle.theory.specs.Dependencies.{NegativeCycle}
+use Rattle.theory.specs.Labels.{Label, absent, out, in-at, Labelled, is-absent}
+use Rattle.theory.specs.Questions.{Limits, Question, first-no, rule-questions, is-in-label}
+use Rattle.theory.specs.Tables.{document}
+use Rattle.theory.proofs.Lists.{test, ltb-lt, every-at, le-or-lt}
+use Rattle.theory.proofs.Certificate.{Certified, certified-admissible, certified-labels, labels-certified}
+use Rattle.theory.proofs.Certificate.{kept-in, kept-depth, depth-in}
+use Rattle.table.specs.declared.Table.{Table}
+use Rattle.table.specs.Rules.{programOf, pastRule}
+use Rattle.table.specs.Labels.{labelAt, labelOf, absentLabel}
+use Rattle.table.specs.Clean.{WellFormed, CleanLabel}
+use Rattle.table.specs.Sound.{Sound}
+use Rattle.sound.specs.Slots.{Single}
+use Rattle.sound.specs.Certificate.{slot-in, Supported, OccurrenceKept}
+use Rattle.sound.proofs.Passes.{slot-at}
+
+-- Where no question is answered no, the first is answered yes, and none of the rest is answered no.
+all-yes : (q : Question) (qs : List Question) → first-no (q ∷ qs) ≡ none → (q .yes? ≡ true) × (first-no qs ≡ none)
+unfolding first-no
+all-yes q qs e = ⊎-elim
+    (λ (t : q .yes? ≡ true). (t, sym (ap answer t) ∙ e))
+    (λ (t : q .yes? ≡ false). absurd (Option·none-ne-some (q .number) (sym e ∙ ap answer t)))
+    (test (q .yes?))
+  where
+    answer : Bool → Option ℕ
+    answer b = elim b [ true ↦ first-no qs | false ↦ some (q .number) ]
+
+-- Rules that pass questions 1 and 3 name only atoms below the limit.
+pub bounded-of :
+    (limits : Limits) (P : Program)
+    → ((s : ℕ) (r : Rule) → Held P s r → first-no (rule-questions limits r) ≡ none) → Bounded P (limits .atoms)
+bounded-of limits P f s r h x m =
+    let one = all-yes _ _ (f s r h) in
+    let two = all-yes _ _ (one .1) in
+    let three = all-yes _ _ (two .1) in
+    ⊎-elim
+    (λ (e : x ≡ r .head). (let l = ltb-lt (r .head) (limits .atoms) (one .0) in omega arith))
+    (λ (i : x ∈ entries r). ltb-lt x (limits .atoms)
+    (every-at (λ y. ltb y (limits .atoms)) (entries r) (three .0) x i))
+    (List·Memᴰ·cases-cons m)
+
+-- The local conditions, slot by slot and atom by atom.
+module _ (P : Program) (label : ℕ → Label) where
+  abbrev pub Kept : Type 0
+  Kept = Supported P (kept-in label) (kept-depth label) (λ a. slot-in (label a))
+
+  in-is : (l : Label) → is-in-label l ≡ true → l ≡ in-at (depth-in l) (slot-in l)
+  in-is absent t = absurd (let y : _≡_ {A = ℕ} 0 1 = cc in omega arith)
+  in-is out t = absurd (let y : _≡_ {A = ℕ} 0 1 = cc in omega arith)
+  in-is (in-at d s) t = refl
+
+  -- Certified labels agree with every slot, and each in atom is backed.
+  pub certified-kept : Certified P label → Kept
+  certified-kept C = record {
+    agrees = λ i. record {
+      closed = C .closed i;
+      least = C .least i;
+      lowest = λ r h v e. ⊎-elim
+          (λ (l : slot-in (label (r .head)) ≤ i). l)
+          (λ (l : i < slot-in (label (r .head))).
+          absurd (C .lowest (r .head) _ _ (in-is (label (r .head)) (C .closed i r h v)) i l r h refl v e))
+          (le-or-lt (slot-in (label (r .head))) i);
+    };
+    backed = λ a t. (
+        let w = C .supported a _ _ (in-is (label a) t) in
+        record { rule = w .0; held = w .1; heads = w .2; good = w .3; deep = w .4 });
+  }
+
+  pub certified-occurrence : Certified P label → OccurrenceKept P label
+  certified-occurrence C a = ((λ o e. C .absent-missing a e o), go (label a) refl)
+    where
+      go : (l : Label) → label a ≡ l → (label a ≡ absent → ⊥) → Occurs P a
+      go absent e f = absurd (f e)
+      go out e f = C .out-occurs a e
+      go (in-at d s) e f =
+          let w = C .supported a d s e in
+          record { slot = s; rule = w .0; held = w .1; there = List·Memᴰ·head (sym (w .2)) }
+
+  -- And back.
+  pub kept-certified : Kept → OccurrenceKept P label → Certified P label
+  kept-certified K O = record {
+    closed = λ s. K .agrees s .closed;
+    least = λ s. K .agrees s .least;
+    supported = λ a d s e. (
+        let w = K .backed a (ap is-in-label e) in
+        let held : Held P s (w .rule) = subst (λ (t : ℕ). Held P t (w .rule)) (ap slot-in e) (w .held) in
+        (w .rule, held, w .heads, w .good, w .deep ∙ ap depth-in e));
+    lowest = λ a d s e t l r h q v z. (
+        let k : depth-in (label (r .head)) ≡ d = ap (λ x. depth-in (label x)) q ∙ ap depth-in e in
+        let u : slot-in (label (r .head)) ≤ t = K .agrees t .lowest r h v (z ∙ sym k) in
+        let y : slot-in (label (r .head)) ≡ s = ap (λ x. slot-in (label x)) q ∙ ap slot-in e in
+        omega arith);
+    out-occurs = λ a e. O a .1 (λ z. (let y : _≡_ {A = ℕ} 0 1 = cc in omega arith));
+    absent-missing = λ a e o. O a .0 o e;
+  }
+
+-- A table of the document's size.
+module _ (t : Table) (slots : length (t .rules) ≡ document .slots) (atoms : length (t .labels) ≡ document .atoms) where
+  abbrev P : Program
+  P = programOf (t .rules)
+
+  abbrev label : ℕ → Label
+  label = labelAt (t .labels)
+
+  abbrev pub WellFormedSlots : Type 0
+  WellFormedSlots = (s : ℕ) → s < document .slots → WellFormed (getD (t .rules) s pastRule)
+
+  abbrev pub CleanLabels : Type 0
+  CleanLabels = (a : ℕ) → a < document .atoms → CleanLabel (getD (t .labels) a absentLabel)
+
+  held-low : (s : ℕ) (r : Rule) → Held P s r → s < document .slots
+  held-low s r h = ⊎-elim
+      (λ (l : document .slots ≤ s). absurd (Option·none-ne-some r
+      (sym (List·getD-eq-default P none (simp length-map (omega arith))) ∙ h)))
+      (λ (l : s < document .slots). l)
+      (le-or-lt (document .slots) s)
+
+  well-formed-passes :
+      WellFormedSlots → (s : ℕ) (r : Rule) → Held P s r → first-no (rule-questions document r) ≡ none
+  well-formed-passes W s r h = W s (held-low s r h) .passes r (sym (slot-at (t .rules) s) ∙ h)
+
+  pub well-formed-bounded : WellFormedSlots → Bounded P (document .atoms)
+  well-formed-bounded W = bounded-of document P (well-formed-passes W)
+
+  -- What a sound table has.
+  module _ (S : Sound t) where
+    pub sound-well-formed : WellFormedSlots
+    sound-well-formed s l = record {
+      clean = S .clean .rules s l;
+      passes = λ q e. S .labels .passes s q (slot-at (t .rules) s ∙ e);
+    }
+
+    -- every label is the defined one: past the end it is absent, and no atom there occurs
+    all-labelled : (a : ℕ) → Labelled P (S .labels .model) a (label a)
+    all-labelled a = ⊎-elim
+        (λ (l : document .atoms ≤ a). (
+        let e : label a ≡ absent = ap labelOf (List·getD-eq-default (t .labels) absentLabel (omega arith)) in
+        subst (λ (z : Label). Labelled P (S .labels .model) a z) (sym e)
+        (is-absent (λ o. (
+        let k = bounded-of document P (S .labels .passes) (o .slot) (o .rule) (o .held) a (o .there) in
+        omega arith)))))
+        (λ (l : a < document .atoms). S .labels .labels a l)
+        (le-or-lt (document .atoms) a)
+
+    sound-certified : Certified P label
+    sound-certified = labels-certified P (S .labels .model) label (S .labels .admissible) all-labelled
+
+    pub sound-kept : Kept P label
+    sound-kept = certified-kept P label sound-certified
+
+    pub sound-occurrence : OccurrenceKept P label
+    sound-occurrence = certified-occurrence P label sound-certified
+
+  -- And what makes a table sound.
+  pub sound-of :
+      WellFormedSlots → CleanLabels → Kept P label → OccurrenceKept P label → Single P → (NegativeCycle P → ⊥) → Sound t
+  sound-of W L K O U A =
+      let C = kept-certified P label K O in
+      record {
+        labels = record {
+          slots = simp length-map (slots);
+          passes = well-formed-passes W;
+          single = U;
+          acyclic = A;
+          model = kept-in label;
+          admissible = certified-admissible P label C;
+          labels = λ a l. certified-labels P label C a;
+        };
+        clean = record { rules = λ s l. W s l .clean; labels = L };
+      }

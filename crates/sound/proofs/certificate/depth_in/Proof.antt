@@ -1,0 +1,15 @@
+-- `sound::certificate::depth_in` meets its contract. Assumes nothing.
+use mathlib.Core.Path.{refl, sym, ap}
+use Rattle.theory.proofs.Certificate.{depth-in}
+use Rattle.sound.proofs.Apart.{label-is-in, label-not-in}
+use Rattle.sound.proofs.certificate.depth_in.Statement.{statement}
+use Rattle.sound.proofs.certificate.depth_in.Tie as tie
+
+returns : tie.Need-returns
+returns c = sym (ap depth-in (label-is-in (c .before .before .args .label) (c .if1 .taken)))
+
+returns-2 : tie.Need-returns-2
+returns-2 c = sym (label-not-in (c .before .before .args .label) depth-in 0 refl refl (c .if1 .left))
+
+pub depth-in-spec : {M : Type 1} → statement M
+depth-in-spec = tie.close (tie.spec returns returns-2)

@@ -1,0 +1,10 @@
+-- `sound::certificate::is_in` meets its contract. Assumes nothing.
+use Rattle.sound.proofs.Apart.{in-test}
+use Rattle.sound.proofs.certificate.is_in.Statement.{statement}
+use Rattle.sound.proofs.certificate.is_in.Tie as tie
+
+returns : tie.Need-returns
+returns c = in-test (c .before .args .label)
+
+pub is-in-spec : {M : Type 1} → statement M
+is-in-spec = tie.close (tie.spec returns)

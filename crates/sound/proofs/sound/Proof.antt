@@ -1,0 +1,127 @@
+-- `sound::sound` meets its contract. Assumes nothing.
+use Prim.Native.Nat.{ℕ, _<_}
+use mathlib.Core.Path.{_≡_}
+use lib.ListN.{length, length-map, getD}
+use Rattle.theory.specs.Tables.{document}
+use Rattle.table.specs.Rules.{pastRule}
+use Rattle.table.specs.Clean.{WellFormed}
+use Rattle.table.proofs.Cleanness.{is-not}
+use Rattle.sound.proofs.Passes.{refused, granted}
+use Rattle.sound.proofs.Soundness.{sound-well-formed, sound-kept, sound-occurrence, sound-of}
+use Rattle.sound.proofs.Soundness.{well-formed-bounded}
+use borrow.Author.Needs.{needs}
+use Rattle.sound.proofs.sound.Statement.{statement}
+use Rattle.sound.proofs.sound.Tie as tie
+
+-- what owning the table tells of its arrays
+rules-long : (s : tie.Start) → length (s .args .table .rules) ≡ document .slots
+rules-long s = simp length-map at (s .good .0 .1 .1 .0 .1 .0 .1)
+
+labels-long : (s : tie.Start) → length (s .args .table .labels) ≡ document .atoms
+labels-long s = simp length-map at (s .good .0 .1 .1 .1 .0 .1 .0 .1)
+
+-- what the first test tells
+well :
+    (c : tie.Else1) → (s : ℕ) → s < document .slots
+    → WellFormed (getD (c .before .before .before .before .args .table .rules) s pastRule)
+well c = granted _ (c .before .slots-well-formed .ensures) (c .if1 .left)
+
+slots-well-formed-requires : tie.Need-slots-well-formed-requires
+slots-well-formed-requires c κs = search needs
+
+returns : tie.Need-returns
+returns c =
+    let s = c .before .before .before .before in
+    let n = rules-long s in
+    let m = labels-long s in
+    let t = s .args .table in
+    is-not (λ S. refused _ (c .before .slots-well-formed .ensures) (c .if1 .taken) (sound-well-formed t n m S))
+
+labels-clean-requires : tie.Need-labels-clean-requires
+labels-clean-requires c κs = search needs
+
+returns-2 : tie.Need-returns-2
+returns-2 c = is-not (λ S. refused _ (c .before .labels-clean .ensures) (c .if2 .taken) (S .clean .labels))
+
+certified-requires : tie.Need-certified-requires
+certified-requires c κs = search needs
+
+returns-3 : tie.Need-returns-3
+returns-3 c =
+    let s = c .before .before .before .before .before .before .before .before in
+    let n = rules-long s in
+    let m = labels-long s in
+    let t = s .args .table in
+    is-not (λ S. refused _ (c .before .certified .ensures) (c .if3 .taken) (sound-kept t n m S))
+
+occurrence-kept-requires : tie.Need-occurrence-kept-requires
+occurrence-kept-requires c κs =
+    let s = c .before .before .before .before .before .before .before .before in
+    let n = rules-long s in
+    let m = labels-long s in
+    let t = s .args .table in
+    well-formed-bounded t n m (well (c .before .before .before .before))
+
+returns-4 : tie.Need-returns-4
+returns-4 c =
+    let s = c .before .before .before .before .before .before .before .before .before .before in
+    let n = rules-long s in
+    let m = labels-long s in
+    let t = s .args .table in
+    is-not (λ S. refused _ (c .before .occurrence-kept .ensures) (c .if4 .taken) (sound-occurrence t n m S))
+
+no-two-same-requires : tie.Need-no-two-same-requires
+no-two-same-requires c κs =
+    let s = c .before .before .before .before .before .before .before .before .before .before in
+    let n = rules-long s in
+    let m = labels-long s in
+    let t = s .args .table in
+    well-formed-bounded t n m (well (c .before .before .before .before .before .before))
+
+returns-5 : tie.Need-returns-5
+returns-5 c = is-not (λ S. refused _ (c .before .no-two-same .ensures) (c .if5 .taken) (S .labels .single))
+
+acyclic-requires : tie.Need-acyclic-requires
+acyclic-requires c κs =
+    let s = c .before .before .before .before .before .before .before .before .before .before .before .before in
+    let n = rules-long s in
+    let m = labels-long s in
+    let t = s .args .table in
+    well-formed-bounded t n m (well (c .before .before .before .before .before .before .before .before))
+
+returns-6 : tie.Need-returns-6
+returns-6 c =
+    let s = c .before .before .before .before .before .before .before .before .before .before .before .before .before in
+    let n = rules-long s in
+    let m = labels-long s in
+    let t = s .args .table in
+    let same = c .before in
+    let occurs = c .before .before .before in
+    let kept = c .before .before .before .before .before in
+    let clean = c .before .before .before .before .before .before .before in (
+      λ u. sound-of t n m
+          (well (c .before .before .before .before .before .before .before .before .before))
+          (granted _ (clean .before .labels-clean .ensures) (clean .if2 .left))
+          (granted _ (kept .before .certified .ensures) (kept .if3 .left))
+          (granted _ (occurs .before .occurrence-kept .ensures) (occurs .if4 .left))
+          (granted _ (same .before .no-two-same .ensures) (same .if5 .left))
+          (c .acyclic .ensures .0 u),
+      λ S. c .acyclic .ensures .1 (S .labels .acyclic),
+    )
+
+pub sound-spec : {M : Type 1} → statement M
+sound-spec =
+    tie.close
+    (tie.spec
+    slots-well-formed-requires
+    returns
+    labels-clean-requires
+    returns-2
+    certified-requires
+    returns-3
+    occurrence-kept-requires
+    returns-4
+    no-two-same-requires
+    returns-5
+    acyclic-requires
+    returns-6)
