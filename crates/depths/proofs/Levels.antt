@@ -4,26 +4,28 @@ use Prim.Native.Nat.{ℕ, zero, suc, _+_, _≤_, _<_}
 use native.Mathlib.Omega.{arith}
 use native.Mathlib.Decide.{ℕ-discrete}
 use mathlib.Core.Path.{_≡_, refl, sym, _∙_, ap, subst, fun-ext}
-use mathlib.Core.Bool.{Bool, true, false, _&&_, _||_, true≢false}
+use mathlib.Core.Bool.{Bool, true, false, true≢false}
 use mathlib.Core.Logic.{inl, inr}
 use mathlib.Core.List.{List, [], _∷_, List·Memᴰ·head, List·Memᴰ·tail}
 use mathlib.Core.Option.{Option, none, some}
-use lib.Dec.{eqb}
 use lib.ListN.{length, getD, set, replicate, length-set, length-replicate}
 use lib.Seq.{getD-set-same, getD-set-other}
 use Rattle.theory.specs.Lists.{_∈_}
 use Rattle.theory.specs.Rules.{Rule, Program, Held, Bounded}
 use Rattle.theory.specs.Models.{AtomSet, valid, Admissible}
 use Rattle.theory.specs.Derivations.{Depth}
-use Rattle.theory.proofs.Lists.{and-l, and-r, and-of, clash, eqb-eq, eqb-of, le-or-lt, or-cases, or-false-l, or-false-r, test}
+use Rattle.theory.proofs.Lists.{clash, le-or-lt}
 use Rattle.theory.proofs.Rules.{held-unique}
 use Rattle.theory.proofs.Derivations.{last}
 use Rattle.theory.proofs.Depths.{Levels, level-start, level-mark, level-up, level-end, Swept, derived-in, depth-count}
 use Rattle.theory.proofs.Depths as theory
+use Rattle.table.specs.declared.Rule as table
+use Rattle.table.specs.Rules.{programOf, slotOf, pastRule}
 use Rattle.table.specs.Sets.{number}
+use Rattle.table.proofs.Programs.{program-at}
 use Rattle.depths.specs.Numbers.{DepthsOf}
-use Rattle.depths.specs.Passes.{ready, Visited}
-use Rattle.depths.proofs.Slots.{blank, Ready, ready-at, ready-of, held-below}
+use Rattle.depths.specs.Passes.{ready}
+use Rattle.depths.proofs.Slots.{blank, slot-head, Ready, ready-at, ready-of, held-below}
 
 -- The levels below this one are done.
 pub record Reached (P : Program) (M : AtomSet) (n level : ℕ) (d : List ℕ) : Type 0 where
@@ -79,12 +81,26 @@ pass-start P M n level d true g W = record {
 }
 
 -- The next slot of a level.
-module _ (P : Program) (M : AtomSet) (n : ℕ) (B : Bounded P n) (level i : ℕ) (o : Option Rule) (h : ℕ)
-    (here : getD P i none ≡ o) (heads : (r : Rule) → o ≡ some r → r .head ≡ h) (d : List ℕ) (t : Bool)
-    (W : Pass P M n level i d t) where
-  -- it adds none
-  kept : false ≡ (eqb (number d h) 0 && ready M (number d) level o) → Pass P M n level (i + 1) d (t || false)
-  kept e = record {
+module _ (rules : List table.Rule) (M : AtomSet) (n : ℕ) (B : Bounded (programOf rules) n) (level i : ℕ) (d : List ℕ)
+    (t : Bool) (W : Pass (programOf rules) M n level i d t) where
+  abbrev P : Program
+  P = programOf rules
+
+  abbrev o : Option Rule
+  o = slotOf (getD rules i pastRule)
+
+  abbrev h : ℕ
+  h = getD rules i pastRule .head .0
+
+  here : getD P i none ≡ o
+  here = program-at rules i
+
+  heads : (r : Rule) → o ≡ some r → r .head ≡ h
+  heads = slot-head (getD rules i pastRule)
+
+  -- it adds none: its head has a depth, or it is not ready
+  pub pass-over : (number d h ≡ 0 → ready M (number d) level o ≡ false) → Pass P M n level (i + 1) d t
+  pass-over idle = record {
     reached = W .reached;
     low = W .low;
     swept = λ s r l held v R. elim (le-or-lt i s) [
@@ -95,25 +111,24 @@ module _ (P : Program) (M : AtomSet) (n : ℕ) (B : Bounded P n) (level i : ℕ)
           elim (le-or-lt (number d (r .head)) 0) [
             | inr z ↦ z
             | inl z ↦ absurd (clash
-                (and-of _ _ (eqb-of (number d h) 0 (let y = ap (number d) (heads r held′) in omega arith))
                 (ready-of M (number d) level o
                 (record {
                   rule = r;
                   held = held′;
                   good = v;
                   under = λ p m. (R p m .0, omega (arith, R p m .1, W .reached .is));
-                })))
-                (sym e))
+                }))
+                (idle (let y = ap (number d) (heads r held′) in omega arith)))
           ])
     ];
-    quiet = λ q. W .quiet (or-false-l t false q);
-    new = λ q. elim (or-cases t false q) [ inl p ↦ W .new p | inr p ↦ absurd (true≢false (sym p)) ];
+    quiet = W .quiet;
+    new = W .new;
   }
 
   -- it adds its head
-  module _ (e : true ≡ (eqb (number d h) 0 && ready M (number d) level o)) where
+  module _ (fresh : number d h ≡ 0) (e : ready M (number d) level o ≡ true) where
     R : Ready M (number d) level o
-    R = ready-at M (number d) level o (and-r (eqb (number d h) 0) (ready M (number d) level o) (sym e))
+    R = ready-at M (number d) level o e
 
     held : Held P i (R .rule)
     held = here ∙ R .held
@@ -124,9 +139,6 @@ module _ (P : Program) (M : AtomSet) (n : ℕ) (B : Bounded P n) (level i : ℕ)
     inside : h < length d
     inside = (let l = B i (R .rule) held (R .rule .head) (List·Memᴰ·head refl) in
         omega (arith, l, head-is, W .reached .long))
-
-    fresh : number d h ≡ 0
-    fresh = eqb-eq _ _ (and-l (eqb (number d h) 0) (ready M (number d) level o) (sym e))
 
     after : List ℕ
     after = set d h level
@@ -153,7 +165,7 @@ module _ (P : Program) (M : AtomSet) (n : ℕ) (B : Bounded P n) (level i : ℕ)
       | no q ↦ omega (arith, off x q)
     ]
 
-    added : Pass P M n level (i + 1) after (t || true)
+    added : Pass P M n level (i + 1) after true
     unfolding after
     added = let k = W .reached .done in record {
       reached = record {
@@ -177,14 +189,13 @@ module _ (P : Program) (M : AtomSet) (n : ℕ) (B : Bounded P n) (level i : ℕ)
             let low = W .reached .is in
             omega (arith, ap (λ (z : Rule). number after (z .head)) same, ap (number after) head-is, at, low))
       ];
-      quiet = λ q. absurd (true≢false (or-false-r t true q));
+      quiet = λ q. absurd (true≢false q);
       new = λ q. (h, at);
     }
 
-  pub pass-next : (e : List ℕ) (u : Bool) → Visited M level o h d e u → Pass P M n level (i + 1) e (t || u)
-  unfolding after
-  pass-next e true G = rw (G .left) (added (G .test))
-  pass-next e false G = rw (G .left) (kept (G .test))
+    pub pass-add : (l : List ℕ) → l ≡ set d h level → Pass P M n level (i + 1) l true
+    unfolding after
+    pass-add l is = rw is added
 
 -- The atoms below n.
 upto : ℕ → List ℕ

@@ -6,17 +6,17 @@ use mathlib.Core.Bool.{Bool, true, false, not, _&&_, true≢false}
 use mathlib.Core.Logic.{inl, inr}
 use mathlib.Core.List.{List}
 use mathlib.Core.Option.{Option, none, some, Option·none-ne-some}
-use lib.Dec.{eqb, ltb}
+use lib.Dec.{ltb}
 use lib.ListN.{length, getD, set, replicate, length-replicate, getD-replicate, List·getD-eq-default}
 use Rattle.theory.specs.Lists.{_∈_, every}
 use Rattle.theory.specs.Rules.{Rule, Program, Held, passes}
 use Rattle.theory.specs.Models.{AtomSet, valid}
-use Rattle.theory.proofs.Lists.{and-l, and-r, and-of, eqb-not, eqb-of, every-at, every-of, le-or-lt, ltb-lt, lt-ltb, unless}
+use Rattle.theory.proofs.Lists.{and-l, and-r, and-of, every-at, every-of, le-or-lt, ltb-lt, lt-ltb, unless}
 use Rattle.table.specs.declared.Rule as table
 use Rattle.table.specs.Rules.{slotOf, ruleOf}
-use Rattle.table.specs.Sets.{member, number}
+use Rattle.table.specs.Sets.{member}
 use Rattle.table.proofs.Programs.{slot-free, slot-held, slot-rule}
-use Rattle.depths.specs.Passes.{within, ready, put-if, Visited, claims, Claimed}
+use Rattle.depths.specs.Passes.{within, ready, put-if, claims, Claimed}
 
 -- An array that has v in every place reads v everywhere, past its end too.
 pub blank : {A : Type 0} (n a : ℕ) (v : A) → getD (replicate n v) a v ≡ v
@@ -101,25 +101,6 @@ module _ (M : AtomSet) (d : ℕ → ℕ) (limit : ℕ) (r : table.Rule) where
     pub ready-valid :
         every (within d limit) (ruleOf r .positives) ≡ true → valid M (ruleOf r) ≡ ready M d limit (slotOf r)
     ready-valid e = sym (ready-held ∙ ap (λ z. z && valid M (ruleOf r)) e)
-
--- A slot in the pass of a level.
-module _ (M : AtomSet) (k : ℕ) (o : Option Rule) (a : ℕ) (d : List ℕ) where
-  pub visited-deep : (number d a ≡ 0 → ⊥) → Visited M k o a d d false
-  visited-deep n = record {
-    test = sym (ap (λ z. z && ready M (number d) k o) (eqb-not (number d a) 0 n));
-    left = refl;
-  }
-
-  -- a has no depth yet: it gets one if the slot is ready
-  visited-test : number d a ≡ 0 → (eqb (number d a) 0 && ready M (number d) k o) ≡ ready M (number d) k o
-  visited-test z = ap (λ t. t && ready M (number d) k o) (eqb-of (number d a) 0 z)
-
-  pub visited-not : number d a ≡ 0 → ready M (number d) k o ≡ false → Visited M k o a d d false
-  visited-not z e = record { test = sym (visited-test z ∙ e); left = refl }
-
-  pub visited-new :
-      number d a ≡ 0 → ready M (number d) k o ≡ true → (e : List ℕ) → e ≡ set d a k → Visited M k o a d e true
-  visited-new z e l f = record { test = sym (visited-test z ∙ e); left = f }
 
 -- A slot in the pass for supporting slots.
 module _ (M : AtomSet) (d : ℕ → ℕ) (s : ℕ) (o : Option Rule) (a : ℕ) (found : List Bool) (slots : List ℕ) where

@@ -9,7 +9,7 @@ use lib.ListN.{length, set}
 use Rattle.theory.specs.Lists.{every, any}
 use Rattle.theory.specs.Rules.{Rule, passes, entries}
 use Rattle.theory.specs.Models.{AtomSet, valid}
-use Rattle.table.specs.Sets.{member, number}
+use Rattle.table.specs.Sets.{member}
 
 -- x has a depth, and one below the limit: 0 stands for an atom that has none.
 abbrev pub within : (ℕ → ℕ) → ℕ → ℕ → Bool
@@ -23,12 +23,6 @@ ready M d limit o = passes (λ r. every (within d limit) (r .positives) && valid
 abbrev pub put-if : {A : Type 0} → Bool → ℕ → A → List A → List A
 put-if true a v l = set l a v
 put-if false a v l = l
-
--- A slot o with head a, in the pass of level k over the depths d: if a has no depth and the slot is ready, a gets k.
--- t says whether it did.
-pub record Visited (M : AtomSet) (k : ℕ) (o : Option Rule) (a : ℕ) (d e : List ℕ) (t : Bool) : Type 0 where
-  pub test : t ≡ (eqb (number d a) 0 && ready M (number d) k o)
-  pub left : e ≡ put-if t a k d
 
 -- Slot s, which is o with head a, in the pass for supporting slots: if none was found for a and the slot is ready for
 -- a's depth, it is a's supporting slot.

@@ -1,4 +1,5 @@
 // Depths level by level, supporting slots, and which atoms occur.
+use table::Atom;
 use table::Rule;
 use table::Table;
 use table::rules::negative_end;
@@ -9,7 +10,6 @@ use table::sets::mark;
 use table::sets::number_of;
 use table::sets::set_number;
 ghost use mathlib.Core.Path.{_≡_};
-ghost use Prim.Native.Nat.{ℕ};
 ghost use Rattle.theory.specs.Lists.{every};
 ghost use Rattle.theory.specs.Rules.{Bounded, entries};
 ghost use Rattle.theory.specs.Models.{Admissible};
@@ -17,7 +17,7 @@ ghost use Rattle.theory.specs.Tables.{document};
 ghost use Rattle.table.specs.Sets.{member, number};
 ghost use Rattle.table.specs.Rules.{programOf, slotOf, ruleOf};
 ghost use Rattle.depths.specs.Numbers.{DepthsOf, SupportsOf, OccurringIn};
-ghost use Rattle.depths.specs.Passes.{within, ready, Visited, Claimed, atoms, Marked};
+ghost use Rattle.depths.specs.Passes.{within, ready, Claimed, atoms, Marked};
 
 // Has every positive entry of the rule a depth (not 0), and one below the limit?
 fn below(rule: Rule, depths: &[u16; Table::ATOMS], limit: u16) -> bool
@@ -52,28 +52,6 @@ fn ready(rule: Rule, model: &[bool; Table::ATOMS], depths: &[u16; Table::ATOMS],
     valid(rule, model)
 }
 
-// One slot of a level: a head that has no depth yet gets the level if its slot is ready. Did it?
-fn visit(
-    rule: Rule,
-    model: &[bool; Table::ATOMS],
-    depths: &mut [u16; Table::ATOMS],
-    level: u16,
-) -> bool
-    ensures { λ r. ⌜
-        Visited (member (now (model .entry))) level (slotOf rule) (rule .head .0)
-        (now (depths .entry)) (now (depths .exit)) r ⌝ }
-{
-    let head = rule.head;
-    if number_of(depths, head) != 0 {
-        return false;
-    }
-    if !ready(rule, model, depths, level) {
-        return false;
-    }
-    set_number(depths, head, level);
-    true
-}
-
 // The depth of each in atom, 0 for every other: level by level, up to the first level that adds none.
 pub fn depths(rules: [Rule; Table::SLOTS], model: &[bool; Table::ATOMS]) -> [u16; Table::ATOMS]
     requires { ⌜ Bounded (programOf rules) (document .atoms) × Admissible (programOf rules) (member (now model)) ⌝ }
@@ -84,12 +62,18 @@ pub fn depths(rules: [Rule; Table::SLOTS], model: &[bool; Table::ATOMS]) -> [u16
     let mut added = true;
     while added {
         added = false;
-        let mut i: usize = 0;
-        while i < Table::SLOTS {
+        for i in 0..Table::SLOTS {
+            // the head decides most visits: the rule is copied only if its head has no depth yet
+            let head = Atom(rules[i].head.0);
+            if number_of(&found, head) != 0 {
+                continue;
+            }
             let rule = rules[i];
-            let fresh = visit(rule, model, &mut found, level);
-            added = added | fresh;
-            i += 1;
+            if !ready(rule, model, &found, level) {
+                continue;
+            }
+            set_number(&mut found, head, level);
+            added = true;
         }
         level += 1;
     }

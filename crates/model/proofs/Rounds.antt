@@ -8,7 +8,6 @@ use mathlib.Core.List.{List, [], _∷_, List·Memᴰ·head}
 use mathlib.Core.Option.{none, some}
 use lib.ListN.{length, getD, replicate, length-replicate}
 use Rattle.theory.specs.Rules.{Program, Bounded}
-use Rattle.theory.specs.Rules as theory
 use Rattle.theory.specs.Models.{AtomSet, Admissible}
 use Rattle.theory.specs.Questions as questions
 use Rattle.theory.specs.Tables.{document}
@@ -23,8 +22,8 @@ use Rattle.table.specs.Sets.{member}
 use Rattle.table.proofs.Members.{all-alike}
 use Rattle.table.proofs.Programs.{program-at, program-length}
 use Rattle.model.specs.Model.{Stratification}
-use Rattle.model.specs.Rounds.{HeadBelow, Ready, Filling, Greatest}
-use Rattle.model.proofs.Visits.{Round}
+use Rattle.model.specs.Rounds.{Ready, Filling, Greatest}
+use Rattle.model.proofs.Visits.{HeadBelow, Round}
 
 -- No more rules than slots.
 pub few-rules : (P : Program) → length (questions.rules P) ≤ length P

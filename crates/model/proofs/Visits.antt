@@ -3,12 +3,13 @@ use Prim.Native.Nat.{ℕ, zero, suc, _+_, _≤_, _<_}
 use native.Mathlib.Omega.{arith}
 use native.Mathlib.Numerals.{add-one}
 use mathlib.Core.Path.{_≡_, refl, sym, _∙_, ap, ap₂, fun-ext}
-use mathlib.Core.Bool.{Bool, true, false, not, _&&_, _||_, or-assoc, or-false}
+use mathlib.Core.Bool.{Bool, true, false, not, _&&_, _||_, and-false, and-assoc, or-assoc, or-false, or-true}
 use mathlib.Core.List.{List}
 use mathlib.Core.Option.{Option, some}
 use lib.Dec.{eqb}
 use lib.ListN.{length, getD, set, drop, length-set, drop-of-length-le}
 use lib.Seq.{drop-cons}
+use Rattle.theory.specs.Rules.{passes}
 use Rattle.theory.specs.Rules as theory
 use Rattle.theory.specs.Models.{AtomSet, valid}
 use Rattle.theory.proofs.Lists.{clash, eqb-of, eqb-not}
@@ -18,59 +19,31 @@ use Rattle.table.specs.Rules.{ruleOf, held-in, slotOf, programOf, pastRule}
 use Rattle.table.specs.Sets.{member}
 use Rattle.table.proofs.Members.{mark-is}
 use Rattle.table.proofs.Programs.{slot-free, slot-held}
-use Rattle.model.specs.Rounds.{HeadBelow, Visited}
+use Rattle.model.specs.Rounds.{missing}
 
--- One slot: each test that fails keeps it from firing, and the last one decides.
-module _ (ℓ : ℕ → ℕ) (k : ℕ) (M : AtomSet) (rule : Rule) where
-  pub fires-free : rule .state ≡ 0 → false ≡ fires ℓ k M (slotOf rule)
-  unfolding fires
-  fires-free e = rw (slot-free rule e)
+-- An atom of another stratum is not missing; of one of the stratum k the set decides.
+module _ (stratum k : ℕ) (t : Bool) where
+  pub missing-other : (stratum ≡ k → ⊥) → false ≡ (eqb stratum k && t)
+  missing-other ne = sym (ap (λ b. b && t) (eqb-not stratum k ne))
 
-  module _ (held : rule .state ≡ 0 → ⊥) where
-    fires-is :
-        fires ℓ k M (slotOf rule)
-        ≡ (eqb (ℓ (rule .head .0)) k && (not (M (rule .head .0)) && valid M (ruleOf rule)))
-    unfolding fires
-    fires-is = rw (slot-held rule held)
+  pub missing-here : stratum ≡ k → t ≡ (eqb stratum k && t)
+  missing-here e = sym (ap (λ b. b && t) (eqb-of stratum k e))
 
-    pub fires-other : (ℓ (rule .head .0) ≡ k → ⊥) → false ≡ fires ℓ k M (slotOf rule)
-    fires-other ne = sym
-        (fires-is ∙ ap (λ b. b && (not (M (rule .head .0)) && valid M (ruleOf rule))) (eqb-not _ k ne))
+-- A slot that holds a rule holds a valid one if that is valid.
+pub rule-decides : (M : AtomSet) (rule : Rule) → (rule .state ≡ 0 → ⊥)
+    → valid M (ruleOf rule) ≡ passes (valid M) (slotOf rule)
+rule-decides M rule held = sym (ap (passes (valid M)) (slot-held rule held))
 
-    -- in the stratum the set decides, and then validity
-    decided : (t : Bool) → ℓ (rule .head .0) ≡ k → M (rule .head .0) ≡ t
-        → fires ℓ k M (slotOf rule) ≡ (not t && valid M (ruleOf rule))
-    decided t e is = fires-is ∙ ap₂ (λ b c. b && (not c && valid M (ruleOf rule))) (eqb-of _ k e) is
+-- A slot fires if its head is missing and it holds a valid rule.
+fires-is : (ℓ : ℕ → ℕ) (k : ℕ) (M : AtomSet) (n : ℕ) (r : theory.Rule)
+    → fires ℓ k M (held-in n r) ≡ (missing ℓ k M (r .head) && passes (valid M) (held-in n r))
+unfolding fires
+fires-is ℓ k M zero r = sym (and-false (missing ℓ k M (r .head)))
+fires-is ℓ k M (suc n) r = sym (and-assoc (eqb (ℓ (r .head)) k) (not (M (r .head))) (valid M r))
 
-    pub fires-in : ℓ (rule .head .0) ≡ k → M (rule .head .0) ≡ true → false ≡ fires ℓ k M (slotOf rule)
-    fires-in e t = sym (decided true e t)
-
-    pub fires-valid :
-        ℓ (rule .head .0) ≡ k → M (rule .head .0) ≡ false → valid M (ruleOf rule) ≡ fires ℓ k M (slotOf rule)
-    fires-valid e t = sym (decided false e t)
-
--- A slot that does not fire leaves the atoms found as they are.
-pub visit-stop : (ℓ : ℕ → ℕ) (k : ℕ) (o : Option theory.Rule) (found : List Bool) (t : Bool)
-    → t ≡ fires ℓ k (member found) o → t ≡ false → Visited ℓ k o found found false
-unfolding visit
-visit-stop ℓ k o found t told e =
-    let f : fires ℓ k (member found) o ≡ false = sym told ∙ e in
-    record { found = sym (ap (λ b. put b o (member found)) f); added = sym f; size = refl }
-
--- A slot that fires brings its head in.
-pub visit-fire : (ℓ : ℕ → ℕ) (k n : ℕ) (r : theory.Rule) (found after : List Bool) (t : Bool)
-    → HeadBelow (held-in n r) (length found) → t ≡ fires ℓ k (member found) (held-in n r) → t ≡ true
-    → after ≡ set found (r .head) true → Visited ℓ k (held-in n r) found after true
-unfolding visit fires
-visit-fire ℓ k zero r found after t low told e is = absurd (clash (sym told ∙ e) refl)
-visit-fire ℓ k (suc n) r found after t low told e is =
-    let f : fires ℓ k (member found) (some r) ≡ true = sym told ∙ e in
-    record {
-      found = ap member is ∙ fun-ext (mark-is found (r .head) (low r refl))
-          ∙ sym (ap (λ b. put b (some r) (member found)) f);
-      added = sym f;
-      size = ap length is ∙ length-set found (r .head) true;
-    }
+-- The head of the slot's rule, if it holds one, is below n.
+abbrev pub HeadBelow : Option theory.Rule → ℕ → Type 0
+HeadBelow o n = (r : theory.Rule) → o ≡ some r → r .head < n
 
 -- What a round has still to do from slot i on, with the atoms found by then and whether it added any, gives the
 -- whole round that began with the atoms before.
@@ -105,18 +78,56 @@ module _ (ℓ : ℕ → ℕ) (k : ℕ) (rules : List Rule) where
     pub left-start : Left ℓ k rules before 0 before false
     left-start = record { place = omega arith; whole = refl; more = refl; size = refl }
 
-    pub left-next : (i : ℕ) (found after : List Bool) (u t : Bool) → i < length rules
-        → Left ℓ k rules before i found u → Visited ℓ k (slotOf (getD rules i pastRule)) found after t
-        → Left ℓ k rules before (i + 1) after (u || t)
-    left-next i found after u t l L W = record {
-      place = omega arith;
-      whole = ap (λ (M : AtomSet). sweep ℓ k M (programOf (drop (i + 1) rules))) (W .found)
-          ∙ (sym (sweep-next (member found) i l) ∙ L .whole);
-      more = or-assoc u t _ ∙ (ap (λ b. u || b)
-          (ap₂ (λ (b : Bool) (M : AtomSet). b || adds ℓ k M (programOf (drop (i + 1) rules))) (W .added) (W .found)
-          ∙ sym (adds-next (member found) i l)) ∙ L .more);
-      size = W .size ∙ L .size;
-    }
+    module _ (i : ℕ) (found : List Bool) (u : Bool) (l : i < length rules) (L : Left ℓ k rules before i found u) where
+      abbrev here : Rule
+      here = getD rules i pastRule
+
+      abbrev new : Bool
+      new = missing ℓ k (member found) (here .head .0)
+
+      abbrev good : Bool
+      good = passes (valid (member found)) (slotOf here)
+
+      step : (after : List Bool) (t : Bool) → (new && good) ≡ t
+          → member after ≡ put t (slotOf here) (member found) → length after ≡ length found
+          → Left ℓ k rules before (i + 1) after (u || t)
+      unfolding visit
+      step after t e is same =
+          let told : t ≡ fires ℓ k (member found) (slotOf here) =
+          sym (fires-is ℓ k (member found) (here .state) (ruleOf here) ∙ e) in
+          let go : member after ≡ visit ℓ k (member found) (slotOf here) =
+          is ∙ ap (λ b. put b (slotOf here) (member found)) told in
+          record {
+            place = omega arith;
+            whole = ap (λ (M : AtomSet). sweep ℓ k M (programOf (drop (i + 1) rules))) go
+                ∙ (sym (sweep-next (member found) i l) ∙ L .whole);
+            more = or-assoc u t _ ∙ (ap (λ b. u || b)
+                (ap₂ (λ (b : Bool) (M : AtomSet). b || adds ℓ k M (programOf (drop (i + 1) rules))) told go
+                ∙ sym (adds-next (member found) i l)) ∙ L .more);
+            size = same ∙ L .size;
+          }
+
+      stay : (new && good) ≡ false → Left ℓ k rules before (i + 1) found u
+      stay e = rw (sym (or-false u)) (step found false e refl refl)
+
+      -- A slot adds none if its head is not missing,
+      pub left-over : new ≡ false → Left ℓ k rules before (i + 1) found u
+      left-over e = stay (ap (λ b. b && good) e)
+
+      -- or if it holds no valid rule.
+      pub left-stop : good ≡ false → Left ℓ k rules before (i + 1) found u
+      left-stop e = stay (ap (λ b. new && b) e ∙ and-false new)
+
+      -- Else its head comes in.
+      pub left-add : HeadBelow (slotOf here) (length found) → new ≡ true → good ≡ true
+          → (after : List Bool) → after ≡ set found (here .head .0) true → Left ℓ k rules before (i + 1) after true
+      left-add low e v after is =
+          let held : slotOf here ≡ some (ruleOf here) =
+          slot-held here (λ z. clash v (ap (passes (valid (member found))) (slot-free here z))) in
+          rw (sym (or-true u)) (step after true (ap₂ (λ b t. b && t) e v)
+          (ap member is ∙ (fun-ext (mark-is found (here .head .0) (low (ruleOf here) held))
+          ∙ sym (ap (λ (o : Option theory.Rule). put true o (member found)) held)))
+          (ap length is ∙ length-set found (here .head .0) true))
 
     pub left-end : (i : ℕ) (found : List Bool) (u : Bool) → length rules ≤ i → Left ℓ k rules before i found u
         → Round ℓ k rules before found u

@@ -1,28 +1,22 @@
--- What a visit of a slot and the rounds of a stratum do to the atoms found so far, as the theory's functions have it.
--- Assumes nothing.
-use Prim.Native.Nat.{ℕ, suc, _≤_, _<_}
+-- Which atoms are missing, and what the rounds of a stratum do to the atoms found so far, as the theory's functions
+-- have it. Assumes nothing.
+use Prim.Native.Nat.{ℕ, suc, _≤_}
 use mathlib.Core.Path.{_≡_}
-use mathlib.Core.Bool.{Bool}
+use mathlib.Core.Bool.{Bool, not, _&&_}
 use mathlib.Core.List.{List}
-use mathlib.Core.Option.{Option, some}
+use lib.Dec.{eqb}
 use lib.ListN.{length}
 use Rattle.theory.specs.Rules.{Program}
-use Rattle.theory.specs.Rules as theory
+use Rattle.theory.specs.Models.{AtomSet}
 use Rattle.theory.specs.Tables.{document}
 use Rattle.theory.proofs.Fill.{Filled}
-use Rattle.theory.proofs.Rounds.{fires, visit, fill}
+use Rattle.theory.proofs.Rounds.{fill}
 use Rattle.table.specs.Sets.{member}
 use Rattle.model.specs.Model.{Stratification}
 
--- The head of the slot's rule, if it holds one, is below n.
-abbrev pub HeadBelow : Option theory.Rule → ℕ → Type 0
-HeadBelow o n = (r : theory.Rule) → o ≡ some r → r .head < n
-
--- The visit of a slot takes the atoms found from before to after, and tells whether it added one.
-pub record Visited (ℓ : ℕ → ℕ) (k : ℕ) (o : Option theory.Rule) (before after : List Bool) (told : Bool) : Type 0 where
-  pub found : member after ≡ visit ℓ k (member before) o
-  pub added : told ≡ fires ℓ k (member before) o
-  pub size : length after ≡ length before
+-- An atom is missing if it is of stratum k and not in M.
+abbrev pub missing : (ℕ → ℕ) → ℕ → AtomSet → ℕ → Bool
+missing ℓ k M a = eqb (ℓ a) k && not (M a)
 
 -- The strata below k are done, and there is room for every atom.
 pub record Ready (P : Program) (ℓ : ℕ → ℕ) (k : ℕ) (found : List Bool) : Type 0 where

@@ -1,4 +1,5 @@
 // The in atoms of a table's rules, found by rounds over the slots, lowest stratum first.
+use table::Atom;
 use table::Rule;
 use table::Table;
 use table::rules::valid;
@@ -7,43 +8,31 @@ use table::sets::mark;
 use table::sets::number_of;
 ghost use mathlib.Core.Path.{_≡_};
 ghost use Prim.Native.Nat.{max};
-ghost use lib.ListN.{length};
-ghost use Rattle.theory.specs.Models.{Admissible};
-ghost use Rattle.theory.proofs.Rounds.{fires};
+ghost use Rattle.theory.specs.Rules.{passes};
+ghost use Rattle.theory.specs.Models.{valid, Admissible};
 ghost use Rattle.table.specs.Rules.{slotOf, programOf};
 ghost use Rattle.table.specs.Sets.{member, number};
 ghost use Rattle.model.specs.Model.{Stratification};
-ghost use Rattle.model.specs.Rounds.{HeadBelow, Visited, Ready, Filling, Greatest};
+ghost use Rattle.model.specs.Rounds.{missing, Ready, Filling, Greatest};
 
-// Does the slot bring its head in: does it hold a rule, is the head of stratum k and not in yet, is the rule valid?
-fn fires(rule: Rule, strata: &[u16; Table::ATOMS], k: u16, found: &[bool; Table::ATOMS]) -> bool
-    ensures { λ r. ⌜ r ≡ fires (number (now (strata .entry))) k (member (now (found .entry))) (slotOf rule) ⌝ }
+// Is the atom of stratum k and not in yet?
+fn missing(a: Atom, strata: &[u16; Table::ATOMS], k: u16, found: &[bool; Table::ATOMS]) -> bool
+    ensures { λ r. ⌜ r ≡ missing (number (now (strata .entry))) k (member (now (found .entry))) (a .0) ⌝ }
+{
+    if number_of(strata, a) != k {
+        return false;
+    }
+    !has(found, a)
+}
+
+// Does the slot hold a rule that is valid in the set?
+fn holds_valid(rule: Rule, flags: &[bool; Table::ATOMS]) -> bool
+    ensures { λ r. ⌜ r ≡ passes (valid (member (now (flags .entry)))) (slotOf rule) ⌝ }
 {
     if rule.state == 0 {
         return false;
     }
-    let head = rule.head;
-    if number_of(strata, head) != k {
-        return false;
-    }
-    if has(found, head) {
-        return false;
-    }
-    valid(rule, found)
-}
-
-// One slot of a round: its head comes in if the slot brings it in. Answers whether it did.
-fn visit(rule: Rule, strata: &[u16; Table::ATOMS], k: u16, found: &mut [bool; Table::ATOMS]) -> bool
-    requires { ⌜ HeadBelow (slotOf rule) (length (now found)) ⌝ }
-    ensures { λ r. ⌜ Visited (number (now (strata .entry))) k (slotOf rule)
-        (now (found .entry)) (now (found .exit)) r ⌝ }
-{
-    if !fires(rule, strata, k, found) {
-        return false;
-    }
-    let head = rule.head;
-    mark(found, head);
-    true
+    valid(rule, flags)
 }
 
 // The rounds of stratum k, up to the first that adds none. Answers how many were made.
@@ -60,12 +49,18 @@ fn fill_stratum(
     let mut rounds: u16 = 0;
     loop {
         let mut adds = false;
-        let mut i: usize = 0;
-        while i < Table::SLOTS {
+        for i in 0..Table::SLOTS {
+            // the head decides most visits: the rule is copied only if its head is missing
+            let head = Atom(rules[i].head.0);
+            if !missing(head, strata, k, found) {
+                continue;
+            }
             let rule = rules[i];
-            let added = visit(rule, strata, k, found);
-            adds = adds | added;
-            i += 1;
+            if !holds_valid(rule, found) {
+                continue;
+            }
+            mark(found, head);
+            adds = true;
         }
         rounds += 1;
         if !adds {

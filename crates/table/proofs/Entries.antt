@@ -7,14 +7,16 @@ use mathlib.Core.Path.{_≡_, refl, sym, _∙_, ap, ap₂}
 use mathlib.Core.Logic.{⊎-elim}
 use mathlib.Core.Bool.{Bool, true, false, not, _&&_}
 use mathlib.Core.List.{List, [], _∷_, _++_}
-use mathlib.Core.Option.{Option, none, some}
+use mathlib.Core.Option.{Option, none, some, Option·none-ne-some}
 use lib.ListN.{length, getD, take, drop, set, length-map, length-take, drop-of-length-le}
 use lib.ListN.{List·getD-map, List·getD-eq-default}
 use lib.Seq.{slice, slice-cons, take-suc, take-suc-set, take-all, take-nil}
 use Rattle.theory.specs.Lists.{every, first}
+use Rattle.theory.specs.Rules as theory
 use Rattle.theory.specs.Models.{AtomSet, valid}
 use Rattle.theory.specs.Labels.{spoiler}
-use Rattle.theory.proofs.Lists.{le-or-lt}
+use Rattle.theory.proofs.Lists.{le-or-lt, unless}
+use Rattle.theory.proofs.Labels.{no-spoiler-valid, valid-no-spoiler}
 use Rattle.table.specs.declared.Atom.{Atom}
 use Rattle.table.specs.declared.Rule.{Rule}
 use Rattle.table.specs.declared.Spoiler.{Spoiler}
@@ -118,24 +120,6 @@ module _ (r : Rule) (b : ℕ) (long : length (r .entries) ≡ b) (n : ℕ) (here
         ∙ front (take m (r .entries)) (simp length-take (omega arith)))
 
     module _ (M : AtomSet) where
-      -- valid: the positive part is in, the negative part out
-      valid-parts :
-          valid M (ruleOf r)
-          ≡ (every M (numbers (slice 0 n (r .entries))) && every (λ x. not (M x)) (numbers (slice n m (r .entries))))
-      unfolding valid
-      valid-parts = ap₂ (λ ps ns. every M ps && every (λ x. not (M x)) ns) positives-are negatives-are
-
-      pub valid-if :
-          (t u : Bool) → t ≡ every M (numbers (slice 0 n (r .entries))) → t ≡ true
-          → u ≡ every (λ x. not (M x)) (numbers (slice n m (r .entries))) → u ≡ valid M (ruleOf r)
-      valid-if t u p q v =
-          v ∙ sym (valid-parts ∙ ap (λ z. z && every (λ x. not (M x)) (numbers (slice n m (r .entries)))) (sym p ∙ q))
-
-      pub valid-not :
-          (t : Bool) → t ≡ every M (numbers (slice 0 n (r .entries))) → t ≡ false → false ≡ valid M (ruleOf r)
-      valid-not t p q =
-          sym (valid-parts ∙ ap (λ z. z && every (λ x. not (M x)) (numbers (slice n m (r .entries)))) (sym p ∙ q))
-
       -- the spoiler: the first of the positive part that is out, or else of the negative part that is in
       spoiler-parts :
           (o : Option ℕ) → o ≡ first (λ x. not (M x)) (numbers (slice 0 n (r .entries)))
@@ -156,6 +140,18 @@ module _ (r : Rule) (b : ℕ) (long : length (r .entries) ≡ b) (n : ℕ) (here
           → spoilerOf f ≡ first (λ x. not (M x)) (numbers (slice 0 n (r .entries)))
           → spoilerOf g ≡ first M (numbers (slice n m (r .entries))) → spoilerOf g ≡ spoiler M (ruleOf r)
       spoiler-else f g e p q = q ∙ sym (spoiler-parts none (ap spoilerOf (sym e) ∙ p))
+
+-- A rule is valid exactly if no entry spoils it.
+
+pub spoiled-not-valid :
+    (M : AtomSet) (r : theory.Rule) (f : Spoiler) (a : Atom) → f ≡ Entry a → spoilerOf f ≡ spoiler M r
+    → false ≡ valid M r
+spoiled-not-valid M r f a e p =
+    sym (unless _ (λ v. Option·none-ne-some (a .0) (sym (valid-no-spoiler M r v) ∙ sym p ∙ ap spoilerOf e)))
+
+pub unspoiled-valid :
+    (M : AtomSet) (r : theory.Rule) (f : Spoiler) → f ≡ Nothing → spoilerOf f ≡ spoiler M r → true ≡ valid M r
+unspoiled-valid M r f e p = sym (no-spoiler-valid M r (sym p ∙ ap spoilerOf e))
 
 -- Numbers taken of a part, or a part taken of the numbers.
 pub numbers-take : (n : ℕ) (xs : List Atom) → take n (numbers xs) ≡ numbers (take n xs)

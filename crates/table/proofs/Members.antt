@@ -35,12 +35,6 @@ module _ (w : Bool) (M : AtomSet) (x : ℕ) (b : Bool) (told : b ≡ M x) where
   pub stands-not : Bool·beq b w ≡ false → standing w M x ≡ false
   stands-not t = tested ∙ t
 
-  pub differs-not : not (Bool·beq b w) ≡ false → standing w M x ≡ true
-  differs-not t = tested ∙ not-false _ t
-
-  pub differs : not (Bool·beq b w) ≡ true → standing w M x ≡ false
-  differs t = tested ∙ not-true _ t
-
 -- A list of one value reads as that value, past its end too where that is the default.
 pub all-alike : {A : Type 0} (n i : ℕ) (a : A) → getD (replicate n a) i a ≡ a
 all-alike zero i a = refl

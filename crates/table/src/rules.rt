@@ -6,7 +6,7 @@ use super::sets::has;
 ghost use mathlib.Core.Path.{_≡_};
 ghost use Prim.Native.Nat.{_+_, _≤_, min};
 ghost use lib.Seq.{slice};
-ghost use Rattle.theory.specs.Lists.{every, first};
+ghost use Rattle.theory.specs.Lists.{first};
 ghost use Rattle.theory.specs.Models.{valid};
 ghost use Rattle.theory.specs.Labels.{spoiler};
 ghost use Rattle.theory.specs.Rules.{same};
@@ -38,24 +38,6 @@ pub fn negative_end(rule: Rule) -> usize
     }
 }
 
-// Is every entry from `from` to below `to` in the set (`wanted` true) or out of it (`wanted` false)?
-fn all_stand(rule: Rule, from: usize, to: usize, flags: &[bool; Table::ATOMS], wanted: bool) -> bool
-    requires { ⌜ to ≤ document .entries ⌝ }
-    ensures { λ r. ⌜ r ≡ every (standing wanted (member (now (flags .entry))))
-        (numbers (slice from to (rule .entries))) ⌝ }
-{
-    let mut j = from;
-    while j < to {
-        let a = rule.entries[j];
-        let is_in = has(flags, a);
-        if is_in != wanted {
-            return false;
-        }
-        j += 1;
-    }
-    true
-}
-
 // The first entry from `from` to below `to` that is in the set (`wanted` true) or out of it (`wanted` false).
 fn first_standing(
     rule: Rule,
@@ -80,19 +62,6 @@ fn first_standing(
     Spoiler::Nothing
 }
 
-// Is the rule valid in the set: every positive entry in it, no negative entry?
-pub fn valid(rule: Rule, flags: &[bool; Table::ATOMS]) -> bool
-    ensures { λ r. ⌜ r ≡ valid (member (now (flags .entry))) (ruleOf rule) ⌝ }
-{
-    let p = positive_end(rule);
-    let n = negative_end(rule);
-    if all_stand(rule, 0, p, flags, true) {
-        all_stand(rule, p, n, flags, false)
-    } else {
-        false
-    }
-}
-
 // The first entry that keeps the rule from being valid in the set: the positive list is read first.
 pub fn spoiler(rule: Rule, flags: &[bool; Table::ATOMS]) -> Spoiler
     ensures { λ r. ⌜ spoilerOf r ≡ spoiler (member (now (flags .entry))) (ruleOf rule) ⌝ }
@@ -103,6 +72,17 @@ pub fn spoiler(rule: Rule, flags: &[bool; Table::ATOMS]) -> Spoiler
     match found {
         Spoiler::Entry(a) => Spoiler::Entry(a),
         Spoiler::Nothing => first_standing(rule, p, n, flags, true),
+    }
+}
+
+// Is the rule valid in the set: every positive entry in it, no negative entry? So does no entry spoil it?
+pub fn valid(rule: Rule, flags: &[bool; Table::ATOMS]) -> bool
+    ensures { λ r. ⌜ r ≡ valid (member (now (flags .entry))) (ruleOf rule) ⌝ }
+{
+    let found = spoiler(rule, flags);
+    match found {
+        Spoiler::Entry(a) => false,
+        Spoiler::Nothing => true,
     }
 }
 

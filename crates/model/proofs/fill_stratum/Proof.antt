@@ -3,14 +3,14 @@
 -- that adds brings in the head of one more rule, so that the rounds end.
 use Prim.Native.Nat.{suc, _-_}
 use native.Mathlib.Omega.{arith}
-use mathlib.Core.Path.{_≡_, refl, _∙_}
+use mathlib.Core.Path.{_≡_, refl, sym, _∙_}
 use lib.ListN.{length}
 use Rattle.theory.specs.Tables.{document}
 use Rattle.theory.proofs.Lists.{not-true, not-false}
 use Rattle.theory.proofs.Rounds.{fill}
 use Rattle.table.specs.Rules.{programOf}
 use Rattle.table.specs.Sets.{member, number}
-use Rattle.model.proofs.Visits.{Left, left-start, left-next, left-end}
+use Rattle.model.proofs.Visits.{Left, left-start, left-over, left-stop, left-add, left-end}
 use Rattle.model.proofs.Rounds.{Going, going-start, going-few, room-of, head-below}
 use Rattle.model.proofs.Rounds.{stratum-next, stratum-found, stratum-number}
 use borrow.Author.Needs.{needs}
@@ -38,18 +38,14 @@ loop-holds c = (going-start _ _ _ _ _ (c .pre .filled), refl)
 loop2-holds : tie.Need-loop2-holds Inv-loop2 μ-loop2 Inv-loop μ-loop
 loop2-holds c = left-start _ _ _ _
 
-mul-rule : tie.Need-mul-rule Inv-loop2 μ-loop2 Inv-loop μ-loop
-mul-rule c = search needs
+mul-t12 : tie.Need-mul-t12 Inv-loop2 μ-loop2 Inv-loop μ-loop
+mul-t12 c = search needs
 
-array-copy-out-rule : tie.Need-array-copy-out-rule Inv-loop2 μ-loop2 Inv-loop μ-loop
-array-copy-out-rule c = search needs
+element-copy-out-t15 : tie.Need-element-copy-out-t15 Inv-loop2 μ-loop2 Inv-loop μ-loop
+element-copy-out-t15 c = search needs
 
-visit-requires : tie.Need-visit-requires Inv-loop2 μ-loop2 Inv-loop μ-loop
-visit-requires c κs =
-    let s = c .before .before .before .before .before in
-    let size : length (c .before .before .before .loop2 .found) ≡ document .atoms =
-    c .before .before .before .loop2 .inv .size ∙ (c .before .before .before .before .loop .inv .1 ∙ s .pre .size) in
-    rw size (head-below (s .args .t1) (document .atoms) _ (s .pre .stratified .bounded))
+missing-requires : tie.Need-missing-requires Inv-loop2 μ-loop2 Inv-loop μ-loop
+missing-requires c κs = search needs
 
 add-i : tie.Need-add-i Inv-loop2 μ-loop2 Inv-loop μ-loop
 add-i c = search needs
@@ -59,10 +55,57 @@ loop2-less c = search needs
 
 loop2-again : tie.Need-loop2-again Inv-loop2 μ-loop2 Inv-loop μ-loop
 loop2-again c =
-    let s = c .before .before .before .before .before .before in
+    let at = c .before .before .before .before in
+    let s = at .before .before in
     let len : length (s .args .t1) ≡ document .slots = search needs in
-    left-next _ _ (s .args .t1) _ _ _ _ _ _ (omega arith)
-    (c .before .before .before .before .loop2 .inv) (c .visit .ensures)
+    left-over _ _ (s .args .t1) _ _ _ _ (omega arith) (at .loop2 .inv)
+    (sym (c .before .missing .ensures) ∙ not-true _ (c .if1 .taken))
+
+mul-rule : tie.Need-mul-rule Inv-loop2 μ-loop2 Inv-loop μ-loop
+mul-rule c = search needs
+
+array-copy-out-rule : tie.Need-array-copy-out-rule Inv-loop2 μ-loop2 Inv-loop μ-loop
+array-copy-out-rule c = search needs
+
+holds-valid-requires : tie.Need-holds-valid-requires Inv-loop2 μ-loop2 Inv-loop μ-loop
+holds-valid-requires c κs = search needs
+
+add-i-2 : tie.Need-add-i-2 Inv-loop2 μ-loop2 Inv-loop μ-loop
+add-i-2 c = search needs
+
+loop2-less-2 : tie.Need-loop2-less-2 Inv-loop2 μ-loop2 Inv-loop μ-loop
+loop2-less-2 c = search needs
+
+loop2-again-2 : tie.Need-loop2-again-2 Inv-loop2 μ-loop2 Inv-loop μ-loop
+loop2-again-2 c =
+    let at = c .before .before .before .before .before .before .before .before in
+    let s = at .before .before in
+    let len : length (s .args .t1) ≡ document .slots = search needs in
+    left-stop _ _ (s .args .t1) _ _ _ _ (omega arith) (at .loop2 .inv)
+    (sym (c .before .holds-valid .ensures) ∙ not-true _ (c .if2 .taken))
+
+mark-requires : tie.Need-mark-requires Inv-loop2 μ-loop2 Inv-loop μ-loop
+mark-requires c κs = search needs
+
+add-i-3 : tie.Need-add-i-3 Inv-loop2 μ-loop2 Inv-loop μ-loop
+add-i-3 c = search needs
+
+loop2-less-3 : tie.Need-loop2-less-3 Inv-loop2 μ-loop2 Inv-loop μ-loop
+loop2-less-3 c = search needs
+
+loop2-again-3 : tie.Need-loop2-again-3 Inv-loop2 μ-loop2 Inv-loop μ-loop
+loop2-again-3 c =
+    let good = c .before .before in
+    let new = good .before .before .before .before in
+    let at = new .before .before .before .before in
+    let s = at .before .before in
+    let len : length (s .args .t1) ≡ document .slots = search needs in
+    let size : length (at .loop2 .found) ≡ document .atoms =
+    at .loop2 .inv .size ∙ (at .before .loop .inv .1 ∙ s .pre .size) in
+    left-add _ _ (s .args .t1) _ _ _ _ (omega arith) (at .loop2 .inv)
+    (rw size (head-below (s .args .t1) (document .atoms) _ (s .pre .stratified .bounded)))
+    (sym (new .before .missing .ensures) ∙ not-false _ (new .if1 .left))
+    (sym (good .before .holds-valid .ensures) ∙ not-false _ (good .if2 .left)) _ (c .mark .ensures)
 
 add-rounds : tie.Need-add-rounds Inv-loop2 μ-loop2 Inv-loop μ-loop
 add-rounds c =
@@ -78,7 +121,7 @@ returns c =
     let len : length (s .args .t1) ≡ document .slots = search needs in
     let G = c .before .before .before .loop .inv in
     let R = left-end _ _ (s .args .t1) _ _ _ _ (omega arith) (c .before .before .loop2 .inv) in
-    let over = not-true _ (c .if1 .taken) in
+    let over = not-true _ (c .if3 .taken) in
     record {
       found = stratum-found (s .args .t1) _ _ (document .slots) len _ _ _ _ _ (G .0) R over;
       number = stratum-number (s .args .t1) _ _ (document .slots) len _ _ _ _ _ (G .0) R over;
@@ -99,7 +142,7 @@ loop-again c =
     let len : length (s .args .t1) ≡ document .slots = search needs in
     let G = c .before .before .before .loop .inv in
     let R = left-end _ _ (s .args .t1) _ _ _ _ (omega arith) (c .before .before .loop2 .inv) in
-    let more = not-false _ (c .if1 .left) in (
+    let more = not-false _ (c .if3 .left) in (
       stratum-next (s .args .t1) _ _ (document .slots) len _ _ _ _ _ (G .0) R (s .pre .stratified .strata) more,
       R .size ∙ G .1,
     )
@@ -114,12 +157,22 @@ fill-stratum-spec =
     μ-loop
     loop-holds
     loop2-holds
-    mul-rule
-    array-copy-out-rule
-    visit-requires
+    mul-t12
+    element-copy-out-t15
+    missing-requires
     add-i
     loop2-less
     loop2-again
+    mul-rule
+    array-copy-out-rule
+    holds-valid-requires
+    add-i-2
+    loop2-less-2
+    loop2-again-2
+    mark-requires
+    add-i-3
+    loop2-less-3
+    loop2-again-3
     add-rounds
     returns
     loop-less

@@ -1,0 +1,4 @@
+-- Laws about the contracts. Nothing here needs to be believed.
+pub mod OneTable
+pub mod Refusals
+pub mod Determined

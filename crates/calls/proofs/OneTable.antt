@@ -1,0 +1,183 @@
+-- Two sound tables that hold the same rules are equal: the rules determine every field. Assumes nothing.
+use Prim.Native.Nat.{ℕ, zero, suc, _+_, _-_, _≤_, _<_}
+use native.Mathlib.Omega.{arith}
+use mathlib.Core.Path.{_≡_, refl, sym, _∙_, ap, ap₂, subst}
+use mathlib.Core.Logic.{_⊎_, inl, inr, ⊎-elim}
+use mathlib.Core.List.{List, [], _∷_, map}
+use mathlib.Core.Option.{Option, none, some}
+use lib.ListN.{length, getD, take, drop, length-map, List·getD-map, length-drop}
+use lib.Seq.{ext-getD, getD-take, getD-drop, length-take-le}
+use Rattle.theory.specs.Rules.{Program}
+use Rattle.theory.specs.Rules as theory
+use Rattle.theory.specs.Models.{AtomSet, Admissible}
+use Rattle.theory.specs.Dependencies.{NegativeCycle}
+use Rattle.theory.specs.Labels.{absent, out, in-at, Labelled}
+use Rattle.theory.specs.Labels as theory-labels
+use Rattle.theory.specs.Tables.{document}
+use Rattle.theory.proofs.Lists.{le-or-lt}
+use Rattle.theory.proofs.Strata.{acyclic-strata, rules-below, model-unique}
+use Rattle.theory.proofs.Labels.{label-unique, label-moves}
+use Rattle.table.specs.declared.Atom.{Atom}
+use Rattle.table.specs.declared.Slot.{Slot}
+use Rattle.table.specs.declared.Rule.{Rule}
+use Rattle.table.specs.declared.Label.{Label}
+use Rattle.table.specs.declared.Table.{Table}
+use Rattle.table.specs.Rules.{numbers, ruleOf, slotOf, programOf, noAtom, pastRule}
+use Rattle.table.specs.Labels.{labelOf, labelAt, absentLabel}
+use Rattle.table.specs.Clean.{CleanRule, CleanLabel, freeRule}
+use Rattle.table.specs.Sound.{Sound}
+use Rattle.table.proofs.Programs.{program-at, slot-free, slot-held, slot-state, label-absent, label-out, label-kept}
+use Rattle.calls.specs.Contracts.{held, Sized}
+
+-- Atoms of equal numbers are equal.
+atom-path : (a b : Atom) → a .0 ≡ b .0 → a ≡ b
+atom-path a b e = λ i. record { 0 = e i }
+
+rule-path :
+    (q r : Rule) → q .state ≡ r .state → q .head .0 ≡ r .head .0 → q .positives ≡ r .positives
+    → q .negatives ≡ r .negatives → q .entries ≡ r .entries → q ≡ r
+rule-path q r s h p n e =
+    λ i. record { state = s i; head = record { 0 = h i }; positives = p i; negatives = n i; entries = e i }
+
+label-path : (k l : Label) → k .state ≡ l .state → k .depth ≡ l .depth → k .slot .0 ≡ l .slot .0 → k ≡ l
+label-path k l s d t = λ i. record { state = s i; depth = d i; slot = record { 0 = t i } }
+
+-- The numbers of a list of atoms, by places.
+numbers-at : (es : List Atom) (i : ℕ) → getD (numbers es) i 0 ≡ getD es i noAtom .0
+numbers-at es i = List·getD-map (λ a. a .0) es i noAtom
+
+numbers-length : (es : List Atom) → length (numbers es) ≡ length es
+numbers-length es = length-map es (λ a. a .0)
+
+-- A clean held rule: the counts are the lengths of its lists.
+module _ (r : Rule) (C : CleanRule r) (L : length (r .entries) ≡ document .entries) where
+  positives-length : length (ruleOf r .positives) ≡ r .positives
+  positives-length =
+      numbers-length (take (r .positives) (r .entries))
+      ∙ length-take-le (r .positives) (r .entries) (omega (arith, C .fits))
+
+  negatives-length : length (ruleOf r .negatives) ≡ r .negatives
+  negatives-length =
+      numbers-length (take (r .negatives) (drop (r .positives) (r .entries)))
+      ∙ length-take-le (r .negatives) (drop (r .positives) (r .entries))
+      (omega (arith, C .fits, length-drop (r .positives) (r .entries)))
+
+  positive-at : (i : ℕ) → i < r .positives → getD (ruleOf r .positives) i 0 ≡ getD (r .entries) i noAtom .0
+  positive-at i l =
+      numbers-at (take (r .positives) (r .entries)) i ∙ ap
+      (λ (a : Atom). a .0) (getD-take (r .positives) (r .entries) i noAtom l)
+
+  negative-at :
+      (i : ℕ) → i < r .negatives → getD (ruleOf r .negatives) i 0 ≡ getD (r .entries) (r .positives + i) noAtom .0
+  negative-at i l =
+      numbers-at (take (r .negatives) (drop (r .positives) (r .entries))) i
+      ∙ ap (λ (a : Atom). a .0) (getD-take (r .negatives) (drop (r .positives) (r .entries)) i noAtom l
+      ∙ getD-drop (r .positives) (r .entries) i noAtom)
+
+-- Two clean slots that hold the same are equal.
+module _ (q r : Rule) (C : CleanRule q) (D : CleanRule r) (L : length (q .entries) ≡ document .entries)
+    (K : length (r .entries) ≡ document .entries) where
+  held-equal : ruleOf q ≡ ruleOf r → (q .state ≡ 0 → ⊥) → (r .state ≡ 0 → ⊥) → q ≡ r
+  held-equal e f g =
+      let p : q .positives ≡ r .positives =
+      sym (positives-length q C L) ∙ ap (λ (x : theory.Rule). length (x .positives)) e ∙ positives-length r D K in
+      let n : q .negatives ≡ r .negatives =
+      sym (negatives-length q C L) ∙ ap (λ (x : theory.Rule). length (x .negatives)) e ∙ negatives-length r D K in
+      rule-path q r (omega (arith, C .known, D .known)) (ap (λ (x : theory.Rule). x .head) e) p n
+      (ext-getD noAtom (q .entries) (r .entries) (L ∙ sym K) (λ i l. ⊎-elim
+      (λ (k : q .positives ≤ i). ⊎-elim
+      (λ (j : q .positives + q .negatives ≤ i). C .filler i j ∙ sym (D .filler i (omega arith)))
+      (λ (j : i < q .positives + q .negatives). (
+      let m = i - q .positives in
+      let u : q .positives + m ≡ i = omega arith in
+      let w : r .positives + m ≡ i = omega arith in
+      atom-path _ _ (ap (λ (z : ℕ). getD (q .entries) z noAtom .0) (sym u)
+      ∙ sym (negative-at q C L m (omega arith))
+      ∙ ap (λ (x : theory.Rule). getD (x .negatives) m 0) e
+      ∙ negative-at r D K m (omega arith)
+      ∙ ap (λ (z : ℕ). getD (r .entries) z noAtom .0) w)))
+      (le-or-lt (q .positives + q .negatives) i))
+      (λ (k : i < q .positives). atom-path _ _ (sym (positive-at q C L i k)
+      ∙ ap (λ (x : theory.Rule). getD (x .positives) i 0) e
+      ∙ positive-at r D K i (omega arith)))
+      (le-or-lt (q .positives) i)))
+
+  pub slot-equal : slotOf q ≡ slotOf r → q ≡ r
+  slot-equal e = go (q .state) refl (r .state) refl
+    where
+      go : (m : ℕ) → q .state ≡ m → (n : ℕ) → r .state ≡ n → q ≡ r
+      go zero s zero t = C .free s ∙ sym (D .free t)
+      go zero s (suc n) t =
+          let u : none ≡ some (ruleOf r) = sym (slot-free q s) ∙ e ∙ slot-held r (λ z. omega (arith, z)) in
+          absurd (let z : _≡_ {A = ℕ} 0 1 = cc in omega arith)
+      go (suc m) s zero t =
+          let u : none ≡ some (ruleOf q) = sym (slot-free r t) ∙ sym e ∙ slot-held q (λ z. omega (arith, z)) in
+          absurd (let z : _≡_ {A = ℕ} 0 1 = cc in omega arith)
+      go (suc m) s (suc n) t =
+          let u : some (ruleOf q) ≡ some (ruleOf r) =
+          sym (slot-held q (λ z. omega (arith, z))) ∙ e ∙ slot-held r (λ z. omega (arith, z)) in
+          held-equal (cc) (λ z. omega (arith, z)) (λ z. omega (arith, z))
+
+-- Two clean labels that mean the same are equal.
+label-equal : (k l : Label) → CleanLabel k → CleanLabel l → labelOf k ≡ labelOf l → k ≡ l
+label-equal k l C D e = go (k .state) refl (l .state) refl
+  where
+    go : (m : ℕ) → k .state ≡ m → (n : ℕ) → l .state ≡ n → k ≡ l
+    go zero s zero t =
+        label-path k l (s ∙ sym t) (C .depth (omega arith) ∙ sym (D .depth (omega arith)))
+        (C .slot (omega arith) ∙ sym (D .slot (omega arith)))
+    go zero s (suc zero) t =
+        let u : absent ≡ out = sym (label-absent k s) ∙ e ∙ label-out l t in
+        absurd (let z : _≡_ {A = ℕ} 0 1 = cc in omega arith)
+    go zero s (suc (suc n)) t =
+        let u : absent ≡ in-at (l .depth) (l .slot .0) = sym (label-absent k s) ∙ e ∙ label-kept l (omega arith) in
+        absurd (let z : _≡_ {A = ℕ} 0 1 = cc in omega arith)
+    go (suc zero) s zero t =
+        let u : out ≡ absent = sym (label-out k s) ∙ e ∙ label-absent l t in
+        absurd (let z : _≡_ {A = ℕ} 0 1 = cc in omega arith)
+    go (suc zero) s (suc zero) t =
+        label-path k l (s ∙ sym t) (C .depth (omega arith) ∙ sym (D .depth (omega arith)))
+        (C .slot (omega arith) ∙ sym (D .slot (omega arith)))
+    go (suc zero) s (suc (suc n)) t =
+        let u : out ≡ in-at (l .depth) (l .slot .0) = sym (label-out k s) ∙ e ∙ label-kept l (omega arith) in
+        absurd (let z : _≡_ {A = ℕ} 0 1 = cc in omega arith)
+    go (suc (suc m)) s zero t =
+        let u : in-at (k .depth) (k .slot .0) ≡ absent = sym (label-kept k (omega arith)) ∙ e ∙ label-absent l t in
+        absurd (let z : _≡_ {A = ℕ} 0 1 = cc in omega arith)
+    go (suc (suc m)) s (suc zero) t =
+        let u : in-at (k .depth) (k .slot .0) ≡ out = sym (label-kept k (omega arith)) ∙ e ∙ label-out l t in
+        absurd (let z : _≡_ {A = ℕ} 0 1 = cc in omega arith)
+    go (suc (suc m)) s (suc (suc n)) t =
+        let u : in-at (k .depth) (k .slot .0) ≡ in-at (l .depth) (l .slot .0) =
+        sym (label-kept k (omega arith)) ∙ e ∙ label-kept l (omega arith) in
+        label-path k l (omega (arith, C .known, D .known)) (cc) (cc)
+
+-- The label of an atom is the same by any admissible model of any program that holds the same rules.
+pub same-label :
+    (P : Program) (M N : AtomSet) (a : ℕ) (k l : theory-labels.Label) → (NegativeCycle P → ⊥) → Admissible P M
+    → Admissible P N → Labelled P M a k → Labelled P N a l → k ≡ l
+same-label P M N a k l free A B K L =
+    label-unique P N (B .founded) a k l
+    (label-moves P M N (model-unique P (rules-below P) (acyclic-strata P free) M N A B) a k K) L
+
+pub table-unique : (t u : Table) → Sized t → Sized u → Sound t → Sound u → held t ≡ held u → t ≡ u
+table-unique t u Z Y S T e = λ i. record { rules = rules i; labels = labels i }
+  where
+    rules : t .rules ≡ u .rules
+    rules = ext-getD pastRule (t .rules) (u .rules) (Z .slots ∙ sym (Y .slots)) (λ s l. (
+        let k : s < document .slots = omega (arith, Z .slots) in
+        slot-equal (getD (t .rules) s pastRule) (getD (u .rules) s pastRule) (S .clean .rules s k)
+        (T .clean .rules s k)
+        (Z .entries s k) (Y .entries s k)
+        (sym (program-at (t .rules) s) ∙ ap (λ (P : Program). getD P s none) e ∙ program-at (u .rules) s)))
+
+    labels : t .labels ≡ u .labels
+    labels = ext-getD absentLabel (t .labels) (u .labels) (Z .atoms ∙ sym (Y .atoms)) (λ a l. (
+        let k : a < document .atoms = omega (arith, Z .atoms) in
+        let m = T .labels in
+        label-equal (getD (t .labels) a absentLabel) (getD (u .labels) a absentLabel) (S .clean .labels a k)
+        (T .clean .labels a k)
+        (same-label (held u) (S .labels .model) (m .model) a _ _ (m .acyclic)
+        (subst (λ (P : Program). Admissible P (S .labels .model)) e (S .labels .admissible)) (m .admissible)
+        (subst (λ (P : Program). Labelled P (S .labels .model) a (labelAt (t .labels) a)) e (S .labels .labels a k))
+        (m .labels a k))))

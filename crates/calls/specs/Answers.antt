@@ -1,0 +1,53 @@
+-- Refusals by their numbers, and answers in the words of the theory. Assumes nothing.
+use Prim.Native.Nat.{ℕ}
+use mathlib.Core.Option.{Option, none, some}
+use Rattle.theory.specs.Labels.{absent, out, in-at}
+use Rattle.theory.specs.Labels as theory
+use Rattle.theory.specs.Book as book
+use Rattle.calls.specs.declared.Refusal.{Refusal}
+use Rattle.calls.specs.declared.Refusal.the-variants.{Head, Entries, Entry, Repeated, Same, Full, NegativeCycle}
+use Rattle.calls.specs.declared.Refusal.the-variants.{SlotNumber, Free, AtomNumber, Buffer, NotIn, Unsound}
+use Rattle.calls.specs.declared.AddAnswer.{AddAnswer}
+use Rattle.calls.specs.declared.AddAnswer.the-variants as added
+use Rattle.calls.specs.declared.RemoveAnswer.{RemoveAnswer}
+use Rattle.calls.specs.declared.RemoveAnswer.the-variants as removed
+use Rattle.calls.specs.declared.LabelAnswer.{LabelAnswer}
+use Rattle.calls.specs.declared.LabelAnswer.the-variants as labelled
+use Rattle.calls.specs.declared.SpoilerAnswer.{SpoilerAnswer}
+use Rattle.calls.specs.declared.SpoilerAnswer.the-variants as spoilt
+
+-- Document 01's number of each refusal.
+abbrev pub numberOf : Refusal → ℕ
+numberOf Head = 1
+numberOf Entries = 2
+numberOf Entry = 3
+numberOf Repeated = 4
+numberOf Same = 5
+numberOf Full = 6
+numberOf NegativeCycle = 7
+numberOf SlotNumber = 8
+numberOf Free = 9
+numberOf AtomNumber = 10
+numberOf (Buffer needed) = 11
+numberOf NotIn = 12
+numberOf Unsound = 15
+
+-- The plain book's word for an answer.
+abbrev pub bookAdd : AddAnswer → book.Answer
+bookAdd (added.Taken s) = book.slot (s .0)
+bookAdd (added.Refused f) = book.refused (numberOf f)
+
+abbrev pub bookRemove : RemoveAnswer → book.Answer
+bookRemove removed.Removed = book.accepted
+bookRemove (removed.Refused f) = book.refused (numberOf f)
+
+-- The answer that tells a label.
+abbrev pub tellLabel : theory.Label → LabelAnswer
+tellLabel absent = labelled.Absent
+tellLabel out = labelled.Out
+tellLabel (in-at d s) = labelled.In d (record { 0 = s })
+
+-- The answer that tells a rule's spoiler.
+abbrev pub tellSpoiler : Option ℕ → SpoilerAnswer
+tellSpoiler none = spoilt.Valid
+tellSpoiler (some x) = spoilt.Spoiled (record { 0 = x })

@@ -1,0 +1,116 @@
+-- The ways in which each call can end: the table not sound (15), the first question answered no, or accepted. Each says
+-- the answer, the table and every entry of the buffer. Assumes nothing.
+use Prim.Native.Nat.{ℕ, _≤_, _<_}
+use mathlib.Core.Path.{_≡_}
+use mathlib.Core.List.{List, _++_}
+use mathlib.Core.Option.{none, some}
+use lib.ListN.{length, getD, drop, set}
+use Rattle.theory.specs.Lists.{Lists}
+use Rattle.theory.specs.Rules.{Program, Held}
+use Rattle.theory.specs.Rules as theory
+use Rattle.theory.specs.Models.{AtomSet, Admissible}
+use Rattle.theory.specs.Labels.{Labelled, spoiler}
+use Rattle.theory.specs.Labels as theory-labels
+use Rattle.theory.specs.Explanations.{Justification, Consequence, Repercussion, Reason}
+use Rattle.theory.specs.Questions.{Question, first-no, add-questions, slot-questions, atom-questions, reason-questions, lowest-free}
+use Rattle.theory.specs.Tables.{document}
+use Rattle.table.specs.declared.Slot.{Slot}
+use Rattle.table.specs.declared.Table.{Table}
+use Rattle.table.specs.Rules.{programOf, pastRule}
+use Rattle.table.specs.Labels.{labelAt}
+use Rattle.table.specs.Sound.{Sound}
+use Rattle.calls.specs.declared.Refusal.{Refusal}
+use Rattle.calls.specs.declared.Refusal.the-variants.{Buffer, Unsound}
+use Rattle.calls.specs.declared.AddAnswer.{AddAnswer}
+use Rattle.calls.specs.declared.AddAnswer.the-variants as added
+use Rattle.calls.specs.declared.RemoveAnswer.{RemoveAnswer}
+use Rattle.calls.specs.declared.RemoveAnswer.the-variants as removed
+use Rattle.calls.specs.declared.LabelAnswer.{LabelAnswer}
+use Rattle.calls.specs.declared.LabelAnswer.the-variants as label
+use Rattle.calls.specs.declared.SpoilerAnswer.{SpoilerAnswer}
+use Rattle.calls.specs.declared.SpoilerAnswer.the-variants as spoilt
+use Rattle.calls.specs.declared.ListAnswer.{ListAnswer}
+use Rattle.calls.specs.declared.ListAnswer.the-variants as listed
+use Rattle.calls.specs.Answers.{numberOf, tellLabel, tellSpoiler}
+
+-- The rules that a table holds.
+abbrev pub held : Table → Program
+held t = programOf (t .rules)
+
+-- A table as the code has it: its arrays have their lengths.
+pub record Sized (t : Table) : Type 0 where
+  pub slots : length (t .rules) ≡ document .slots
+  pub atoms : length (t .labels) ≡ document .atoms
+  pub entries : (s : ℕ) → s < document .slots → length (getD (t .rules) s pastRule .entries) ≡ document .entries
+
+-- Add: 15, 1, 2, 3, 4, 5, 6, 7. Takes the lowest free slot; every other slot keeps its rule.
+pub data AddEnds (t : Table) (r : theory.Rule) : AddAnswer → Table → Type 0 where
+  unsound : (Sound t → ⊥) → AddEnds t r (added.Refused Unsound) t
+  refused :
+      (f : Refusal) → Sound t → first-no (add-questions document (held t) r) ≡ some (numberOf f)
+      → AddEnds t r (added.Refused f) t
+  accepted :
+      (s : Slot) (u : Table) → Sound t → first-no (add-questions document (held t) r) ≡ none
+      → lowest-free (held t) ≡ some (s .0) → Sized u → held u ≡ set (held t) (s .0) (some r) → Sound u
+      → AddEnds t r (added.Taken s) u
+
+-- Remove: 15, 8, 9. That slot becomes free; every other keeps its rule.
+pub data RemoveEnds (t : Table) (s : ℕ) : RemoveAnswer → Table → Type 0 where
+  unsound : (Sound t → ⊥) → RemoveEnds t s (removed.Refused Unsound) t
+  refused :
+      (f : Refusal) → Sound t → first-no (slot-questions document (held t) s) ≡ some (numberOf f)
+      → RemoveEnds t s (removed.Refused f) t
+  accepted :
+      (u : Table) → Sound t → first-no (slot-questions document (held t) s) ≡ none → Sized u
+      → held u ≡ set (held t) s none → Sound u → RemoveEnds t s removed.Removed u
+
+-- Label: 15, 10. Answers absent, out, or in with depth and supporting slot.
+pub data LabelEnds (t : Table) (a : ℕ) : LabelAnswer → Type 0 where
+  unsound : (Sound t → ⊥) → LabelEnds t a (label.Refused Unsound)
+  refused :
+      (f : Refusal) → Sound t → first-no (atom-questions document a) ≡ some (numberOf f)
+      → LabelEnds t a (label.Refused f)
+  accepted :
+      (M : AtomSet) (l : theory-labels.Label) → Sound t → first-no (atom-questions document a) ≡ none
+      → Admissible (held t) M → Labelled (held t) M a l → LabelEnds t a (tellLabel l)
+
+-- Spoiler: 15, 8, 9. Answers valid, or the atom.
+pub data SpoilerEnds (t : Table) (s : ℕ) : SpoilerAnswer → Type 0 where
+  unsound : (Sound t → ⊥) → SpoilerEnds t s (spoilt.Refused Unsound)
+  refused :
+      (f : Refusal) → Sound t → first-no (slot-questions document (held t) s) ≡ some (numberOf f)
+      → SpoilerEnds t s (spoilt.Refused f)
+  accepted :
+      (M : AtomSet) (r : theory.Rule) → Sound t → first-no (slot-questions document (held t) s) ≡ none
+      → Held (held t) s r → Admissible (held t) M → SpoilerEnds t s (tellSpoiler (spoiler M r))
+
+-- A call that writes a list: 15, its questions, and last 11. What is written stands from the start of the lent buffer,
+-- and later entries stay. `Is M xs` says that xs is the list, in the model M.
+pub data ListEnds (questions : List Question) (Is : AtomSet → List ℕ → Type 0) (t : Table) (before : List ℕ) :
+    ListAnswer → List ℕ → Type 0 where
+  unsound : (Sound t → ⊥) → ListEnds questions Is t before (listed.Refused Unsound) before
+  refused :
+      (f : Refusal) → Sound t → first-no questions ≡ some (numberOf f)
+      → ListEnds questions Is t before (listed.Refused f) before
+  short :
+      (M : AtomSet) (xs : List ℕ) → Sound t → first-no questions ≡ none → Admissible (held t) M → Is M xs
+      → length before < length xs → ListEnds questions Is t before (listed.Refused (Buffer (length xs))) before
+  accepted :
+      (M : AtomSet) (xs : List ℕ) → Sound t → first-no questions ≡ none → Admissible (held t) M → Is M xs
+      → length xs ≤ length before
+      → ListEnds questions Is t before (listed.Count (length xs)) (xs ++ drop (length xs) before)
+
+-- Justifications, consequences, repercussions of an atom: 15, 10, 11. Each is written ascending, without repeats.
+abbrev pub JustificationsEnd : Table → ℕ → List ℕ → ListAnswer → List ℕ → Type 0
+JustificationsEnd t a = ListEnds (atom-questions document a) (λ M xs. Lists xs (Justification (held t) a)) t
+
+abbrev pub ConsequencesEnd : Table → ℕ → List ℕ → ListAnswer → List ℕ → Type 0
+ConsequencesEnd t a = ListEnds (atom-questions document a) (λ M xs. Lists xs (Consequence (held t) a)) t
+
+abbrev pub RepercussionsEnd : Table → ℕ → List ℕ → ListAnswer → List ℕ → Type 0
+RepercussionsEnd t a = ListEnds (atom-questions document a) (λ M xs. Lists xs (Repercussion (held t) M a)) t
+
+-- Reason of an atom: 15, 10, 12, 11.
+abbrev pub ReasonEnds : Table → ℕ → List ℕ → ListAnswer → List ℕ → Type 0
+ReasonEnds t a =
+    ListEnds (reason-questions document a (labelAt (t .labels) a)) (λ M xs. Reason (held t) M a xs) t

@@ -1,0 +1,3 @@
+-- What each call answers and hands back, by document 01. A reader of the calls believes these.
+pub mod Answers
+pub mod Contracts

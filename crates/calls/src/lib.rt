@@ -1,0 +1,63 @@
+// The calls on a table: what they answer, and what they hand back. Arguments are bare numbers; no call asks anything of
+// its caller.
+use table::Atom;
+use table::Slot;
+use table::Table;
+
+// A refusal: a case for each question that a call can answer no. Its number is document 01's (specs/Answers).
+pub enum Refusal {
+    Head,
+    Entries,
+    Entry,
+    Repeated,
+    Same,
+    Full,
+    NegativeCycle,
+    SlotNumber,
+    Free,
+    AtomNumber,
+    Buffer(usize),
+    NotIn,
+    Unsound,
+}
+
+// The slot that an addition took.
+pub enum AddAnswer {
+    Taken(Slot),
+    Refused(Refusal),
+}
+
+pub struct Added {
+    pub answer: AddAnswer,
+    pub table: Table,
+}
+
+pub enum RemoveAnswer {
+    Removed,
+    Refused(Refusal),
+}
+
+pub struct Removal {
+    pub answer: RemoveAnswer,
+    pub table: Table,
+}
+
+// In, with depth and supporting slot.
+pub enum LabelAnswer {
+    Absent,
+    Out,
+    In(u16, Slot),
+    Refused(Refusal),
+}
+
+pub enum SpoilerAnswer {
+    Valid,
+    Spoiled(Atom),
+    Refused(Refusal),
+}
+
+// How many entries were written.
+pub enum ListAnswer {
+    Count(usize),
+    Refused(Refusal),
+}

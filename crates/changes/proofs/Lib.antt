@@ -1,0 +1,7 @@
+-- Laws behind the two calls. Nothing here needs to be believed.
+pub mod Making
+pub mod Slots
+pub mod Sizes
+pub mod OneSlot
+pub mod Adding
+pub mod Removing

@@ -1,0 +1,149 @@
+-- A sound table with one slot changed: what its rules keep, and that it is sound with their labels. Assumes nothing.
+use Prim.Native.Nat.{ℕ, _<_}
+use native.Mathlib.Omega.{arith}
+use mathlib.Core.Path.{_≡_, sym, _∙_, ap, subst}
+use mathlib.Core.Logic.{_⊎_, inl, inr, ⊎-elim}
+use mathlib.Core.Bool.{true, false}
+use mathlib.Core.List.{List}
+use mathlib.Core.Option.{none, some}
+use lib.Dec.{eqb}
+use lib.ListN.{length, getD, set, length-set}
+use lib.Seq.{getD-set-same, getD-set-other}
+use Rattle.theory.specs.Rules.{Program, Held, Bounded, same}
+use Rattle.theory.specs.Rules as theory
+use Rattle.theory.specs.Models.{AtomSet}
+use Rattle.theory.specs.Dependencies.{DependencyPath, Depends, here, positive, negative, NegativeCycle}
+use Rattle.theory.specs.Questions.{first-no, rule-questions}
+use Rattle.theory.specs.Tables.{document}
+use Rattle.theory.proofs.Lists.{test, clash, eqb-eq, eqb-of}
+use Rattle.theory.proofs.Rules.{same-eq}
+use Rattle.theory.proofs.Questions.{other-set}
+use Rattle.table.specs.declared.Rule.{Rule}
+use Rattle.table.specs.declared.Label.{Label}
+use Rattle.table.specs.declared.Table.{Table}
+use Rattle.table.specs.Rules.{programOf, slotOf, pastRule}
+use Rattle.table.specs.Clean.{CleanRule}
+use Rattle.table.specs.Sound.{Sound}
+use Rattle.table.proofs.Programs.{program-length, program-set}
+use Rattle.calls.specs.Contracts.{held, Sized}
+use Rattle.labels.specs.Labelling.{Labels}
+use Rattle.sound.proofs.Soundness.{bounded-of}
+
+-- Where every rule of Q is held by P, a path by Q is one by P.
+module _ (P Q : Program) (kept : (s : ℕ) (r : theory.Rule) → Held Q s r → Held P s r) where
+  step : (list : theory.Rule → List ℕ) (a x : ℕ) → Depends Q list a x → Depends P list a x
+  step list a x d = record {
+    slot = d .slot;
+    rule = d .rule;
+    held = kept (d .slot) (d .rule) (d .held);
+    heads = d .heads;
+    entry = d .entry;
+  }
+
+  pub fewer-path : {a c k : ℕ} → DependencyPath Q a c k → DependencyPath P a c k
+  fewer-path (here e) = here e
+  fewer-path (positive {a = a} {x = x} d w) = positive (step (λ r. r .positives) a x d) (fewer-path w)
+  fewer-path (negative {a = a} {x = x} d w) = negative (step (λ r. r .negatives) a x d) (fewer-path w)
+
+  pub fewer-cycle : NegativeCycle Q → NegativeCycle P
+  fewer-cycle c = record { atom = c .atom; further = c .further; cycle = fewer-path (c .cycle) }
+
+-- The table t, with r in slot s.
+module _ (t : Table) (S : Sound t) (s : ℕ) (inside : s < document .slots) (r : Rule) where
+  abbrev pub after : List Rule
+  after = set (t .rules) s r
+
+  long : length (t .rules) ≡ document .slots
+  long = sym (program-length (t .rules)) ∙ S .labels .slots
+
+  pub program-after : programOf after ≡ set (held t) s (slotOf r)
+  program-after = program-set (t .rules) s r
+
+  -- A rule held afterwards is the one put, or was held before.
+  pub held-after :
+      (k : ℕ) (q : theory.Rule) → Held (programOf after) k q
+      → ((k ≡ s) × (slotOf r ≡ some q)) ⊎ ((k ≡ s → ⊥) × Held (held t) k q)
+  held-after k q h = ⊎-elim
+      (λ (u : eqb k s ≡ true). (let e = eqb-eq k s u in
+      inl (
+        e,
+        sym (getD-set-same (held t) s (slotOf r) none (omega (arith, S .labels .slots)))
+            ∙ ap (λ (z : ℕ). getD (set (held t) s (slotOf r)) z none) (sym e) ∙ now-held,
+      )))
+      (λ (u : eqb k s ≡ false). (let n : k ≡ s → ⊥ = λ e. clash (eqb-of k s e) u in
+      inr (n, other-set (held t) s k (slotOf r) q n now-held)))
+      (test (eqb k s))
+    where
+      now-held : Held (set (held t) s (slotOf r)) k q
+      now-held = subst (λ (P : Program). Held P k q) program-after h
+
+  -- What is put is clean, passes questions 1 to 4 and is not held already, if it is a rule at all.
+  module _ (clean : CleanRule r)
+      (passes : (q : theory.Rule) → slotOf r ≡ some q → first-no (rule-questions document q) ≡ none)
+      (fresh : (k : ℕ) (q : theory.Rule) → slotOf r ≡ some q → Held (held t) k q → ⊥) where
+    passes-after :
+        (k : ℕ) (q : theory.Rule) → Held (programOf after) k q → first-no (rule-questions document q) ≡ none
+    passes-after k q h =
+        ⊎-elim (λ w. passes q (w .1)) (λ w. S .labels .passes k q (w .1)) (held-after k q h)
+
+    pub bounded-after : Bounded (programOf after) (document .atoms)
+    bounded-after = bounded-of document (programOf after) passes-after
+
+    single-after :
+        (j k : ℕ) (p q : theory.Rule) → Held (programOf after) j p → Held (programOf after) k q → same p q ≡ true
+        → j ≡ k
+    single-after j k p q h i u =
+        let e = same-eq p q u in
+        ⊎-elim
+        (λ w. ⊎-elim
+        (λ v. w .0 ∙ sym (v .0))
+        (λ v. absurd (fresh k q (w .1 ∙ ap some e) (v .1)))
+        (held-after k q i))
+        (λ w. ⊎-elim
+        (λ v. absurd (fresh j p (v .1 ∙ ap some (sym e)) (w .1)))
+        (λ v. S .labels .single j k p q (w .1) (v .1) u)
+        (held-after k q i))
+        (held-after j p h)
+
+    clean-after : (k : ℕ) → k < document .slots → CleanRule (getD after k pastRule)
+    clean-after k l = ⊎-elim
+        (λ (u : eqb k s ≡ true). (let e = eqb-eq k s u in
+        subst CleanRule (sym (ap (λ (z : ℕ). getD after z pastRule) e
+        ∙ getD-set-same (t .rules) s r pastRule (omega (arith, long)))) clean))
+        (λ (u : eqb k s ≡ false).
+        subst CleanRule (sym (getD-set-other (t .rules) s k r pastRule (λ e. clash (eqb-of k s e) u)))
+        (S .clean .rules k l))
+        (test (eqb k s))
+
+    pub sound-after :
+        (labels : List Label) → (NegativeCycle (programOf after) → ⊥) → (M : AtomSet)
+        → Labels (programOf after) M labels → Sound (record { rules = after; labels = labels })
+    sound-after labels free M L = record {
+      labels = record {
+        slots = program-length after ∙ length-set (t .rules) s r ∙ long;
+        passes = passes-after;
+        single = single-after;
+        acyclic = free;
+        model = M;
+        admissible = L .admissible;
+        labels = λ a l. L .labelled a;
+      };
+      clean = record { rules = clean-after; labels = L .clean };
+    }
+
+  -- The arrays keep their lengths.
+  pub sized-after :
+      Sized t → length (r .entries) ≡ document .entries → (labels : List Label) → length labels ≡ document .atoms
+      → Sized (record { rules = after; labels = labels })
+  sized-after Z e labels l = record {
+    slots = length-set (t .rules) s r ∙ Z .slots;
+    atoms = l;
+    entries = λ k m. ⊎-elim
+        (λ (u : eqb k s ≡ true). (let q = eqb-eq k s u in
+        ap (λ (x : Rule). length (x .entries)) (ap (λ (z : ℕ). getD after z pastRule) q
+        ∙ getD-set-same (t .rules) s r pastRule (omega (arith, Z .slots))) ∙ e))
+        (λ (u : eqb k s ≡ false).
+        ap (λ (x : Rule). length (x .entries))
+        (getD-set-other (t .rules) s k r pastRule (λ q. clash (eqb-of k s q) u)) ∙ Z .entries k m)
+        (test (eqb k s));
+  }

@@ -1,0 +1,158 @@
+-- `changes::add_to_sound` puts the rule into the lowest free slot of a sound table, or refuses. Assumes nothing.
+-- Each return has the answers of the questions before it.
+use mathlib.Core.Path.{_≡_, sym, _∙_}
+use mathlib.Core.Bool.{false}
+use mathlib.Core.Option.{none}
+use Rattle.theory.specs.Rules.{any-rule, same}
+use Rattle.theory.specs.Rules as theory
+use Rattle.theory.specs.Questions.{first-no, rule-questions, lowest-free}
+use Rattle.theory.specs.Tables.{document}
+use Rattle.theory.proofs.Lists.{not-true, not-false}
+use Rattle.table.specs.Questions.{ruleFrom}
+use Rattle.table.proofs.Refusals.{none-refused}
+use Rattle.calls.specs.Contracts.{held}
+use Rattle.changes.proofs.Adding.{same-told, refused-early, refused-same, refused-full, refused-cycle}
+use Rattle.changes.proofs.Adding.{bounded-put, taken, handed-back}
+use Rattle.changes.proofs.Sizes.{table-sized, rule-sized, labels-sized}
+use borrow.Author.Needs.{needs}
+use Rattle.changes.proofs.add_to_sound.Statement.{statement}
+use Rattle.changes.proofs.add_to_sound.Tie as tie
+
+-- The rule that the arguments name; that it passes questions 1 to 4; that it is not held; the slot found.
+abbrev named : tie.Start → theory.Rule
+named s = ruleFrom (s .args .head) (s .args .positives .now) (s .args .negatives .now)
+
+pass : (c : tie.Else1) → first-no (rule-questions document (named (c .before .before .before .before))) ≡ none
+pass c =
+    let a = c .before .before .before .before .args in
+    none-refused document (a .head) (a .positives .now) (a .negatives .now)
+    (sym (c .before .first-no .ensures) ∙ c .if1 .left)
+
+other :
+    (c : tie.Else2) → any-rule (same (named (c .before .before .before .before .before .before .before .before)))
+    (held (c .before .before .before .before .before .before .before .before .args .table))
+    ≡ false
+other c =
+    let made = c .before .before .before in
+    same-told _ (made .make-rule .result) (made .make-rule .ensures) _ _ false (c .before .holds-same .ensures)
+    (c .if2 .left)
+
+first-no-requires : tie.Need-first-no-requires
+first-no-requires c κs = search needs
+
+refusal-of-requires : tie.Need-refusal-of-requires
+refusal-of-requires c κs = search needs
+
+refuse-requires : tie.Need-refuse-requires
+refuse-requires c κs = search needs
+
+returns : tie.Need-returns
+returns c =
+    let why = c .before in
+    let num = why .before .before in
+    let s = num .before .before .before in
+    handed-back (s .args .table) (named s) _ _ (c .refuse .ensures)
+    (refused-early (s .args .table) (s .pre) (named s) _ (num .first-no .ensures) (why .before .if1 .taken) _
+    (why .refusal-of .ensures))
+
+make-rule-requires : tie.Need-make-rule-requires
+make-rule-requires c κs = pass c
+
+holds-same-requires : tie.Need-holds-same-requires
+holds-same-requires c κs = search needs
+
+refuse-requires-2 : tie.Need-refuse-requires-2
+refuse-requires-2 c κs = search needs
+
+returns-2 : tie.Need-returns-2
+returns-2 c =
+    let holds = c .before .before in
+    let made = holds .before .before in
+    let s = made .before .before .before .before .before in
+    handed-back (s .args .table) (named s) _ _ (c .refuse2 .ensures)
+    (refused-same (s .args .table) (s .pre) (named s) (pass (made .before))
+    (same-told _ (made .make-rule .result) (made .make-rule .ensures) _ _ _ (holds .holds-same .ensures)
+    (c .before .if2 .taken)))
+
+lowest-free-requires : tie.Need-lowest-free-requires
+lowest-free-requires c κs = search needs
+
+refuse-requires-3 : tie.Need-refuse-requires-3
+refuse-requires-3 c κs = search needs
+
+returns-3 : tie.Need-returns-3
+returns-3 c =
+    let low = c .before .before in
+    let made = low .before .before .before .before in
+    let s = made .before .before .before .before .before in
+    handed-back (s .args .table) (named s) _ _ (c .refuse3 .ensures)
+    (refused-full (s .args .table) (s .pre) (named s) (pass (made .before)) (other (low .before))
+    (low .lowest-free .ensures .full (c .before .if3 .taken)))
+
+mul-changed : tie.Need-mul-changed
+mul-changed c = search needs
+
+array-set-from-changed : tie.Need-array-set-from-changed
+array-set-from-changed c = search needs
+
+labels-of-requires : tie.Need-labels-of-requires
+labels-of-requires c κs =
+    let low = c .before in
+    let made = low .before .before .before .before in
+    let s = made .before .before .before .before .before in
+    bounded-put (s .args .table) (s .pre) (named s) (pass (made .before)) (other (low .before)) _ (c .if3 .left)
+    (low .lowest-free .ensures .found (c .if3 .left)) (made .make-rule .result) (made .make-rule .ensures)
+
+refuse-requires-4 : tie.Need-refuse-requires-4
+refuse-requires-4 c κs = search needs
+
+returns-4 : tie.Need-returns-4
+returns-4 c =
+    let told = c .before .before .before in
+    let put = told .before in
+    let low = put .before in
+    let made = low .before .before .before .before in
+    let s = made .before .before .before .before .before in
+    handed-back (s .args .table) (named s) _ _ (c .refuse4 .ensures)
+    (refused-cycle (s .args .table) (s .pre) (named s) (pass (made .before)) (other (low .before)) _ (put .if3 .left)
+    (low .lowest-free .ensures .found (put .if3 .left)) (made .make-rule .result) (made .make-rule .ensures)
+    (told .labels-of .result) (told .labels-of .ensures) (not-true _ (c .before .if4 .taken)))
+
+cast-taken : tie.Need-cast-taken
+cast-taken c = search needs
+
+returns-5 : tie.Need-returns-5
+returns-5 c =
+    let told = c .before .before .before in
+    let put = told .before in
+    let low = put .before in
+    let made = low .before .before .before .before in
+    let s = made .before .before .before .before .before in
+    taken (s .args .table) (s .pre) (named s) (pass (made .before)) (other (low .before)) _ (put .if3 .left)
+    (low .lowest-free .ensures .found (put .if3 .left)) (made .make-rule .result) (made .make-rule .ensures)
+    (told .labels-of .result) (told .labels-of .ensures) (not-false _ (c .before .if4 .left))
+    (table-sized _ _ (s .good .0)) (rule-sized (made .make-rule .result) _ (made .make-rule .ok))
+    (labels-sized (told .labels-of .result) _ (told .labels-of .ok))
+
+pub add-to-sound-spec : {M : Type 1} → statement M
+add-to-sound-spec =
+    tie.close
+    (tie.spec
+    first-no-requires
+    refusal-of-requires
+    refuse-requires
+    returns
+    make-rule-requires
+    holds-same-requires
+    refuse-requires-2
+    returns-2
+    lowest-free-requires
+    refuse-requires-3
+    returns-3
+    mul-changed
+    array-set-from-changed
+    labels-of-requires
+    refuse-requires-4
+    returns-4
+    cast-taken
+    returns-5)

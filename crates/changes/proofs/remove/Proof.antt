@@ -1,0 +1,21 @@
+-- `changes::remove` ends as its contract says: question 15 first. Assumes nothing.
+use borrow.Author.Needs.{needs}
+use Rattle.theory.proofs.Lists.{clash, not-true, not-false}
+use Rattle.calls.specs.Contracts as contract
+use Rattle.changes.proofs.remove.Statement.{statement}
+use Rattle.changes.proofs.remove.Tie as tie
+
+sound-requires : tie.Need-sound-requires
+sound-requires c κs = search needs
+
+returns : tie.Need-returns
+returns c = contract.unsound (λ S. clash (c .before .sound .ensures .1 S) (not-true _ (c .if1 .taken)))
+
+remove-from-sound-requires : tie.Need-remove-from-sound-requires
+remove-from-sound-requires c κs = c .before .sound .ensures .0 (not-false _ (c .if1 .left))
+
+returns-2 : tie.Need-returns-2
+returns-2 c = search needs
+
+pub remove-spec : {M : Type 1} → statement M
+remove-spec = tie.close (tie.spec sound-requires returns remove-from-sound-requires returns-2)

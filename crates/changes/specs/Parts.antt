@@ -1,0 +1,30 @@
+-- What the functions behind the two calls answer. Assumes nothing.
+use Prim.Native.Nat.{ℕ, _+_, _≤_, _<_}
+use mathlib.Core.Path.{_≡_}
+use mathlib.Core.Logic.{_⊎_}
+use mathlib.Core.List.{List}
+use mathlib.Core.Option.{none, some}
+use lib.ListN.{length, getD}
+use Rattle.theory.specs.Rules.{Program}
+use Rattle.theory.specs.Rules as theory
+use Rattle.theory.specs.Questions.{lowest-free}
+use Rattle.theory.specs.Tables.{document}
+use Rattle.table.specs.declared.Atom.{Atom}
+use Rattle.table.specs.declared.Rule.{Rule}
+use Rattle.table.specs.Rules.{slotOf, noAtom}
+use Rattle.table.specs.Clean.{CleanRule}
+
+-- A list of numbers stands among the entries from a place on; every other entry is as before.
+pub record Copied (before : List Atom) (from : ℕ) (list : List ℕ) (after : List Atom) : Type 0 where
+  pub inside : (i : ℕ) → i < length list → getD after (from + i) noAtom .0 ≡ getD list i 0
+  pub outside : (i : ℕ) → (i < from) ⊎ (from + length list ≤ i) → getD after i noAtom ≡ getD before i noAtom
+
+-- A slot that holds the rule, with nothing past its lists.
+pub record Made (q : theory.Rule) (r : Rule) : Type 0 where
+  pub held : slotOf r ≡ some q
+  pub clean : CleanRule r
+
+-- The lowest free slot, or the number of slots where none is free.
+pub record LowestFree (P : Program) (s : ℕ) : Type 0 where
+  pub found : s < document .slots → lowest-free P ≡ some s
+  pub full : document .slots ≤ s → lowest-free P ≡ none

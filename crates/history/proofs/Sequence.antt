@@ -1,0 +1,210 @@
+-- Demand 3 holds after any list of calls from the empty table, each meeting its contract; and demand 2 after each.
+-- Assumes nothing.
+use Prim.Native.Nat.{ℕ, zero, suc, _≤_, _<_}
+use native.Mathlib.Omega.{arith}
+use mathlib.Core.Path.{_≡_, refl, sym, _∙_, ap, ap₂, subst}
+use mathlib.Core.Logic.{_⊎_, inl, inr, ⊎-elim, _↔_}
+use mathlib.Core.Bool.{Bool, true, false}
+use mathlib.Core.List.{List, [], _∷_}
+use mathlib.Core.Option.{Option, none, some, Option·none-ne-some}
+use lib.Dec.{ltb}
+use lib.ListN.{length, getD, set, replicate}
+use Rattle.theory.specs.Lists.{_∈_, Lists}
+use Rattle.theory.specs.Rules.{Rule, Program, Held}
+use Rattle.theory.specs.Models.{AtomSet, valid, Admissible}
+use Rattle.theory.specs.Dependencies.{NegativeCycle}
+use Rattle.theory.specs.Labels.{Label, absent, out, in-at, Labelled, is-absent, is-out, is-in, spoiler}
+use Rattle.theory.specs.Questions.{is-in-label, first-no, add-questions, slot-questions, atom-questions, put-in, asks, is-some}
+use Rattle.theory.specs.Book.{Call, add, remove, Answer, refused, slot, accepted, empty, answer, after, answers, after-all}
+use Rattle.theory.specs.Book.{refusal, granted, changed, slot-answer}
+use Rattle.theory.specs.Tables.{document}
+use Rattle.theory.proofs.Lists.{test, clash, same-test, lt-ltb, le-or-lt}
+use Rattle.theory.proofs.Rules.{held-unique, valid-positive}
+use Rattle.theory.proofs.Questions.{first-no-yes, held-below}
+use Rattle.theory.proofs.Strata.{acyclic-strata, rules-below, model-unique}
+use Rattle.theory.proofs.Depths.{depth-count}
+use Rattle.theory.proofs.Labels.{label-unique, label-moves, spoils, spoiler-exists}
+use Rattle.table.specs.declared.Table.{Table}
+use Rattle.table.specs.Rules.{programOf}
+use Rattle.table.specs.Labels.{labelAt}
+use Rattle.table.specs.Clean.{emptyTable, freeRule}
+use Rattle.table.specs.Sound.{Sound}
+use Rattle.table.proofs.Empty.{empty-sound}
+use Rattle.calls.specs.declared.LabelAnswer.{LabelAnswer}
+use Rattle.calls.specs.declared.SpoilerAnswer.{SpoilerAnswer}
+use Rattle.calls.specs.Answers.{bookAdd, bookRemove, tellLabel, tellSpoiler}
+use Rattle.calls.specs.Contracts as contract
+use Rattle.calls.specs.Contracts.{held, AddEnds, RemoveEnds, LabelEnds, SpoilerEnds}
+use Rattle.calls.proofs.Determined.{same-model, label-determined, spoiler-determined}
+use Rattle.history.specs.Claim.{Step, adds, removes, Trace, stop, call, bookAfter, Supported, Spoils, History, InModel}
+
+-- What a call on a sound table answers and leaves is what the book does, and the table stays sound.
+record Follows (P : Program) (c : Call) (x : Answer) (u : Table) : Type 0 where
+  said : x ≡ answer document P c
+  holds : held u ≡ after document P c
+  still : Sound u
+
+answer-no : (P : Program) (c : Call) (k : ℕ) → refusal document P c ≡ some k → answer document P c ≡ refused k
+unfolding answer
+answer-no P c k e = rw (e, answer)
+
+answer-yes : (P : Program) (c : Call) → refusal document P c ≡ none → answer document P c ≡ granted document P c
+unfolding answer
+answer-yes P c e = rw (e, answer)
+
+after-no : (P : Program) (c : Call) (k : ℕ) → refusal document P c ≡ some k → after document P c ≡ P
+unfolding after
+after-no P c k e = rw (e, after)
+
+after-yes : (P : Program) (c : Call) → refusal document P c ≡ none → after document P c ≡ changed document P c
+unfolding after
+after-yes P c e = rw (e, after)
+
+step-follows : {t u : Table} {c : Call} {x : Answer} → Sound t → Step t c x u → Follows (held t) c x u
+step-follows {t} S (adds (contract.unsound n)) = absurd (n S)
+step-follows {t} S (adds {r} (contract.refused f T e)) = record {
+  said = sym (answer-no (held t) (add r) _ e);
+  holds = sym (after-no (held t) (add r) _ e);
+  still = S;
+}
+step-follows {t} S (adds {r} (contract.accepted s u T e l Z h U)) = record {
+  said = sym (answer-yes (held t) (add r) e ∙ ap slot-answer l);
+  holds = h ∙ sym (after-yes (held t) (add r) e ∙ ap (λ (o : Option ℕ). put-in (held t) o r) l);
+  still = U;
+}
+step-follows {t} S (removes (contract.unsound n)) = absurd (n S)
+step-follows {t} S (removes {s} (contract.refused f T e)) = record {
+  said = sym (answer-no (held t) (remove s) _ e);
+  holds = sym (after-no (held t) (remove s) _ e);
+  still = S;
+}
+step-follows {t} S (removes {s} (contract.accepted u T e Z h U)) = record {
+  said = sym (answer-yes (held t) (remove s) e);
+  holds = h ∙ sym (after-yes (held t) (remove s) e);
+  still = U;
+}
+
+-- The same of a list of calls, by induction on the list.
+record Agrees (P : Program) (cs : List Call) (xs : List Answer) (v : Table) : Type 0 where
+  told : xs ≡ answers document P cs
+  kept : held v ≡ after-all document P cs
+  sound : Sound v
+
+trace-agrees : {t v : Table} {cs : List Call} {xs : List Answer} → Sound t → Trace t cs xs v → Agrees (held t) cs xs v
+unfolding answers after-all
+trace-agrees S stop = record { told = refl; kept = refl; sound = S }
+trace-agrees S (call {cs = cs} step rest) =
+    let w = step-follows S step in
+    let z = trace-agrees (w .still) rest in
+    record {
+      told = ap₂ _∷_ (w .said) (z .told ∙ ap (λ (P : Program). answers document P cs) (w .holds));
+      kept = z .kept ∙ ap (λ (P : Program). after-all document P cs) (w .holds);
+      sound = z .sound;
+    }
+
+-- An in atom of a sound table shows what the third demand asks.
+in-supported :
+    (P : Program) (M : AtomSet) → Admissible P M → (a d s : ℕ) → Labelled P M a (in-at d s) → Supported P M a d s
+in-supported P M A a d s (is-in t D S) =
+    let w = S .supports in
+    record {
+      rule = w .rule;
+      holds = w .held;
+      heads = w .heads;
+      good = w .good;
+      entries = λ x m. (valid-positive M (w .rule) (w .good) x m, w .smaller x m);
+      derived = D .reached;
+      fewest = D .least;
+      few = λ xs L. depth-count P M (A .founded) xs (λ x i. L .exactly x .1 i) a d t D;
+    }
+
+-- A rule of an out atom has a spoiler, which really spoils it.
+out-spoiled :
+    (P : Program) (M : AtomSet) → Admissible P M → (a s : ℕ) (r : Rule) → Labelled P M a out → Held P s r
+    → r .head ≡ a → (x : ℕ) × (spoiler M r ≡ some x) × Spoils M r x
+out-spoiled P M A a s r (is-out o n) h e = ⊎-elim
+    (λ (t : valid M r ≡ true). absurd (clash (ap M (sym e) ∙ A .closed s r h t) n))
+    (λ (t : valid M r ≡ false). (let w = spoiler-exists M r t in (w .0, w .1, spoils M r (w .0) (w .1))))
+    (test (valid M r))
+
+-- The rules of the empty table are the empty book.
+free-slots : (n : ℕ) → programOf (replicate n freeRule) ≡ replicate n none
+free-slots zero = refl
+free-slots (suc n) = ap (λ (P : Program). none ∷ P) (free-slots n)
+
+-- The questions of Label and Spoiler are answered yes below the limits and where a rule is held.
+
+label-asked : (a : ℕ) → a < document .atoms → first-no (atom-questions document a) ≡ none
+unfolding first-no
+label-asked a l = first-no-yes (asks 10 (ltb a (document .atoms))) [] (lt-ltb a (document .atoms) l)
+
+slot-asked :
+    (P : Program) (s : ℕ) (r : Rule) → length P ≡ document .slots → Held P s r
+    → first-no (slot-questions document P s) ≡ none
+unfolding first-no
+slot-asked P s r e h =
+    first-no-yes (asks 8 (ltb s (document .slots))) (asks 9 (is-some (getD P s none)) ∷ [])
+    (lt-ltb s (document .slots) (omega (arith, held-below P s r h)))
+    ∙ first-no-yes (asks 9 (is-some (getD P s none))) [] (ap is-some h)
+
+-- What holds of any sound table, in the words of the claim.
+module _ (cs : List Call) (xs : List Answer) (t : Table) (e : held t ≡ bookAfter cs) (S : Sound t) where
+  P : Program
+  P = bookAfter cs
+
+  M : AtomSet
+  M = S .labels .model
+
+  model : Admissible (bookAfter cs) M
+  unfolding M
+  model = subst (λ (Q : Program). Admissible Q (S .labels .model)) e (S .labels .admissible)
+
+  kept : (a : ℕ) → a < document .atoms → Labelled (bookAfter cs) M a (labelAt (t .labels) a)
+  unfolding M
+  kept a l = subst (λ (Q : Program). Labelled Q (S .labels .model) a (labelAt (t .labels) a)) e (S .labels .labels a l)
+
+  answered-label :
+      (a : ℕ) → a < document .atoms → (x : LabelAnswer) → LabelEnds t a x
+      → (l : Label) × (x ≡ tellLabel l) × Labelled (bookAfter cs) M a l
+  unfolding M
+  answered-label a l x E = (
+    labelAt (t .labels) a,
+    label-determined t a x _ E
+        (contract.accepted (S .labels .model) (labelAt (t .labels) a) S (label-asked a l) (S .labels .admissible)
+        (S .labels .labels a l)),
+    kept a l,
+  )
+
+  answered-spoiler :
+      (s : ℕ) (r : Rule) → Held (bookAfter cs) s r → (x : SpoilerAnswer) → SpoilerEnds t s x
+      → x ≡ tellSpoiler (spoiler M r)
+  unfolding M
+  answered-spoiler s r h x E =
+      let i : Held (held t) s r = subst (λ (Q : Program). Held Q s r) (sym e) h in
+      spoiler-determined t s x _ E
+      (contract.accepted (S .labels .model) r S (slot-asked (held t) s r (S .labels .slots) i) i (S .labels .admissible))
+
+  claim : xs ≡ answers document (empty document) cs → History cs xs t
+  claim told = record {
+    answered = told;
+    slots = e;
+    sound = S;
+    model = M;
+    admissible = model;
+    alone = λ N A a. model-unique (bookAfter cs) (rules-below (bookAfter cs)) (acyclic-strata (bookAfter cs)
+        (subst (λ (Q : Program). NegativeCycle Q → ⊥) e (S .labels .acyclic))) N M A model a;
+    labels = kept;
+    label-answer = answered-label;
+    supported = λ a d s l q. in-supported (bookAfter cs) M model a d s
+        (subst (Labelled (bookAfter cs) M a) q (kept a l));
+    spoiler-answer = answered-spoiler;
+    spoiled = λ a l q s r h i. out-spoiled (bookAfter cs) M model a s r (subst (Labelled (bookAfter cs) M a) q (kept a l)) h i;
+  }
+
+-- Demand 3.
+pub history : (cs : List Call) (xs : List Answer) (t : Table) → Trace emptyTable cs xs t → History cs xs t
+history cs xs t T =
+    let w = trace-agrees empty-sound T in
+    let b : held emptyTable ≡ empty document = free-slots (document .slots) in
+    claim cs xs t (w .kept ∙ ap (λ (Q : Program). after-all document Q cs) b) (w .sound)
+    (w .told ∙ ap (λ (Q : Program). answers document Q cs) b)

@@ -1,0 +1,91 @@
+-- Demands 2 and 3 of document 01. A list of calls, each getting the table that the last handed back, and what is claimed
+-- after it: answers, rules, labels, depths, supports and spoilers are those of the plain book. Assumes nothing.
+use Prim.Native.Nat.{ℕ, _≤_, _<_}
+use mathlib.Core.Path.{_≡_}
+use mathlib.Core.Logic.{_⊎_, _↔_}
+use mathlib.Core.Bool.{true, false}
+use mathlib.Core.List.{List, [], _∷_}
+use mathlib.Core.Option.{none, some}
+use lib.ListN.{length}
+use Rattle.theory.specs.Lists.{_∈_, Lists}
+use Rattle.theory.specs.Rules.{Rule, Program, Held}
+use Rattle.theory.specs.Models.{AtomSet, valid, Admissible}
+use Rattle.theory.specs.Dependencies.{NegativeCycle}
+use Rattle.theory.specs.Derivations.{Derivation}
+use Rattle.theory.specs.Labels.{Label, out, in-at, Labelled, Shallower, spoiler}
+use Rattle.theory.specs.Questions.{is-in-label, lowest-free, put-in}
+use Rattle.theory.specs.Book.{Call, add, remove, Answer, empty, answers, after-all}
+use Rattle.theory.specs.Tables.{document}
+use Rattle.table.specs.declared.Table.{Table}
+use Rattle.table.specs.Labels.{labelAt}
+use Rattle.table.specs.Sound.{Sound}
+use Rattle.calls.specs.declared.AddAnswer.{AddAnswer}
+use Rattle.calls.specs.declared.RemoveAnswer.{RemoveAnswer}
+use Rattle.calls.specs.declared.LabelAnswer.{LabelAnswer}
+use Rattle.calls.specs.declared.SpoilerAnswer.{SpoilerAnswer}
+use Rattle.calls.specs.Answers.{bookAdd, bookRemove, tellLabel, tellSpoiler}
+use Rattle.calls.specs.Contracts.{held, AddEnds, RemoveEnds, LabelEnds, SpoilerEnds}
+
+-- A call that meets its contract: on the table t it answers and hands back a table.
+pub data Step (t : Table) : Call → Answer → Table → Type 0 where
+  adds : {r : Rule} {x : AddAnswer} {u : Table} → AddEnds t r x u → Step t (add r) (bookAdd x) u
+  removes : {s : ℕ} {x : RemoveAnswer} {u : Table} → RemoveEnds t s x u → Step t (remove s) (bookRemove x) u
+
+-- A list of such calls.
+pub data Trace : Table → List Call → List Answer → Table → Type 0 where
+  stop : {t : Table} → Trace t [] [] t
+  call :
+      {t u v : Table} {c : Call} {x : Answer} {cs : List Call} {xs : List Answer} → Step t c x u → Trace u cs xs v
+      → Trace t (c ∷ cs) (x ∷ xs) v
+
+-- The book's rules after a list of calls.
+abbrev pub bookAfter : List Call → Program
+bookAfter cs = after-all document (empty document) cs
+
+-- An in atom, as the third demand asks: its supporting rule is valid with all positive entries in and of smaller depth;
+-- some derivation has exactly depth levels and none fewer; depth is at most the number of in atoms.
+pub record Supported (P : Program) (M : AtomSet) (a depth slot : ℕ) : Type 0 where
+  pub rule : Rule
+  pub holds : Held P slot rule
+  pub heads : rule .head ≡ a
+  pub good : valid M rule ≡ true
+  pub entries : (x : ℕ) → x ∈ rule .positives → (M x ≡ true) × Shallower P M x a
+  pub derived : Derivation P M a depth
+  pub fewest : (h : ℕ) → Derivation P M a h → depth ≤ h
+  pub few : (xs : List ℕ) → Lists xs (λ x. M x ≡ true) → depth ≤ length xs
+
+-- An entry x really spoils a rule: it is positive and out, or negative and in.
+abbrev pub Spoils : AtomSet → Rule → ℕ → Type 0
+Spoils M r x = ((x ∈ r .positives) × (M x ≡ false)) ⊎ ((x ∈ r .negatives) × (M x ≡ true))
+
+-- Demand 3: after the calls cs, with the answers xs, the table is t.
+pub record History (cs : List Call) (xs : List Answer) (t : Table) : Type 0 where
+  -- each answer is the book's, and each slot holds what the page of its number holds
+  pub answered : xs ≡ answers document (empty document) cs
+  pub slots : held t ≡ bookAfter cs
+  pub sound : Sound t
+  -- the labels are those defined for the book's rules, in their one admissible model
+  pub model : AtomSet
+  pub admissible : Admissible (bookAfter cs) model
+  pub alone : (N : AtomSet) → Admissible (bookAfter cs) N → (a : ℕ) → N a ≡ model a
+  pub labels : (a : ℕ) → a < document .atoms → Labelled (bookAfter cs) model a (labelAt (t .labels) a)
+  pub label-answer :
+      (a : ℕ) → a < document .atoms → (x : LabelAnswer) → LabelEnds t a x
+      → (l : Label) × (x ≡ tellLabel l) × Labelled (bookAfter cs) model a l
+  -- an in atom shows its support and its least depth
+  pub supported :
+      (a d s : ℕ) → a < document .atoms → labelAt (t .labels) a ≡ in-at d s → Supported (bookAfter cs) model a d s
+  -- the spoiler answer of each held slot is the one defined
+  pub spoiler-answer :
+      (s : ℕ) (r : Rule) → Held (bookAfter cs) s r → (x : SpoilerAnswer) → SpoilerEnds t s x
+      → x ≡ tellSpoiler (spoiler model r)
+  -- and each rule of an out atom shows the first entry that really spoils it
+  pub spoiled :
+      (a : ℕ) → a < document .atoms → labelAt (t .labels) a ≡ out → (s : ℕ) (r : Rule) → Held (bookAfter cs) s r
+      → r .head ≡ a → (x : ℕ) × (spoiler model r ≡ some x) × Spoils model r x
+
+-- Demand 2, of a table handed back: an atom is in if and only if it is in the admissible model of the rules now held.
+abbrev pub InModel : Table → Type 0
+InModel u =
+    (M : AtomSet) → Admissible (held u) M → (a : ℕ) → a < document .atoms
+    → (is-in-label (labelAt (u .labels) a) ≡ true) ↔ (M a ≡ true)

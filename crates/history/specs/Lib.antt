@@ -1,0 +1,2 @@
+-- The claim over sequences: what a reader believes when told that it holds.
+pub mod Claim

@@ -1,0 +1,10 @@
+-- `queries::kept::is_in` meets its contract. Assumes nothing.
+use Rattle.sound.proofs.Apart.{in-test}
+use Rattle.queries.proofs.kept.is_in.Statement.{statement}
+use Rattle.queries.proofs.kept.is_in.Tie as tie
+
+returns : tie.Need-returns
+returns c = in-test (c .before .args .label)
+
+pub is-in-spec : {M : Type 1} → statement M
+is-in-spec = tie.close (tie.spec returns)

@@ -1,0 +1,16 @@
+-- `queries::kept::slot_in` meets its contract. Assumes nothing.
+use mathlib.Core.Path.{refl, sym, ap}
+use Rattle.table.proofs.Programs.{label-kept}
+use Rattle.sound.specs.Certificate.{slot-in}
+use Rattle.sound.proofs.Apart.{label-not-in}
+use Rattle.queries.proofs.kept.slot_in.Statement.{statement}
+use Rattle.queries.proofs.kept.slot_in.Tie as tie
+
+returns : tie.Need-returns
+returns c = sym (ap slot-in (label-kept (c .before .before .args .label) (c .if1 .taken)))
+
+returns-2 : tie.Need-returns-2
+returns-2 c = sym (label-not-in (c .before .before .args .label) slot-in 0 refl refl (c .if1 .left))
+
+pub slot-in-spec : {M : Type 1} → statement M
+slot-in-spec = tie.close (tie.spec returns returns-2)

@@ -1,0 +1,110 @@
+// The calls that ask a table and change nothing. Each asks question 15 first, so that the kept labels are the defined
+// ones, then those of its argument; the first answered no is the refusal.
+use calls::LabelAnswer;
+use calls::ListAnswer;
+use calls::Refusal;
+use calls::SpoilerAnswer;
+use sound::sound;
+use table::Atom;
+use table::Table;
+use table::questions::head_fits;
+ghost use Rattle.calls.specs.Contracts.{LabelEnds, SpoilerEnds};
+ghost use Rattle.calls.specs.Contracts.{JustificationsEnd, ConsequencesEnd, RepercussionsEnd};
+
+mod answers; // answers.rt: one kept label, one spoiler, told as an answer
+mod kept; // kept.rt: what the labels keep, in arrays
+mod written; // written.rt: a set of numbers written into a lent buffer
+mod found; // found.rt: the sets of justifications and of consequences
+mod affected; // affected.rt: the steps from an atom to those that it affects
+
+// The label of an atom: absent, out, or in with depth and supporting slot. Asks 15, 10.
+pub fn label(table: Table, atom: u32) -> LabelAnswer
+    ensures { λ r. ⌜ LabelEnds table atom r ⌝ }
+{
+    if !sound(table) {
+        return LabelAnswer::Refused(Refusal::Unsound);
+    }
+    if !head_fits(atom) {
+        return LabelAnswer::Refused(Refusal::AtomNumber);
+    }
+    let a = atom as usize;
+    let labels = table.labels;
+    let kept = labels[a];
+    answers::tell_label(kept)
+}
+
+// The spoiler of the rule in a slot, or that the rule is valid. Asks 15, 8, 9.
+pub fn spoiler(table: Table, slot: u32) -> SpoilerAnswer
+    ensures { λ r. ⌜ SpoilerEnds table slot r ⌝ }
+{
+    if !sound(table) {
+        return SpoilerAnswer::Refused(Refusal::Unsound);
+    }
+    let s = slot as usize;
+    if s >= Table::SLOTS {
+        return SpoilerAnswer::Refused(Refusal::SlotNumber);
+    }
+    let rules = table.rules;
+    let rule = rules[s];
+    if rule.state == 0 {
+        return SpoilerAnswer::Refused(Refusal::Free);
+    }
+    let labels = table.labels;
+    let k = kept::keep(labels);
+    let flags = k.flags;
+    answers::tell_spoiler(rule, &flags)
+}
+
+// Justifications of an atom: the slots of the rules with this head, written ascending from the start of the buffer;
+// their count is answered, and later entries stay. Asks 15, 10, 11.
+pub fn justifications(table: Table, atom: u32, buffer: &mut [u32]) -> ListAnswer
+    ensures { λ r. ⌜ JustificationsEnd table atom (now (buffer .entry)) r (now (buffer .exit)) ⌝ }
+{
+    if !sound(table) {
+        return ListAnswer::Refused(Refusal::Unsound);
+    }
+    if !head_fits(atom) {
+        return ListAnswer::Refused(Refusal::AtomNumber);
+    }
+    let a = Atom(atom as u16);
+    let rules = table.rules;
+    let flags = found::justifying(rules, a);
+    written::write_marked(&flags, buffer)
+}
+
+// Consequences of an atom: the heads of the rules with this entry, written and counted likewise. Asks 15, 10, 11.
+pub fn consequences(table: Table, atom: u32, buffer: &mut [u32]) -> ListAnswer
+    ensures { λ r. ⌜ ConsequencesEnd table atom (now (buffer .entry)) r (now (buffer .exit)) ⌝ }
+{
+    if !sound(table) {
+        return ListAnswer::Refused(Refusal::Unsound);
+    }
+    if !head_fits(atom) {
+        return ListAnswer::Refused(Refusal::AtomNumber);
+    }
+    let a = Atom(atom as u16);
+    let rules = table.rules;
+    let flags = found::following(rules, a);
+    written::write_marked(&flags, buffer)
+}
+
+// Repercussions of an atom: all atoms that it affects in one or more steps, written and counted likewise. Asks 15, 10,
+// 11.
+pub fn repercussions(table: Table, atom: u32, buffer: &mut [u32]) -> ListAnswer
+    ensures { λ r. ⌜ RepercussionsEnd table atom (now (buffer .entry)) r (now (buffer .exit)) ⌝ }
+{
+    if !sound(table) {
+        return ListAnswer::Refused(Refusal::Unsound);
+    }
+    if !head_fits(atom) {
+        return ListAnswer::Refused(Refusal::AtomNumber);
+    }
+    let a = Atom(atom as u16);
+    let rules = table.rules;
+    let labels = table.labels;
+    let k = kept::keep(labels);
+    let flags = k.flags;
+    let slots = k.slots;
+    let reached = affected::reached(rules, &flags, &slots, a);
+    written::write_marked(&reached, buffer)
+}

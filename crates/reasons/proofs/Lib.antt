@@ -1,0 +1,5 @@
+-- Laws about the definitions of specs/. Nothing here needs to be believed: all of it is checked.
+pub mod Kept
+pub mod Gathering
+pub mod Writing
+pub mod Reasons
