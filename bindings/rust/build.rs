@@ -1,0 +1,17 @@
+//! Links the proved library: the archive that `rt staticlib ffi` writes.
+
+use std::path::Path;
+
+fn main() {
+    let root = Path::new(env!("CARGO_MANIFEST_DIR")).join("../..");
+    let folder = root.join("target/staticlib");
+    let library = folder.join("libffi.a");
+    println!("cargo:rerun-if-changed={}", library.display());
+    assert!(
+        library.exists(),
+        "{} is missing: run `rt staticlib ffi` first",
+        library.display()
+    );
+    println!("cargo:rustc-link-search=native={}", folder.display());
+    println!("cargo:rustc-link-lib=static=ffi");
+}

@@ -1,0 +1,158 @@
+//! The boundary: the functions of `include/yeqontur.h`, and safe functions over them. The only unsafe code.
+//!
+//! Every function takes any numbers, lists, buffer lengths and bytes of a table, keeps nothing and writes at most the
+//! lent buffer, so that each call below is safe whatever it is given. A slice crosses as a pointer and a length.
+
+pub const SLOTS: usize = 256;
+pub const ATOMS: usize = 256;
+pub const ENTRIES: usize = 8;
+
+/// A slot: free (state 0) or with one rule (state 1); positives first among the entries.
+#[repr(C)]
+#[derive(Clone, Copy, PartialEq, Eq, Debug)]
+pub struct Rule {
+    pub state: u8,
+    pub head: u16,
+    pub positives: u8,
+    pub negatives: u8,
+    pub entries: [u16; ENTRIES],
+}
+
+/// What is kept of an atom: absent (state 0), out (1), or in (2) with depth and supporting slot.
+#[repr(C)]
+#[derive(Clone, Copy, PartialEq, Eq, Debug)]
+pub struct Label {
+    pub state: u8,
+    pub depth: u16,
+    pub slot: u16,
+}
+
+/// Any bytes are a table; question 15 says whether it is sound.
+#[repr(C)]
+#[derive(Clone, Copy, PartialEq, Eq, Debug)]
+pub struct Table {
+    pub rules: [Rule; SLOTS],
+    pub labels: [Label; ATOMS],
+}
+
+/// `refused` is 0 or the refusal's number; `slot` the slot that an addition took.
+#[repr(C)]
+pub struct Change {
+    pub refused: u32,
+    pub slot: u32,
+    pub table: Table,
+}
+
+#[repr(C)]
+#[derive(Clone, Copy)]
+pub struct LabelAnswer {
+    pub refused: u32,
+    pub state: u32,
+    pub depth: u32,
+    pub slot: u32,
+}
+
+/// `spoiled` is 0 for a valid rule, else 1, and then `atom` is the entry.
+#[repr(C)]
+#[derive(Clone, Copy)]
+pub struct SpoilerAnswer {
+    pub refused: u32,
+    pub spoiled: u32,
+    pub atom: u32,
+}
+
+/// `count` is how many entries were written, or with refusal 11 how many are needed.
+#[repr(C)]
+#[derive(Clone, Copy)]
+pub struct ListAnswer {
+    pub refused: u32,
+    pub count: usize,
+}
+
+extern "C" {
+    fn yeqontur_empty() -> Table;
+    fn yeqontur_add(
+        table: Table,
+        head: u32,
+        positives: *const u32,
+        positive_count: usize,
+        negatives: *const u32,
+        negative_count: usize,
+    ) -> Change;
+    fn yeqontur_remove(table: Table, slot: u32) -> Change;
+    fn yeqontur_label(table: Table, atom: u32) -> LabelAnswer;
+    fn yeqontur_spoiler(table: Table, slot: u32) -> SpoilerAnswer;
+    fn yeqontur_justifications(
+        table: Table,
+        atom: u32,
+        buffer: *mut u32,
+        length: usize,
+    ) -> ListAnswer;
+    fn yeqontur_consequences(
+        table: Table,
+        atom: u32,
+        buffer: *mut u32,
+        length: usize,
+    ) -> ListAnswer;
+    fn yeqontur_repercussions(
+        table: Table,
+        atom: u32,
+        buffer: *mut u32,
+        length: usize,
+    ) -> ListAnswer;
+    fn yeqontur_reason(table: Table, atom: u32, buffer: *mut u32, length: usize) -> ListAnswer;
+}
+
+pub fn empty() -> Table {
+    // SAFETY: takes nothing.
+    unsafe { yeqontur_empty() }
+}
+
+pub fn add(table: &Table, head: u32, positives: &[u32], negatives: &[u32]) -> Change {
+    // SAFETY: each pointer has as many numbers behind it as the length beside it says.
+    unsafe {
+        yeqontur_add(
+            *table,
+            head,
+            positives.as_ptr(),
+            positives.len(),
+            negatives.as_ptr(),
+            negatives.len(),
+        )
+    }
+}
+
+pub fn remove(table: &Table, slot: u32) -> Change {
+    // SAFETY: numbers by value.
+    unsafe { yeqontur_remove(*table, slot) }
+}
+
+pub fn label(table: &Table, atom: u32) -> LabelAnswer {
+    // SAFETY: numbers by value.
+    unsafe { yeqontur_label(*table, atom) }
+}
+
+pub fn spoiler(table: &Table, slot: u32) -> SpoilerAnswer {
+    // SAFETY: numbers by value.
+    unsafe { yeqontur_spoiler(*table, slot) }
+}
+
+/// A call that writes a list of numbers.
+#[derive(Clone, Copy, PartialEq, Eq, Debug)]
+pub enum List {
+    Justifications,
+    Consequences,
+    Repercussions,
+    Reason,
+}
+
+pub fn list(which: List, table: &Table, atom: u32, buffer: &mut [u32]) -> ListAnswer {
+    let call = match which {
+        List::Justifications => yeqontur_justifications,
+        List::Consequences => yeqontur_consequences,
+        List::Repercussions => yeqontur_repercussions,
+        List::Reason => yeqontur_reason,
+    };
+    // SAFETY: the buffer has as many entries as the length says, and is lent to this call alone.
+    unsafe { call(*table, atom, buffer.as_mut_ptr(), buffer.len()) }
+}

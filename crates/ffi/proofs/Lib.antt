@@ -1,0 +1,2 @@
+-- Laws of what crosses.
+pub mod Crosses

@@ -1,0 +1,42 @@
+-- `ffi::crossed_spoiler` meets its contract. Assumes nothing.
+use borrow.Author.Needs.{needs}
+use Rattle.ffi.proofs.Crosses.{spoiler-told, spoiler-refused}
+use Rattle.ffi.proofs.crossed_spoiler.Statement.{statement}
+use Rattle.ffi.proofs.crossed_spoiler.Tie as tie
+
+enum-told : tie.Need-enum-told
+enum-told c = search needs
+
+enum-known-answer : tie.Need-enum-known-answer
+enum-known-answer c = search needs
+
+cast-t5 : tie.Need-cast-t5
+cast-t5 c = search needs
+
+enum-known-answer-2 : tie.Need-enum-known-answer-2
+enum-known-answer-2 c = search needs
+
+number-requires : tie.Need-number-requires
+number-requires c κs = search needs
+
+returns : tie.Need-returns
+returns c = spoiler-told _ _ (c .enum-told .given .1)
+
+returns-2 : tie.Need-returns-2
+returns-2 c = spoiler-told _ _ (c .before .before .answer .given .1)
+
+returns-3 : tie.Need-returns-3
+returns-3 c = spoiler-refused _ _ _ (c .before .before .answer2 .given .1) (c .number .ensures)
+
+pub crossed-spoiler-spec : {M : Type 1} → statement M
+crossed-spoiler-spec =
+    tie.close
+    (tie.spec
+    enum-told
+    enum-known-answer
+    cast-t5
+    enum-known-answer-2
+    number-requires
+    returns
+    returns-2
+    returns-3)

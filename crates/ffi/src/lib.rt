@@ -1,0 +1,283 @@
+// The calls for C: numbers, slices and structs of numbers cross the boundary, and nothing else. `refused` is 0 or the
+// number of the refusal. include/yeqontur.h says the same for C.
+use calls::AddAnswer;
+use calls::LabelAnswer;
+use calls::ListAnswer;
+use calls::Refusal;
+use calls::RemoveAnswer;
+use calls::SpoilerAnswer;
+use changes::add;
+use changes::remove;
+use queries::consequences;
+use queries::justifications;
+use queries::label;
+use queries::repercussions;
+use queries::spoiler;
+use reasons::reason;
+use table::Table;
+ghost use mathlib.Core.Path.{_≡_};
+ghost use Rattle.table.specs.Clean.{emptyTable};
+ghost use Rattle.table.specs.Questions.{ruleFrom};
+ghost use Rattle.calls.specs.Answers.{numberOf};
+ghost use Rattle.calls.specs.Contracts.{JustificationsEnd, ConsequencesEnd, RepercussionsEnd, ReasonEnds};
+ghost use Rattle.ffi.specs.Crossing.{crossedAdd, crossedRemove, crossedLabel, crossedSpoiler, crossedList, neededBy};
+ghost use Rattle.ffi.specs.Crossing.{AddCrosses, RemoveCrosses, LabelCrosses, SpoilerCrosses, ListCrosses};
+
+// What a call that changes a table answers: the slot that an addition took, and the table handed back.
+#[repr(C)]
+pub struct Change {
+    pub refused: u32,
+    pub slot: u32,
+    pub table: Table,
+}
+
+// State 0 absent, 1 out, 2 in, with depth and supporting slot.
+#[repr(C)]
+pub struct AtomLabel {
+    pub refused: u32,
+    pub state: u32,
+    pub depth: u32,
+    pub slot: u32,
+}
+
+// `spoiled` is 0 for a valid rule, else 1, and `atom` the entry that spoils it.
+#[repr(C)]
+pub struct RuleSpoiler {
+    pub refused: u32,
+    pub spoiled: u32,
+    pub atom: u32,
+}
+
+// How many entries were written; with refusal 11, how many are needed.
+#[repr(C)]
+pub struct Written {
+    pub refused: u32,
+    pub count: usize,
+}
+
+// The number of a refusal.
+fn number(f: Refusal) -> u32
+    ensures { λ r. ⌜ r ≡ numberOf f ⌝ }
+{
+    match f {
+        Refusal::Head => 1,
+        Refusal::Entries => 2,
+        Refusal::Entry => 3,
+        Refusal::Repeated => 4,
+        Refusal::Same => 5,
+        Refusal::Full => 6,
+        Refusal::NegativeCycle => 7,
+        Refusal::SlotNumber => 8,
+        Refusal::Free => 9,
+        Refusal::AtomNumber => 10,
+        Refusal::Buffer(needed) => 11,
+        Refusal::NotIn => 12,
+        Refusal::Unsound => 15,
+    }
+}
+
+// How many entries a refusal says are needed: with 11 alone.
+fn needed(f: Refusal) -> usize
+    ensures { λ r. ⌜ r ≡ neededBy f ⌝ }
+{
+    match f {
+        Refusal::Head => 0,
+        Refusal::Entries => 0,
+        Refusal::Entry => 0,
+        Refusal::Repeated => 0,
+        Refusal::Same => 0,
+        Refusal::Full => 0,
+        Refusal::NegativeCycle => 0,
+        Refusal::SlotNumber => 0,
+        Refusal::Free => 0,
+        Refusal::AtomNumber => 0,
+        Refusal::Buffer(n) => n,
+        Refusal::NotIn => 0,
+        Refusal::Unsound => 0,
+    }
+}
+
+fn crossed_list(answer: ListAnswer) -> Written
+    ensures { λ r. ⌜ r ≡ crossedList answer ⌝ }
+{
+    match answer {
+        ListAnswer::Count(n) => Written {
+            refused: 0,
+            count: n,
+        },
+        ListAnswer::Refused(f) => Written {
+            refused: number(f),
+            count: needed(f),
+        },
+    }
+}
+
+// Each kind of answer as it crosses.
+
+fn crossed_add(answer: AddAnswer, after: Table) -> Change
+    ensures { λ r. ⌜ r ≡ crossedAdd answer after ⌝ }
+{
+    match answer {
+        AddAnswer::Taken(s) => Change {
+            refused: 0,
+            slot: s.0 as u32,
+            table: after,
+        },
+        AddAnswer::Refused(f) => Change {
+            refused: number(f),
+            slot: 0,
+            table: after,
+        },
+    }
+}
+
+fn crossed_remove(slot: u32, answer: RemoveAnswer, after: Table) -> Change
+    ensures { λ r. ⌜ r ≡ crossedRemove slot answer after ⌝ }
+{
+    match answer {
+        RemoveAnswer::Removed => Change {
+            refused: 0,
+            slot: slot,
+            table: after,
+        },
+        RemoveAnswer::Refused(f) => Change {
+            refused: number(f),
+            slot: 0,
+            table: after,
+        },
+    }
+}
+
+fn crossed_label(answer: LabelAnswer) -> AtomLabel
+    ensures { λ r. ⌜ r ≡ crossedLabel answer ⌝ }
+{
+    match answer {
+        LabelAnswer::Absent => AtomLabel {
+            refused: 0,
+            state: 0,
+            depth: 0,
+            slot: 0,
+        },
+        LabelAnswer::Out => AtomLabel {
+            refused: 0,
+            state: 1,
+            depth: 0,
+            slot: 0,
+        },
+        LabelAnswer::In(d, s) => AtomLabel {
+            refused: 0,
+            state: 2,
+            depth: d as u32,
+            slot: s.0 as u32,
+        },
+        LabelAnswer::Refused(f) => AtomLabel {
+            refused: number(f),
+            state: 0,
+            depth: 0,
+            slot: 0,
+        },
+    }
+}
+
+fn crossed_spoiler(answer: SpoilerAnswer) -> RuleSpoiler
+    ensures { λ r. ⌜ r ≡ crossedSpoiler answer ⌝ }
+{
+    match answer {
+        SpoilerAnswer::Valid => RuleSpoiler {
+            refused: 0,
+            spoiled: 0,
+            atom: 0,
+        },
+        SpoilerAnswer::Spoiled(a) => RuleSpoiler {
+            refused: 0,
+            spoiled: 1,
+            atom: a.0 as u32,
+        },
+        SpoilerAnswer::Refused(f) => RuleSpoiler {
+            refused: number(f),
+            spoiled: 0,
+            atom: 0,
+        },
+    }
+}
+
+// The table in which every slot is free.
+#[no_mangle]
+pub extern "C" fn yeqontur_empty() -> Table
+    ensures { λ r. ⌜ r ≡ emptyTable ⌝ }
+{
+    Table::empty()
+}
+
+#[no_mangle]
+pub extern "C" fn yeqontur_add(
+    table: Table,
+    head: u32,
+    positives: &[u32],
+    negatives: &[u32],
+) -> Change
+    ensures { λ r. ⌜ AddCrosses table (ruleFrom head (now (positives .entry)) (now (negatives .entry))) r ⌝ }
+{
+    let done = add(table, head, positives, negatives);
+    let answer = done.answer;
+    let after = done.table;
+    crossed_add(answer, after)
+}
+
+#[no_mangle]
+pub extern "C" fn yeqontur_remove(table: Table, slot: u32) -> Change
+    ensures { λ r. ⌜ RemoveCrosses table slot r ⌝ }
+{
+    let done = remove(table, slot);
+    let answer = done.answer;
+    let after = done.table;
+    crossed_remove(slot, answer, after)
+}
+
+#[no_mangle]
+pub extern "C" fn yeqontur_label(table: Table, atom: u32) -> AtomLabel
+    ensures { λ r. ⌜ LabelCrosses table atom r ⌝ }
+{
+    let answer = label(table, atom);
+    crossed_label(answer)
+}
+
+#[no_mangle]
+pub extern "C" fn yeqontur_spoiler(table: Table, slot: u32) -> RuleSpoiler
+    ensures { λ r. ⌜ SpoilerCrosses table slot r ⌝ }
+{
+    let answer = spoiler(table, slot);
+    crossed_spoiler(answer)
+}
+
+#[no_mangle]
+pub extern "C" fn yeqontur_justifications(table: Table, atom: u32, buffer: &mut [u32]) -> Written
+    ensures { λ r. ⌜ ListCrosses (JustificationsEnd table atom (now (buffer .entry))) (now (buffer .exit)) r ⌝ }
+{
+    let answer = justifications(table, atom, buffer);
+    crossed_list(answer)
+}
+
+#[no_mangle]
+pub extern "C" fn yeqontur_consequences(table: Table, atom: u32, buffer: &mut [u32]) -> Written
+    ensures { λ r. ⌜ ListCrosses (ConsequencesEnd table atom (now (buffer .entry))) (now (buffer .exit)) r ⌝ }
+{
+    let answer = consequences(table, atom, buffer);
+    crossed_list(answer)
+}
+
+#[no_mangle]
+pub extern "C" fn yeqontur_repercussions(table: Table, atom: u32, buffer: &mut [u32]) -> Written
+    ensures { λ r. ⌜ ListCrosses (RepercussionsEnd table atom (now (buffer .entry))) (now (buffer .exit)) r ⌝ }
+{
+    let answer = repercussions(table, atom, buffer);
+    crossed_list(answer)
+}
+
+#[no_mangle]
+pub extern "C" fn yeqontur_reason(table: Table, atom: u32, buffer: &mut [u32]) -> Written
+    ensures { λ r. ⌜ ListCrosses (ReasonEnds table atom (now (buffer .entry))) (now (buffer .exit)) r ⌝ }
+{
+    let answer = reason(table, atom, buffer);
+    crossed_list(answer)
+}
