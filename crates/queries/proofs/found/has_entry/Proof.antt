@@ -46,11 +46,11 @@ returns-2 c =
     let l = c .before .before .before .before .before in
     let s = l .before .before .before in
     let k = long s in
-    let all = entries-are (s .args .t1) (document .entries) k _ (l .before .negative-end .ensures) in
+    let n = l .before .negative-end .result in
+    let all = entries-are (s .args .t1) (document .entries) k n (l .before .negative-end .ensures) in
     test-held _ (s .args .t1) _ (l .before .before .if1 .left)
     (sym (ap (any (eqb _)) (sym all) ∙ sym (l .loop .inv)
-    ∙ any-stop _ (s .args .t1 .entries) (l .loop .j) _ (c .before .before .before .before .loop-test .taken)
-    (omega arith) (eqb-of _ _ (c .if2 .taken))))
+    ∙ any-stop _ (s .args .t1 .entries) (l .loop .j) n (omega arith) (omega arith) (eqb-of _ _ (c .if2 .taken))))
 
 add-j : tie.Need-add-j Inv-loop μ-loop
 add-j c = search needs
@@ -63,17 +63,19 @@ loop-again c =
     let l = c .before .before .before .before .before in
     let s = l .before .before .before in
     let k = long s in
-    sym (any-next _ (s .args .t1 .entries) (l .loop .j) _ (c .before .before .before .before .loop-test .taken)
-    (omega arith) (eqb-not _ _ (c .if2 .left)))
+    let n = l .before .negative-end .result in
+    sym (any-next _ (s .args .t1 .entries) (l .loop .j) n (omega arith) (omega arith) (eqb-not _ _ (c .if2 .left)))
     ∙ l .loop .inv
 
 returns-3 : tie.Need-returns-3 Inv-loop μ-loop
 returns-3 c =
     let l = c .before in
     let s = l .before .before .before in
-    let all = entries-are (s .args .t1) (document .entries) (long s) _ (l .before .negative-end .ensures) in
+    let n = l .before .negative-end .result in
+    let all = entries-are (s .args .t1) (document .entries) (long s) n (l .before .negative-end .ensures) in
     test-held _ (s .args .t1) _ (l .before .before .if1 .left)
-    (sym (ap (any (eqb _)) (sym all) ∙ sym (l .loop .inv) ∙ any-over _ _ _ _ (c .loop-test .left)))
+    (sym (ap (any (eqb _)) (sym all) ∙ sym (l .loop .inv)
+    ∙ any-over _ (s .args .t1 .entries) (l .loop .j) n (omega arith)))
 
 pub has-entry-spec : {M : Type 1} → statement M
 has-entry-spec =
