@@ -1,9 +1,11 @@
 //! The proved engine beside plain Rust of the same algorithm, and against the slow engine.
 //!
 //!     bench                     times of labels and of `sound`, each a ratio measured in one run
+//!     bench calls               times of one addition and one removal, and of clingo on the same rules if it is there
 //!     bench compare SEED COUNT  COUNT tables of every kind: verdict and labels against the slow engine
 
 mod boundary;
+mod calls;
 mod plain;
 mod shapes;
 
@@ -15,7 +17,7 @@ use std::hint::black_box;
 use std::time::Instant;
 
 /// The least time of a call in microseconds, over batches that take turns with the other side.
-fn microseconds(batch: u32, mut work: impl FnMut()) -> f64 {
+pub fn microseconds(batch: u32, mut work: impl FnMut()) -> f64 {
     let start = Instant::now();
     for _ in 0..batch {
         work();
@@ -103,6 +105,7 @@ fn main() {
     let words: Vec<String> = std::env::args().skip(1).collect();
     match words.iter().map(String::as_str).collect::<Vec<_>>()[..] {
         [] => bench(),
+        ["calls"] => calls::bench(),
         ["compare", seed, count] => {
             let good = compare(
                 seed.parse().expect("a seed"),
@@ -111,7 +114,7 @@ fn main() {
             std::process::exit(i32::from(!good));
         }
         _ => {
-            eprintln!("bench | bench compare SEED COUNT");
+            eprintln!("bench | bench calls | bench compare SEED COUNT");
             std::process::exit(2);
         }
     }
