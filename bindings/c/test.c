@@ -1,0 +1,86 @@
+/* The library from C: the worked sheet of the specification, refusals, buffers and tables of any bytes. */
+#include "yeqontur.h"
+
+#include <stdio.h>
+#include <string.h>
+
+static int passed, failed;
+
+static void expect(int good, const char *what) {
+    if (good) {
+        passed++;
+    } else {
+        failed++;
+        printf("failed: %s\n", what);
+    }
+}
+
+/* Field by field: the padding between fields is nobody's. */
+static int same(const yeqontur_table *a, const yeqontur_table *b) {
+    for (int s = 0; s < YEQONTUR_SLOTS; s++) {
+        const yeqontur_rule *q = &a->rules[s], *r = &b->rules[s];
+        if (q->state != r->state || q->head != r->head || q->positives != r->positives ||
+            q->negatives != r->negatives || memcmp(q->entries, r->entries, sizeof q->entries) != 0) {
+            return 0;
+        }
+    }
+    for (int x = 0; x < YEQONTUR_ATOMS; x++) {
+        const yeqontur_kept_label *k = &a->labels[x], *l = &b->labels[x];
+        if (k->state != l->state || k->depth != l->depth || k->slot != l->slot) {
+            return 0;
+        }
+    }
+    return 1;
+}
+
+static yeqontur_table added(yeqontur_table table, uint32_t head, const uint32_t *p, size_t np, const uint32_t *n,
+                            size_t nn, uint32_t slot) {
+    yeqontur_change change = yeqontur_add(table, head, p, np, n, nn);
+    expect(change.refused == 0 && change.slot == slot, "an accepted addition answers the lowest free slot");
+    return change.table;
+}
+
+static void is(yeqontur_table table, uint32_t atom, uint32_t state, uint32_t depth, uint32_t slot) {
+    yeqontur_label_answer label = yeqontur_label(table, atom);
+    expect(label.refused == 0 && label.state == state && label.depth == depth && label.slot == slot, "a label");
+}
+
+int main(void) {
+    const uint32_t one = 1, two = 2, three = 3;
+    uint32_t buffer[4] = {91, 92, 93, 94};
+    yeqontur_table table = yeqontur_empty();
+    table = added(table, 1, &two, 1, NULL, 0, 0);
+    table = added(table, 2, NULL, 0, &three, 1, 1);
+    table = added(table, 4, &one, 1, NULL, 0, 2);
+    table = added(table, 3, NULL, 0, NULL, 0, 3);
+    is(table, 1, 1, 0, 0);
+    is(table, 3, 2, 1, 3);
+    is(table, 200, 0, 0, 0);
+    yeqontur_spoiler_answer spoiler = yeqontur_spoiler(table, 1);
+    expect(spoiler.refused == 0 && spoiler.spoiled == 1 && spoiler.atom == 3, "the entry that spoils a rule");
+
+    yeqontur_change change = yeqontur_remove(table, 3);
+    expect(change.refused == 0, "an accepted removal");
+    table = change.table;
+    is(table, 1, 2, 2, 0);
+    is(table, 2, 2, 1, 1);
+    is(table, 4, 2, 3, 2);
+
+    yeqontur_list_answer list = yeqontur_reason(table, 1, buffer, 4);
+    expect(list.refused == 0 && list.count == 2 && buffer[0] == 1 && buffer[1] == 0, "the reason's slots");
+    expect(buffer[2] == 93 && buffer[3] == 94, "later entries of the buffer stay");
+    list = yeqontur_reason(table, 4, buffer, 2);
+    expect(list.refused == 11 && list.count == 3 && buffer[0] == 1 && buffer[2] == 93, "a short buffer stays as it was");
+    expect(yeqontur_reason(table, 3, buffer, 4).refused == 12, "no reason of an atom that is out");
+    expect(yeqontur_label(table, 256).refused == 10, "an atom number past the limit");
+
+    change = yeqontur_add(table, 3, NULL, 0, &one, 1);
+    expect(change.refused == 7 && same(&change.table, &table),
+           "a loop through a negation is refused, and the table handed back as it came");
+
+    memset(&table, 0xA5, sizeof table);
+    expect(yeqontur_label(table, 1).refused == 15, "any bytes are a table, and this one is not sound");
+
+    printf("C caller: %d passed, %d failed\n", passed, failed);
+    return failed != 0;
+}

@@ -1,0 +1,112 @@
+/*
+ * Yeqontur: the rule table behind status labels. Every call takes any numbers, lists, buffer lengths and bytes of a
+ * table, and answers a result or one numbered refusal. A refused call hands the table back as it came and writes no
+ * buffer entry. Nothing is allocated or kept. Link target/staticlib/libffi.a (made by `rt staticlib ffi`; x86-64).
+ */
+#ifndef YEQONTUR_H
+#define YEQONTUR_H
+
+#include <stddef.h>
+#include <stdint.h>
+
+#ifdef __cplusplus
+extern "C" {
+#endif
+
+#define YEQONTUR_SLOTS 256
+#define YEQONTUR_ATOMS 256
+#define YEQONTUR_ENTRIES 8
+
+/* A slot: free (state 0) or with one rule (state 1). The entries are the positive list, then the negative list. */
+typedef struct {
+    uint8_t state;
+    uint16_t head;
+    uint8_t positives;
+    uint8_t negatives;
+    uint16_t entries[YEQONTUR_ENTRIES];
+} yeqontur_rule;
+
+/* What is kept of an atom: absent (state 0), out (1), or in (2) with depth and supporting slot. */
+typedef struct {
+    uint8_t state;
+    uint16_t depth;
+    uint16_t slot;
+} yeqontur_kept_label;
+
+/* A table goes in by value and comes back by value. Any bytes are a table; question 15 says whether it is sound. */
+typedef struct {
+    yeqontur_rule rules[YEQONTUR_SLOTS];
+    yeqontur_kept_label labels[YEQONTUR_ATOMS];
+} yeqontur_table;
+
+/* In every answer `refused` is 0, or the number of the refusal:
+ *    1  the head is not below 256
+ *    2  the two lists together have more than 8 entries
+ *    3  an entry is not below 256
+ *    4  an atom stands twice in one list
+ *    5  the table has the same rule already
+ *    6  no slot is free
+ *    7  the rule would close a loop through a negation
+ *    8  the slot number is not below 256
+ *    9  the slot holds no rule
+ *   10  the atom number is not below 256
+ *   11  the buffer is too short (`count` says how many entries are needed)
+ *   12  the atom is not in
+ *   15  the table handed in is not sound
+ */
+
+typedef struct {
+    uint32_t refused;
+    uint32_t slot; /* the slot that an addition took or a removal freed; 0 where it was refused */
+    yeqontur_table table;
+} yeqontur_change;
+
+typedef struct {
+    uint32_t refused;
+    uint32_t state; /* 0 absent, 1 out, 2 in */
+    uint32_t depth;
+    uint32_t slot;
+} yeqontur_label_answer;
+
+typedef struct {
+    uint32_t refused;
+    uint32_t spoiled; /* 0: the rule is valid; 1: `atom` is the first entry that spoils it */
+    uint32_t atom;
+} yeqontur_spoiler_answer;
+
+typedef struct {
+    uint32_t refused;
+    size_t count; /* how many entries were written, from the start of the buffer; later ones stay */
+} yeqontur_list_answer;
+
+/* The table in which every slot is free. */
+yeqontur_table yeqontur_empty(void);
+
+/* Adds a rule to the lowest free slot. Asks 15, 1, 2, 3, 4, 5, 6, 7. */
+yeqontur_change yeqontur_add(yeqontur_table table, uint32_t head, const uint32_t *positives, size_t positive_count,
+                             const uint32_t *negatives, size_t negative_count);
+
+/* Frees a slot. Asks 15, 8, 9. */
+yeqontur_change yeqontur_remove(yeqontur_table table, uint32_t slot);
+
+/* The label of an atom. Asks 15, 10. */
+yeqontur_label_answer yeqontur_label(yeqontur_table table, uint32_t atom);
+
+/* Whether the rule in a slot is valid, or what spoils it. Asks 15, 8, 9. */
+yeqontur_spoiler_answer yeqontur_spoiler(yeqontur_table table, uint32_t slot);
+
+/* The slots of the rules with this head; the heads of the rules with this entry; all atoms whose label rests on this
+ * one, directly or through others. Each ascending, without repeats. Each asks 15, 10, 11. */
+yeqontur_list_answer yeqontur_justifications(yeqontur_table table, uint32_t atom, uint32_t *buffer, size_t length);
+yeqontur_list_answer yeqontur_consequences(yeqontur_table table, uint32_t atom, uint32_t *buffer, size_t length);
+yeqontur_list_answer yeqontur_repercussions(yeqontur_table table, uint32_t atom, uint32_t *buffer, size_t length);
+
+/* Why an atom is in: the supporting slots of all atoms that it rests on, by depth and then by atom number, so that
+ * facts come first and its own slot last. Asks 15, 10, 12, 11. */
+yeqontur_list_answer yeqontur_reason(yeqontur_table table, uint32_t atom, uint32_t *buffer, size_t length);
+
+#ifdef __cplusplus
+}
+#endif
+
+#endif
