@@ -12,7 +12,8 @@ use Rattle.theory.specs.Models.{AtomSet, Admissible}
 use Rattle.theory.specs.Labels.{Labelled, spoiler}
 use Rattle.theory.specs.Labels as theory-labels
 use Rattle.theory.specs.Explanations.{Justification, Consequence, Repercussion, Reason}
-use Rattle.theory.specs.Questions.{Question, first-no, add-questions, slot-questions, atom-questions, reason-questions, lowest-free}
+use Rattle.theory.specs.Questions.{Question, first-no, add-questions, slot-questions, atom-questions}
+use Rattle.theory.specs.Questions.{reason-questions, lowest-free}
 use Rattle.theory.specs.Tables.{document}
 use Rattle.table.specs.declared.Slot.{Slot}
 use Rattle.table.specs.declared.Table.{Table}

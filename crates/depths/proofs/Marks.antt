@@ -10,7 +10,8 @@ use mathlib.Core.Logic.{inl, inr}
 use mathlib.Core.List.{List, [], _∷_, _++_, map-append}
 use mathlib.Core.Option.{Option, none, some}
 use lib.Dec.{eqb}
-use lib.ListN.{length, getD, set, drop, take, length-set, replicate, length-replicate, List·getD-eq-default, drop-of-length-le}
+use lib.ListN.{length, getD, set, drop, take, length-set, replicate, length-replicate, List·getD-eq-default}
+use lib.ListN.{drop-of-length-le}
 use lib.Seq.{getD-set-same, getD-set-other, drop-cons, take-suc, take-add, take-all}
 use Rattle.theory.specs.Lists.{any}
 use Rattle.theory.specs.Rules.{Rule, Program, Bounded, entries, passes}

@@ -1,5 +1,5 @@
--- The calls' answers as numbers: `refused` is 0 or the refusal's number, and the contract of the call holds of the answer
--- that crosses. Assumes nothing.
+-- The calls' answers as numbers: `refused` is 0 or the refusal's number, and the contract of the call holds of the
+-- answer that crosses. Assumes nothing.
 use Prim.Native.Nat.{ℕ}
 use mathlib.Core.Path.{_≡_}
 use mathlib.Core.List.{List}

@@ -1,5 +1,5 @@
--- Demand 2: after an accepted addition or removal an atom is in if and only if it is in the admissible model of the rules
--- now held; a rule that closes a loop through a negation is refused by 7, and no other is. Assumes nothing.
+-- Demand 2: after an accepted addition or removal an atom is in if and only if it is in the admissible model of the
+-- rules now held; a rule that closes a loop through a negation is refused by 7, and no other is. Assumes nothing.
 use Prim.Native.Nat.{ℕ, _<_}
 use native.Mathlib.Omega.{arith}
 use mathlib.Core.Path.{_≡_, refl, sym, _∙_, ap, subst}
@@ -14,7 +14,8 @@ use Rattle.theory.specs.Rules.{Rule, Program}
 use Rattle.theory.specs.Models.{AtomSet, Admissible}
 use Rattle.theory.specs.Dependencies.{NegativeCycle}
 use Rattle.theory.specs.Labels.{Label, absent, out, in-at, Labelled, is-absent, is-out, is-in}
-use Rattle.theory.specs.Questions.{Question, asks, first-no, add-questions, stratified, lowest-free, put-in, is-in-label}
+use Rattle.theory.specs.Questions.{Question, asks, first-no, add-questions, stratified, lowest-free, put-in}
+use Rattle.theory.specs.Questions.{is-in-label}
 use Rattle.theory.specs.Tables.{document}
 use Rattle.theory.proofs.Lists.{test, clash, every-at, or-cases, not-true, eqb-of, unless}
 use Rattle.theory.proofs.Cycles.{stratified-iff, found-cycle, cycle-found}
@@ -67,7 +68,8 @@ with-rule t r = put-in (held t) (lowest-free (held t)) r
 
 -- Refused by 7: the rule closes a loop through a negation.
 pub refused-7-cycle :
-    (t u : Table) (r : Rule) → AddEnds t r (added.Refused refusal.NegativeCycle) u → Sound t → NegativeCycle (with-rule t r)
+    (t u : Table) (r : Rule) → AddEnds t r (added.Refused refusal.NegativeCycle) u → Sound t
+    → NegativeCycle (with-rule t r)
 refused-7-cycle t u r E S = found-cycle (with-rule t r) (unless (stratified (with-rule t r)) (λ y. cannot y refl E))
   where
     -- if question 7 were answered yes, no question numbered 7 would be answered no

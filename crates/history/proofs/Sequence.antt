@@ -14,8 +14,10 @@ use Rattle.theory.specs.Rules.{Rule, Program, Held}
 use Rattle.theory.specs.Models.{AtomSet, valid, Admissible}
 use Rattle.theory.specs.Dependencies.{NegativeCycle}
 use Rattle.theory.specs.Labels.{Label, absent, out, in-at, Labelled, is-absent, is-out, is-in, spoiler}
-use Rattle.theory.specs.Questions.{is-in-label, first-no, add-questions, slot-questions, atom-questions, put-in, asks, is-some}
-use Rattle.theory.specs.Book.{Call, add, remove, Answer, refused, slot, accepted, empty, answer, after, answers, after-all}
+use Rattle.theory.specs.Questions.{is-in-label, first-no, add-questions, slot-questions, atom-questions, put-in}
+use Rattle.theory.specs.Questions.{asks, is-some}
+use Rattle.theory.specs.Book.{Call, add, remove, Answer, refused, slot, accepted, empty, answer, after, answers}
+use Rattle.theory.specs.Book.{after-all}
 use Rattle.theory.specs.Book.{refusal, granted, changed, slot-answer}
 use Rattle.theory.specs.Tables.{document}
 use Rattle.theory.proofs.Lists.{test, clash, same-test, lt-ltb, le-or-lt}
@@ -36,7 +38,8 @@ use Rattle.calls.specs.Answers.{bookAdd, bookRemove, tellLabel, tellSpoiler}
 use Rattle.calls.specs.Contracts as contract
 use Rattle.calls.specs.Contracts.{held, AddEnds, RemoveEnds, LabelEnds, SpoilerEnds}
 use Rattle.calls.proofs.Determined.{same-model, label-determined, spoiler-determined}
-use Rattle.history.specs.Claim.{Step, adds, removes, Trace, stop, call, bookAfter, Supported, Spoils, History, InModel}
+use Rattle.history.specs.Claim.{Step, adds, removes, Trace, stop, call, bookAfter, Supported, Spoils}
+use Rattle.history.specs.Claim.{History, InModel}
 
 -- What a call on a sound table answers and leaves is what the book does, and the table stays sound.
 record Follows (P : Program) (c : Call) (x : Answer) (u : Table) : Type 0 where
@@ -182,7 +185,8 @@ module _ (cs : List Call) (xs : List Answer) (t : Table) (e : held t ≡ bookAft
   answered-spoiler s r h x E =
       let i : Held (held t) s r = subst (λ (Q : Program). Held Q s r) (sym e) h in
       spoiler-determined t s x _ E
-      (contract.accepted (S .labels .model) r S (slot-asked (held t) s r (S .labels .slots) i) i (S .labels .admissible))
+      (contract.accepted (S .labels .model) r S (slot-asked (held t) s r (S .labels .slots) i) i
+      (S .labels .admissible))
 
   claim : xs ≡ answers document (empty document) cs → History cs xs t
   claim told = record {
@@ -198,7 +202,8 @@ module _ (cs : List Call) (xs : List Answer) (t : Table) (e : held t ≡ bookAft
     supported = λ a d s l q. in-supported (bookAfter cs) M model a d s
         (subst (Labelled (bookAfter cs) M a) q (kept a l));
     spoiler-answer = answered-spoiler;
-    spoiled = λ a l q s r h i. out-spoiled (bookAfter cs) M model a s r (subst (Labelled (bookAfter cs) M a) q (kept a l)) h i;
+    spoiled = λ a l q s r h i. out-spoiled (bookAfter cs) M model a s r
+        (subst (Labelled (bookAfter cs) M a) q (kept a l)) h i;
   }
 
 -- Demand 3.

@@ -49,7 +49,8 @@ fn assemble(
     depths: &[u16; Table::ATOMS],
     slots: &[u16; Table::ATOMS],
 ) -> [Label; Table::ATOMS]
-    ensures { λ r. ⌜ Assembled (member (now (model .entry))) (member (now (occurs .entry))) (number (now (depths .entry))) (number (now (slots .entry))) r ⌝ }
+    ensures { λ r. ⌜ Assembled (member (now (model .entry))) (member (now (occurs .entry)))
+        (number (now (depths .entry))) (number (now (slots .entry))) r ⌝ }
 {
     let absent = Label {
         state: 0,

@@ -64,7 +64,8 @@ fn round(
     count: usize,
     start: Atom,
 ) -> bool
-    ensures { λ r. ⌜ Round (now (from .entry)) (now (to .entry)) count (start .0) count (now (flags .entry)) (now (flags .exit)) r ⌝ }
+    ensures { λ r. ⌜ Round (now (from .entry)) (now (to .entry)) count (start .0) count
+        (now (flags .entry)) (now (flags .exit)) r ⌝ }
 {
     let n = edge_count(from, to, count);
     let mut marked = false;

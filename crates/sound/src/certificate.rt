@@ -97,7 +97,9 @@ fn agrees(
     slots: &[u16; Table::ATOMS],
     found: &mut [bool; Table::ATOMS],
 ) -> bool
-    ensures { λ r. ⌜ Compared (member (now (flags .entry))) (number (now (depths .entry))) (number (now (slots .entry))) slot (slotOf rule) (rule .head .0) (now (found .entry)) (now (found .exit)) r ⌝ }
+    ensures { λ r. ⌜ Compared (member (now (flags .entry))) (number (now (depths .entry)))
+        (number (now (slots .entry))) slot (slotOf rule) (rule .head .0)
+        (now (found .entry)) (now (found .exit)) r ⌝ }
 {
     if rule.state == 0 {
         return true;
@@ -130,7 +132,8 @@ fn agrees(
 
 // Is every atom of the first set in the second?
 fn all_found(flags: &[bool; Table::ATOMS], found: &[bool; Table::ATOMS]) -> bool
-    ensures { λ r. ⌜ (r ≡ true) ↔ ((a : ℕ) → member (now (flags .entry)) a ≡ true → member (now (found .entry)) a ≡ true) ⌝ }
+    ensures { λ r. ⌜ (r ≡ true)
+        ↔ ((a : ℕ) → member (now (flags .entry)) a ≡ true → member (now (found .entry)) a ≡ true) ⌝ }
 {
     let wanted = &flags[..];
     let there = &found[..];
@@ -146,7 +149,9 @@ fn all_found(flags: &[bool; Table::ATOMS], found: &[bool; Table::ATOMS]) -> bool
 
 // Are the kept depths and supporting slots those that the rules ask for?
 pub fn certified(rules: [Rule; Table::SLOTS], labels: [Label; Table::ATOMS]) -> bool
-    ensures { λ r. ⌜ (r ≡ true) ↔ Supported (programOf rules) (kept-in (labelAt labels)) (kept-depth (labelAt labels)) (λ a. slot-in (labelAt labels a)) ⌝ }
+    ensures { λ r. ⌜ (r ≡ true)
+        ↔ Supported (programOf rules) (kept-in (labelAt labels)) (kept-depth (labelAt labels))
+        (λ a. slot-in (labelAt labels a)) ⌝ }
 {
     let k = apart(labels);
     let flags = k.flags;

@@ -20,7 +20,8 @@ returns : tie.Need-returns
 returns c = list-told _ _ (c .before .answer .given .1)
 
 returns-2 : tie.Need-returns-2
-returns-2 c = list-refused _ _ _ _ (c .before .before .before .answer2 .given .1) (c .before .number .ensures) (c .needed .ensures)
+returns-2 c = list-refused _ _ _ _
+    (c .before .before .before .answer2 .given .1) (c .before .number .ensures) (c .needed .ensures)
 
 pub crossed-list-spec : {M : Type 1} → statement M
 crossed-list-spec =

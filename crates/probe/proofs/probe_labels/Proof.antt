@@ -21,7 +21,9 @@ labels-long : (s : tie.Start) → length (s .args .table .labels) ≡ document .
 labels-long s = simp length-map at (s .good .0 .1 .1 .1 .0 .1 .0 .1)
 
 -- what the two tests tell
-well : (c : tie.Else1) → (s : ℕ) → s < document .slots → WellFormed (getD (c .before .before .before .args .table .rules) s pastRule)
+well :
+    (c : tie.Else1) → (s : ℕ) → s < document .slots
+    → WellFormed (getD (c .before .before .before .args .table .rules) s pastRule)
 well c = granted _ (c .before .slots-well-formed .ensures) (c .if1 .left)
 
 slots-well-formed-requires : tie.Need-slots-well-formed-requires

@@ -1,0 +1,225 @@
+-- Laws of the forms, as a reader meets them that looks at the first token and goes on behind it. Assumes nothing.
+use Prim.Native.Nat.{ℕ, suc, _+_}
+use native.Mathlib.Omega.{arith}
+use mathlib.Core.Path.{_≡_, refl, sym}
+use mathlib.Core.Bool.{Bool, true, false, cond}
+use mathlib.Core.List.{List, [], _∷_}
+use mathlib.Core.Option.{Option, none, some}
+use lib.ListN.{length, getD}
+use lib.Dec.{eqb}
+use borrow.Author.Tests.{eqb-true}
+use Rattle.lines.specs.Numerals.{digits, needless, spelledFrom, numeral}
+use Rattle.lines.specs.Commands.{remove, why, labels, one, numerals, before, after, added}
+use Rattle.lines.specs.Commands.{addition, only, made, listing, form}
+use Rattle.lines.specs.Parts.{firstOf, restOf, empty, leadingNumbers, pastNumbers, listed}
+
+-- One byte.
+
+pub one-not : (b : ℕ) (t : List ℕ) → (length t ≡ 1 → ⊥) → false ≡ one b t
+unfolding one
+one-not b [] h = refl
+one-not b (x ∷ []) h = absurd (h refl)
+one-not b (x ∷ y ∷ t) h = refl
+
+pub one-is : (b : ℕ) (t : List ℕ) → length t ≡ 1 → eqb (getD t 0 0) b ≡ one b t
+unfolding one
+one-is b [] h = absurd (omega arith)
+one-is b (x ∷ []) h = refl
+one-is b (x ∷ y ∷ t) h = absurd (omega arith)
+
+-- A number alone; nothing.
+
+absurd-test : {A : Type 0} → true ≡ false → A
+absurd-test e = absurd (let z : _≡_ {A = ℕ} 0 1 = cc in omega arith)
+
+pub only-last : (ts : List (List ℕ)) → empty (restOf ts) ≡ true → numeral (firstOf ts) ≡ only ts
+unfolding only numeral
+only-last [] e = refl
+only-last (t ∷ []) e = refl
+only-last (t ∷ u ∷ ts) e = absurd-test (sym e)
+
+pub only-more : (ts : List (List ℕ)) → empty (restOf ts) ≡ false → none ≡ only ts
+unfolding only
+only-more [] e = absurd-test e
+only-more (t ∷ []) e = absurd-test e
+only-more (t ∷ u ∷ ts) e = refl
+
+pub listing-last : (ts : List (List ℕ)) → empty ts ≡ true → some labels ≡ listing ts
+unfolding listing
+listing-last [] e = refl
+listing-last (t ∷ ts) e = absurd-test (sym e)
+
+pub listing-more : (ts : List (List ℕ)) → empty ts ≡ false → none ≡ listing ts
+unfolding listing
+listing-more [] e = absurd-test e
+listing-more (t ∷ ts) e = refl
+
+-- The first token of a form decides.
+
+pub form-first : (ts : List (List ℕ)) → cond (one 65 (firstOf ts)) (addition (restOf ts))
+    (cond (one 82 (firstOf ts)) (made remove (only (restOf ts)))
+    (cond (one 87 (firstOf ts)) (made why (only (restOf ts)))
+    (cond (one 76 (firstOf ts)) (listing (restOf ts)) none))) ≡ form ts
+unfolding form one
+form-first [] = refl
+form-first (t ∷ ts) = refl
+
+pub addition-first : (ts : List (List ℕ)) → cond (one 58 (firstOf (restOf ts)))
+    (added (numeral (firstOf ts)) (numerals (before (restOf (restOf ts)))) (numerals (after (restOf (restOf ts))))) none
+    ≡ addition ts
+unfolding addition one
+addition-first [] = refl
+addition-first (h ∷ []) = refl
+addition-first (h ∷ c ∷ ts) = refl
+
+module _ (ts : List (List ℕ)) where
+  pub addition-no-head : numeral (firstOf ts) ≡ none → none ≡ addition ts
+  addition-no-head e = go (one 58 (firstOf (restOf ts))) refl
+    where
+      go : (b : Bool) → one 58 (firstOf (restOf ts)) ≡ b → none ≡ addition ts
+      go true t = rw (← addition-first ts, t, e)
+      go false t = rw (← addition-first ts, t)
+
+  pub addition-no-sign : one 58 (firstOf (restOf ts)) ≡ false → none ≡ addition ts
+  addition-no-sign t = rw (← addition-first ts, t)
+
+  pub addition-is : (h : ℕ) (us : List (List ℕ)) → numeral (firstOf ts) ≡ some h → one 58 (firstOf (restOf ts)) ≡ true
+      → us ≡ restOf (restOf ts) → listed h us ≡ addition ts
+  addition-is h us e t u = rw (← addition-first ts, t, e, u)
+
+  -- The first token that is one of the four signs.
+  pub form-add : one 65 (firstOf ts) ≡ true → addition (restOf ts) ≡ form ts
+  form-add a = rw (← form-first ts, a)
+
+  module _ (a : one 65 (firstOf ts) ≡ false) where
+    pub form-remove : one 82 (firstOf ts) ≡ true → made remove (only (restOf ts)) ≡ form ts
+    form-remove r = rw (← form-first ts, a, r)
+
+    module _ (r : one 82 (firstOf ts) ≡ false) where
+      pub form-why : one 87 (firstOf ts) ≡ true → made why (only (restOf ts)) ≡ form ts
+      form-why w = rw (← form-first ts, a, r, w)
+
+      module _ (w : one 87 (firstOf ts) ≡ false) where
+        pub form-labels : one 76 (firstOf ts) ≡ true → listing (restOf ts) ≡ form ts
+        form-labels l = rw (← form-first ts, a, r, w, l)
+
+        pub form-none : one 76 (firstOf ts) ≡ false → none ≡ form ts
+        form-none l = rw (← form-first ts, a, r, w, l)
+
+-- The lists: numbers, then the end, or `!` and numbers again.
+
+bang : (t : List ℕ) (n : ℕ) → numeral t ≡ some n → one 33 t ≡ false
+unfolding one numeral spelledFrom digits needless
+bang [] n e = refl
+bang (x ∷ y ∷ t) n e = refl
+bang (x ∷ []) n e = go (eqb x 33) refl e
+  where
+    go : (t : Bool) → eqb x 33 ≡ t → numeral (x ∷ []) ≡ some n → eqb x 33 ≡ false
+    go true t h =
+        let q : x ≡ 33 = eqb-true x 33 t in
+        let k : _≡_ {A = Option ℕ} none (some n) = rw q at h in
+        absurd (let z : _≡_ {A = ℕ} 0 1 = cc in omega arith)
+    go false t h = t
+
+-- A token that is a number goes to the numbers; one that is not ends them.
+pub record Advance (ts : List (List ℕ)) (n : ℕ) : Type 0 where
+  pub shorter : length ts ≡ suc (length (restOf ts))
+  pub numbers : leadingNumbers ts ≡ n ∷ leadingNumbers (restOf ts)
+  pub past : pastNumbers ts ≡ pastNumbers (restOf ts)
+
+pub advance : (ts : List (List ℕ)) (n : ℕ) → numeral (firstOf ts) ≡ some n → Advance ts n
+unfolding numeral leadingNumbers pastNumbers
+advance [] n e = absurd (let z : _≡_ {A = ℕ} 0 1 = cc in omega arith)
+advance (t ∷ ts) n e = record { shorter = refl; numbers = rw e; past = rw e }
+
+pub record Halt (ts : List (List ℕ)) : Type 0 where
+  pub numbers : leadingNumbers ts ≡ []
+  pub past : pastNumbers ts ≡ ts
+
+pub halt : (ts : List (List ℕ)) → numeral (firstOf ts) ≡ none → Halt ts
+unfolding numeral leadingNumbers pastNumbers
+halt [] e = record { numbers = refl; past = refl }
+halt (t ∷ ts) e = record { numbers = rw e; past = rw e }
+
+-- Either all tokens are numbers, or one is left that is none.
+pub numerals-all : (ts : List (List ℕ)) → empty (pastNumbers ts) ≡ true → numerals ts ≡ some (leadingNumbers ts)
+unfolding numerals leadingNumbers pastNumbers
+numerals-all [] e = refl
+numerals-all (t ∷ ts) e = go (numeral t) refl e (numerals-all ts)
+  where
+    go : (o : Option ℕ) → numeral t ≡ o → empty (pastNumbers (t ∷ ts)) ≡ true
+        → (empty (pastNumbers ts) ≡ true → numerals ts ≡ some (leadingNumbers ts))
+        → numerals (t ∷ ts) ≡ some (leadingNumbers (t ∷ ts))
+    go none o e h = absurd-test (sym (rw o at e))
+    go (some n) o e h = rw (o, h (rw o at e))
+
+pub numerals-none : (ts : List (List ℕ)) → empty (pastNumbers ts) ≡ false → numerals ts ≡ none
+unfolding numerals leadingNumbers pastNumbers
+numerals-none [] e = absurd-test e
+numerals-none (t ∷ ts) e = go (numeral t) refl e (numerals-none ts)
+  where
+    go : (o : Option ℕ) → numeral t ≡ o → empty (pastNumbers (t ∷ ts)) ≡ false
+        → (empty (pastNumbers ts) ≡ false → numerals ts ≡ none) → numerals (t ∷ ts) ≡ none
+    go none o e h = rw o
+    go (some n) o e h = rw (o, h (rw o at e))
+
+-- The numbers end with the line.
+pub record Over (ts : List (List ℕ)) : Type 0 where
+  pub positives : numerals (before ts) ≡ some (leadingNumbers ts)
+  pub negatives : numerals (after ts) ≡ some []
+
+pub over : (ts : List (List ℕ)) → empty (pastNumbers ts) ≡ true → Over ts
+unfolding numerals before after leadingNumbers pastNumbers
+over [] e = record { positives = refl; negatives = refl }
+over (t ∷ ts) e = go (numeral t) refl e (over ts)
+  where
+    go : (o : Option ℕ) → numeral t ≡ o → empty (pastNumbers (t ∷ ts)) ≡ true
+        → (empty (pastNumbers ts) ≡ true → Over ts) → Over (t ∷ ts)
+    go none o e h = absurd-test (sym (rw o at e))
+    go (some n) o e h =
+        let w = h (rw o at e) in
+        let b = bang t n o in
+        record { positives = rw (b, o, w .positives); negatives = rw b (w .negatives) }
+
+-- The numbers end at `!`.
+pub record Parted (ts : List (List ℕ)) : Type 0 where
+  pub positives : numerals (before ts) ≡ some (leadingNumbers ts)
+  pub negatives : after ts ≡ restOf (pastNumbers ts)
+
+pub parted : (ts : List (List ℕ)) → one 33 (firstOf (pastNumbers ts)) ≡ true → Parted ts
+unfolding one numerals before after leadingNumbers pastNumbers
+parted [] e = absurd-test (sym e)
+parted (t ∷ ts) e = go (numeral t) refl e (parted ts)
+  where
+    go : (o : Option ℕ) → numeral t ≡ o → one 33 (firstOf (pastNumbers (t ∷ ts))) ≡ true
+        → (one 33 (firstOf (pastNumbers ts)) ≡ true → Parted ts) → Parted (t ∷ ts)
+    go none o e h = let b = rw o at e in record { positives = rw (b, o); negatives = rw (b, o) }
+    go (some n) o e h =
+        let w = h (rw o at e) in
+        let b = bang t n o in
+        record { positives = rw (b, o, w .positives); negatives = rw (b, o) (w .negatives) }
+
+-- The numbers end at a token of another kind.
+pub spoiled : (ts : List (List ℕ)) → empty (pastNumbers ts) ≡ false → one 33 (firstOf (pastNumbers ts)) ≡ false
+    → numerals (before ts) ≡ none
+unfolding numerals before leadingNumbers pastNumbers
+spoiled [] e f = absurd-test e
+spoiled (t ∷ ts) e f = go (numeral t) refl e f (spoiled ts)
+  where
+    go : (o : Option ℕ) → numeral t ≡ o → empty (pastNumbers (t ∷ ts)) ≡ false
+        → one 33 (firstOf (pastNumbers (t ∷ ts))) ≡ false
+        → (empty (pastNumbers ts) ≡ false → one 33 (firstOf (pastNumbers ts)) ≡ false → numerals (before ts) ≡ none)
+        → numerals (before (t ∷ ts)) ≡ none
+    go none o e f h = let b = rw o at f in rw (b, o)
+    go (some n) o e f h = rw (bang t n o, o, h (rw o at e) (rw o at f))
+
+-- What goes to the numbers and what is left are all the tokens.
+pub numbers-length : (ts : List (List ℕ)) → length (leadingNumbers ts) + length (pastNumbers ts) ≡ length ts
+unfolding leadingNumbers pastNumbers
+numbers-length [] = refl
+numbers-length (t ∷ ts) = go (numeral t) refl (numbers-length ts)
+  where
+    go : (o : Option ℕ) → numeral t ≡ o → length (leadingNumbers ts) + length (pastNumbers ts) ≡ length ts
+        → length (leadingNumbers (t ∷ ts)) + length (pastNumbers (t ∷ ts)) ≡ suc (length ts)
+    go none o h = rw o (omega arith)
+    go (some n) o h = rw o (omega arith)

@@ -1,0 +1,32 @@
+-- `lines::read::listing` meets its contract. Assumes nothing.
+use mathlib.Core.Path.{sym, _∙_, ap}
+use borrow.Author.Tests.{not-true, not-false}
+use Rattle.lines.specs.Readings.{whether}
+use Rattle.lines.proofs.Answers.{as-read}
+use Rattle.lines.proofs.Commands.{listing-last, listing-more}
+use borrow.Author.Needs.{needs}
+use Rattle.lines.proofs.read.listing.Statement.{statement}
+use Rattle.lines.proofs.read.listing.Tie as tie
+
+ended-requires : tie.Need-ended-requires
+ended-requires c κs = search needs
+
+plain-requires : tie.Need-plain-requires
+plain-requires c κs = search needs
+
+returns : tie.Need-returns
+returns c =
+    as-read (c .plain .ensures)
+    (ap whether (listing-more _ (sym (c .before .before .ended .ensures) ∙ not-true _ (c .before .if1 .taken))))
+
+plain-requires-2 : tie.Need-plain-requires-2
+plain-requires-2 c κs = search needs
+
+returns-2 : tie.Need-returns-2
+returns-2 c =
+    as-read (c .plain2 .ensures)
+    (ap whether (listing-last _ (sym (c .before .before .ended .ensures) ∙ not-false _ (c .before .if1 .left))))
+
+pub listing-spec : {M : Type 1} → statement M
+listing-spec =
+    tie.close (tie.spec ended-requires plain-requires returns plain-requires-2 returns-2)

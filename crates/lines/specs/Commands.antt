@@ -1,0 +1,79 @@
+-- The commands of a sheet and their forms (document 01, "The sheet program"). Assumes nothing.
+use Prim.Native.Nat.{ℕ}
+use Prim.Native.Char.{code}
+use mathlib.Core.Bool.{Bool, false, cond}
+use mathlib.Core.List.{List, [], _∷_}
+use mathlib.Core.Option.{Option, none, some}
+use lib.Dec.{eqb}
+use Rattle.lines.specs.Tokens.{tokens}
+use Rattle.lines.specs.Numerals.{numeral}
+
+pub data Command : Type 0 where
+  add : ℕ → List ℕ → List ℕ → Command  -- head, positives, negatives
+  remove : ℕ → Command  -- slot
+  why : ℕ → Command  -- atom
+  labels : Command
+
+-- The token is this one byte.
+unfoldable pub one : ℕ → List ℕ → Bool
+one b [] = false
+one b (x ∷ []) = eqb x b
+one b (x ∷ y ∷ t) = false
+
+-- The numbers that tokens are, if each is one.
+abbrev pub consed : Option ℕ → Option (List ℕ) → Option (List ℕ)
+consed none ns = none
+consed (some n) none = none
+consed (some n) (some ns) = some (n ∷ ns)
+
+unfoldable pub numerals : List (List ℕ) → Option (List ℕ)
+numerals [] = some []
+numerals (t ∷ ts) = consed (numeral t) (numerals ts)
+
+-- The tokens before the first `!` and those after it. Where there is none, all come before.
+unfoldable pub before : List (List ℕ) → List (List ℕ)
+before [] = []
+before (t ∷ ts) = cond (one (code "!") t) [] (t ∷ before ts)
+
+unfoldable pub after : List (List ℕ) → List (List ℕ)
+after [] = []
+after (t ∷ ts) = cond (one (code "!") t) ts (after ts)
+
+abbrev pub added : Option ℕ → Option (List ℕ) → Option (List ℕ) → Option Command
+added none ps ns = none
+added (some h) none ns = none
+added (some h) (some ps) none = none
+added (some h) (some ps) (some ns) = some (add h ps ns)
+
+-- What follows `A`: head, `:`, positives, then optionally `!` and negatives.
+unfoldable pub addition : List (List ℕ) → Option Command
+addition [] = none
+addition (h ∷ []) = none
+addition (h ∷ c ∷ ts) = cond (one (code ":") c) (added (numeral h) (numerals (before ts)) (numerals (after ts))) none
+
+-- What follows `R` or `W`: one number.
+unfoldable pub only : List (List ℕ) → Option ℕ
+only [] = none
+only (t ∷ []) = numeral t
+only (t ∷ u ∷ ts) = none
+
+abbrev pub made : (ℕ → Command) → Option ℕ → Option Command
+made f none = none
+made f (some n) = some (f n)
+
+-- What follows `L`: nothing.
+unfoldable pub listing : List (List ℕ) → Option Command
+listing [] = some labels
+listing (t ∷ ts) = none
+
+-- The forms: `A`, `R`, `W` or `L`, and what follows it.
+unfoldable pub form : List (List ℕ) → Option Command
+form [] = none
+form (t ∷ ts) =
+    cond (one (code "A") t) (addition ts)
+    (cond (one (code "R") t) (made remove (only ts))
+    (cond (one (code "W") t) (made why (only ts))
+    (cond (one (code "L") t) (listing ts) none)))
+
+unfoldable pub command : List ℕ → Option Command
+command line = form (tokens line)

@@ -1,0 +1,7 @@
+pub mod Tokens
+pub mod Places
+pub mod Numerals
+pub mod Commands
+pub mod Readings
+pub mod Buffers
+pub mod Parts

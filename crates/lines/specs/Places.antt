@@ -1,0 +1,25 @@
+-- A place in a sheet: an offset in a line's bytes, and the line's number (document 01, "The sheet program": the reader
+-- keeps one place in the line, moves it past blanks and counts lines as it goes). Assumes nothing.
+use Prim.Native.Nat.{ℕ, zero, suc, _+_, _-_, _^_, min}
+use mathlib.Core.Bool.{Bool, cond}
+use mathlib.Core.List.{List, [], _∷_}
+use lib.ListN.{drop}
+use Rattle.lines.specs.Tokens.{isSpace}
+use Rattle.lines.specs.declared.Place.{Place}
+
+-- How many bytes at the start of bs pass the test.
+unfoldable pub leading : (ℕ → Bool) → List ℕ → ℕ
+leading f [] = zero
+leading f (b ∷ bs) = cond (f b) (suc (leading f bs)) zero
+
+-- The place past the blanks that begin at a place. Past the end of the line it is that place.
+abbrev pub pastBlanks : List ℕ → Place → Place
+pastBlanks line p = record { offset = p .offset + leading isSpace (drop (p .offset) line); line = p .line }
+
+-- The start of a sheet. Lines count from 1.
+abbrev pub start : Place
+start = record { offset = 0; line = 1 }
+
+-- The start of the next line. The count stops at the greatest number that the code can hold.
+abbrev pub nextLine : Place → Place
+nextLine p = record { offset = 0; line = min (p .line + 1) (2 ^ 64 - 1) }

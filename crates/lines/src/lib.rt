@@ -1,0 +1,71 @@
+// The language of a sheet's line: reading a line's bytes as a command, and writing fields as bytes.
+ghost use mathlib.Core.Path.{_≡_};
+ghost use Rattle.lines.specs.Places.{nextLine};
+ghost use Rattle.lines.specs.Places.{start as start-of-sheet};
+
+pub mod read; // read.rt: what a line is
+pub mod write; // write.rt: decimal digits and words at a place of a lent buffer
+
+// A place: an offset in the bytes of a line, and the number of that line.
+pub struct Place {
+    pub offset: usize,
+    pub line: usize,
+}
+
+impl Place {
+    // The start of a sheet. Lines count from 1.
+    pub fn start() -> Place
+        ensures { λ r. ⌜ r ≡ start-of-sheet ⌝ }
+    {
+        Place { offset: 0, line: 1 }
+    }
+
+    // The start of the next line. The count stops at the greatest usize: no sheet has as many lines.
+    pub fn next_line(self) -> Place
+        ensures { λ r. ⌜ r ≡ nextLine self ⌝ }
+    {
+        if self.line == 0xffff_ffff_ffff_ffff {
+            return Place {
+                offset: 0,
+                line: self.line,
+            };
+        }
+        Place {
+            offset: 0,
+            line: self.line + 1,
+        }
+    }
+}
+
+// The commands of a sheet. The lists of an addition stand beside it (`Parsed`).
+pub enum Command {
+    Add(u32),
+    Remove(u32),
+    Why(u32),
+    Labels,
+}
+
+// What a line is: blank, over-long (question 14), without the form (question 13), or a command.
+pub enum Reading {
+    Blank,
+    TooLong,
+    NoCommand,
+    Command(Command),
+}
+
+// A line that was read. An addition's positives stand first among the entries, then its negatives; all that follow
+// are 0. Any other reading has none.
+pub struct Parsed {
+    pub reading: Reading,
+    pub positives: usize,
+    pub negatives: usize,
+    pub entries: [u32; Parsed::ENTRIES],
+}
+
+impl Parsed {
+    // The most bytes of a line, its newline not counted.
+    pub const LINE: usize = 120;
+
+    // Room for every entry of a line: a line has at most 60 tokens.
+    pub const ENTRIES: usize = 60;
+}

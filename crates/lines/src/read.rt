@@ -1,0 +1,335 @@
+// Reading a line.
+use super::Command;
+use super::Parsed;
+use super::Place;
+use super::Reading;
+ghost use mathlib.Core.Path.{_≡_};
+ghost use mathlib.Core.List.{[]};
+ghost use Prim.Native.Nat.{_+_, _≤_};
+ghost use lib.ListN.{length, drop};
+ghost use Rattle.lines.specs.Tokens.{tokens};
+ghost use Rattle.lines.specs.Places.{leading, pastBlanks};
+ghost use Rattle.lines.specs.Numerals.{spelledFrom};
+ghost use Rattle.lines.specs.Numerals.{numeral as numeral-of};
+ghost use Rattle.lines.specs.Commands.{one, made, remove, why, only, command};
+ghost use Rattle.lines.specs.Commands.{addition as addition-of, listing as listing-of};
+ghost use Rattle.lines.specs.Readings.{Answers, LINE, ENTRIES, whether, lineOf};
+ghost use Rattle.lines.specs.Readings.{reading as reading-of};
+ghost use Rattle.lines.specs.Parts.{inToken, empty, First, numberOf, listed, Collected};
+
+// The bytes from start up to the place next are a token. Where no token is left, they are none.
+struct Token {
+    start: usize,
+    next: Place,
+}
+
+// The number that a token is, where it is one.
+enum Number {
+    Missing,
+    Is(u32),
+}
+
+// The first count of the entries are numbers that were read. The rest of the line begins at next.
+struct Numbers {
+    entries: [u32; Parsed::ENTRIES],
+    count: usize,
+    next: Place,
+}
+
+// Moves a place past blanks.
+pub fn past_blanks(line: &[u8], place: Place) -> Place
+    ensures { λ r. ⌜ r ≡ pastBlanks (now (line .entry)) place ⌝ }
+{
+    let mut i = place.offset;
+    while i < line.len() {
+        if line[i] != b' ' {
+            return Place {
+                offset: i,
+                line: place.line,
+            };
+        }
+        i += 1;
+    }
+    Place {
+        offset: i,
+        line: place.line,
+    }
+}
+
+// Where the token that begins at an offset ends.
+fn token_end(line: &[u8], start: usize) -> usize
+    ensures { λ r. ⌜ r ≡ start + leading inToken (drop start (now (line .entry))) ⌝ }
+{
+    let mut i = start;
+    while i < line.len() {
+        if line[i] == b' ' {
+            return i;
+        }
+        i += 1;
+    }
+    i
+}
+
+// The next token.
+fn next_token(line: &[u8], place: Place) -> Token
+    requires { ⌜ place .offset ≤ length (now line) ⌝ }
+    ensures { λ r. ⌜ First (now (line .entry)) (place .offset) r ⌝ }
+{
+    let begin = past_blanks(line, place);
+    let start = begin.offset;
+    let end = token_end(line, start);
+    Token {
+        start: start,
+        next: Place {
+            offset: end,
+            line: begin.line,
+        },
+    }
+}
+
+// Is no token left?
+fn ended(line: &[u8], place: Place) -> bool
+    requires { ⌜ place .offset ≤ length (now line) ⌝ }
+    ensures { λ r. ⌜ r ≡ empty (tokens (drop (place .offset) (now (line .entry)))) ⌝ }
+{
+    let rest = past_blanks(line, place);
+    rest.offset == line.len()
+}
+
+// Is the token this one byte?
+fn is(token: &[u8], byte: u8) -> bool
+    ensures { λ r. ⌜ r ≡ one byte (now (token .entry)) ⌝ }
+{
+    if token.len() != 1 {
+        return false;
+    }
+    token[0] == byte
+}
+
+// What a token spells, if it is of digits.
+fn value(token: &[u8]) -> Number
+    requires { ⌜ length (now token) ≤ 5 ⌝ }
+    ensures { λ r. ⌜ numberOf r ≡ spelledFrom 0 (now (token .entry)) ⌝ }
+{
+    let mut n: u32 = 0;
+    let mut i: usize = 0;
+    while i < token.len() {
+        let b = token[i];
+        if b < b'0' {
+            return Number::Missing;
+        }
+        if b > b'9' {
+            return Number::Missing;
+        }
+        n = n * 10 + (b - b'0') as u32;
+        i += 1;
+    }
+    Number::Is(n)
+}
+
+// The number that a token is.
+fn numeral(token: &[u8]) -> Number
+    ensures { λ r. ⌜ numberOf r ≡ numeral-of (now (token .entry)) ⌝ }
+{
+    let n = token.len();
+    if n == 0 {
+        return Number::Missing;
+    }
+    if n > 5 {
+        return Number::Missing;
+    }
+    if n > 1 {
+        if token[0] == b'0' {
+            return Number::Missing;
+        }
+    }
+    value(token)
+}
+
+// The number that the rest of the line is.
+fn only_number(line: &[u8], place: Place) -> Number
+    requires { ⌜ place .offset ≤ length (now line) ⌝ }
+    ensures { λ r. ⌜ numberOf r ≡ only (tokens (drop (place .offset) (now (line .entry)))) ⌝ }
+{
+    let t = next_token(line, place);
+    let start = t.start;
+    let next = t.next;
+    let end = next.offset;
+    if !ended(line, next) {
+        return Number::Missing;
+    }
+    numeral(&line[start..end])
+}
+
+// Reads numbers up to the first token that is none, and puts them behind those that are known.
+fn collect(line: &[u8], known: [u32; Parsed::ENTRIES], size: usize, place: Place) -> Numbers
+    requires { ⌜ place .offset ≤ length (now line) ⌝ }
+    requires { ⌜ size + length (tokens (drop (place .offset) (now line))) ≤ ENTRIES ⌝ }
+    ensures { λ r. ⌜ Collected (now (line .entry)) known size (place .offset) r ⌝ }
+{
+    let mut entries = known;
+    let mut count = size;
+    let mut next = place;
+    loop {
+        let t = next_token(line, next);
+        let start = t.start;
+        let after = t.next;
+        let end = after.offset;
+        let Number::Is(n) = numeral(&line[start..end]) else {
+            return Numbers {
+                entries: entries,
+                count: count,
+                next: next,
+            };
+        };
+        entries[count] = n;
+        count += 1;
+        next = after;
+    }
+}
+
+// A reading with no entries.
+fn plain(reading: Reading) -> Parsed
+    ensures { λ r. ⌜ Answers (lineOf reading [] []) r ⌝ }
+{
+    Parsed {
+        reading: reading,
+        positives: 0,
+        negatives: 0,
+        entries: [0; Parsed::ENTRIES],
+    }
+}
+
+// The lists of an addition, with its head.
+fn lists(line: &[u8], head: u32, place: Place) -> Parsed
+    requires { ⌜ place .offset ≤ length (now line) ⌝ }
+    requires { ⌜ length (tokens (drop (place .offset) (now line))) ≤ ENTRIES ⌝ }
+    ensures { λ r. ⌜ Answers (whether (listed head (tokens (drop (place .offset) (now (line .entry)))))) r ⌝ }
+{
+    let p = collect(line, [0; Parsed::ENTRIES], 0, place);
+    let positives = p.count;
+    let rest = p.next;
+    let found = p.entries;
+    let reading = Reading::Command(Command::Add(head));
+    if ended(line, rest) {
+        return Parsed {
+            reading: reading,
+            positives: positives,
+            negatives: 0,
+            entries: found,
+        };
+    }
+    let t = next_token(line, rest);
+    let start = t.start;
+    let after = t.next;
+    let end = after.offset;
+    if !is(&line[start..end], b'!') {
+        return plain(Reading::NoCommand);
+    }
+    let n = collect(line, found, positives, after);
+    let last = n.next;
+    if !ended(line, last) {
+        return plain(Reading::NoCommand);
+    }
+    let entries = n.entries;
+    Parsed {
+        reading: reading,
+        positives: positives,
+        negatives: n.count - positives,
+        entries: entries,
+    }
+}
+
+// What follows the `A` of an addition.
+fn addition(line: &[u8], place: Place) -> Parsed
+    requires { ⌜ place .offset ≤ length (now line) ⌝ }
+    requires { ⌜ length (tokens (drop (place .offset) (now line))) ≤ ENTRIES ⌝ }
+    ensures { λ r. ⌜ Answers (whether (addition-of (tokens (drop (place .offset) (now (line .entry)))))) r ⌝ }
+{
+    let h = next_token(line, place);
+    let start = h.start;
+    let after = h.next;
+    let end = after.offset;
+    let Number::Is(head) = numeral(&line[start..end]) else {
+        return plain(Reading::NoCommand);
+    };
+    let c = next_token(line, after);
+    let from = c.start;
+    let next = c.next;
+    let to = next.offset;
+    if !is(&line[from..to], b':') {
+        return plain(Reading::NoCommand);
+    }
+    lists(line, head, next)
+}
+
+// What follows the `R` of a removal.
+fn removal(line: &[u8], place: Place) -> Parsed
+    requires { ⌜ place .offset ≤ length (now line) ⌝ }
+    ensures { λ r. ⌜ Answers (whether (made remove (only (tokens (drop (place .offset) (now (line .entry))))))) r ⌝ }
+{
+    let Number::Is(slot) = only_number(line, place) else {
+        return plain(Reading::NoCommand);
+    };
+    plain(Reading::Command(Command::Remove(slot)))
+}
+
+// What follows the `W` of a request for a reason.
+fn reason(line: &[u8], place: Place) -> Parsed
+    requires { ⌜ place .offset ≤ length (now line) ⌝ }
+    ensures { λ r. ⌜ Answers (whether (made why (only (tokens (drop (place .offset) (now (line .entry))))))) r ⌝ }
+{
+    let Number::Is(atom) = only_number(line, place) else {
+        return plain(Reading::NoCommand);
+    };
+    plain(Reading::Command(Command::Why(atom)))
+}
+
+// What follows the `L` of a request for the labels.
+fn listing(line: &[u8], place: Place) -> Parsed
+    requires { ⌜ place .offset ≤ length (now line) ⌝ }
+    ensures { λ r. ⌜ Answers (whether (listing-of (tokens (drop (place .offset) (now (line .entry)))))) r ⌝ }
+{
+    if !ended(line, place) {
+        return plain(Reading::NoCommand);
+    }
+    plain(Reading::Command(Command::Labels))
+}
+
+// The command of a line that is not too long. Its place starts at the first byte; the line's number does not matter.
+fn form(line: &[u8]) -> Parsed
+    requires { ⌜ length (now line) ≤ LINE ⌝ }
+    ensures { λ r. ⌜ Answers (whether (command (now (line .entry)))) r ⌝ }
+{
+    let t = next_token(line, Place { offset: 0, line: 1 });
+    let start = t.start;
+    let next = t.next;
+    let end = next.offset;
+    let word = &line[start..end];
+    if is(word, b'A') {
+        return addition(line, next);
+    }
+    if is(word, b'R') {
+        return removal(line, next);
+    }
+    if is(word, b'W') {
+        return reason(line, next);
+    }
+    if is(word, b'L') {
+        return listing(line, next);
+    }
+    plain(Reading::NoCommand)
+}
+
+// What a line is: blank, over-long, of no form, or a command with its lists. Any bytes may come in.
+pub fn read(line: &[u8]) -> Parsed
+    ensures { λ r. ⌜ Answers (reading-of (now (line .entry))) r ⌝ }
+{
+    if line.len() > Parsed::LINE {
+        return plain(Reading::TooLong);
+    }
+    if ended(line, Place { offset: 0, line: 1 }) {
+        return plain(Reading::Blank);
+    }
+    form(line)
+}
