@@ -164,7 +164,8 @@ module _ (cs : List Call) (xs : List Answer) (t : Table) (e : held t ≡ bookAft
 
   kept : (a : ℕ) → a < document .atoms → Labelled (bookAfter cs) M a (labelAt (t .labels) a)
   unfolding M
-  kept a l = subst (λ (Q : Program). Labelled Q (S .labels .model) a (labelAt (t .labels) a)) e (S .labels .labels a l)
+  kept a l = subst (λ (Q : Program). Labelled Q (S .labels .model) a (labelAt (t .labels) a)) e
+      (S .labels .labels a l)
 
   answered-label :
       (a : ℕ) → a < document .atoms → (x : LabelAnswer) → LabelEnds t a x

@@ -1,2 +1,4 @@
 -- The claim over sequences: what a reader believes when told that it holds.
 pub mod Claim
+pub mod Encoding
+pub mod Steps

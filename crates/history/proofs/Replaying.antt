@@ -1,0 +1,116 @@
+-- The calls of a list made one after another: what was done so far and what is left give the whole. Assumes nothing.
+use Prim.Native.Nat.{ℕ, zero, suc, _+_, _-_, _≤_, _<_}
+use native.Mathlib.Omega.{arith}
+use native.Mathlib.Numerals.{add-one}
+use mathlib.Core.Path.{_≡_, refl, sym, _∙_, ap, ap₂, subst}
+use mathlib.Core.List.{List, [], _∷_, _++_, map, append-assoc, append-nil, map-append}
+use mathlib.Core.Option.{Option, none, some}
+use lib.ListN.{length, getD, set, drop, length-append, length-map}
+use lib.Seq.{drop-cons, set-at}
+use Rattle.theory.specs.Book.{Call, add, remove, Answer}
+use Rattle.table.specs.declared.Table.{Table}
+use Rattle.table.specs.Clean.{emptyTable}
+use Rattle.calls.specs.declared.AddAnswer.{AddAnswer}
+use Rattle.calls.specs.declared.RemoveAnswer.{RemoveAnswer}
+use Rattle.history.specs.declared.Replayed.{Replayed}
+use Rattle.history.specs.Claim.{Step, Trace, stop, call, History}
+use Rattle.history.specs.Encoding.{Placed, placed, decode, encode}
+use Rattle.history.specs.Steps.{Made, Replays, calls-in}
+use Rattle.history.proofs.Sequence.{history}
+
+-- One call more at the end.
+trace-more :
+    {t u v : Table} {c : Call} {x : Answer} {cs : List Call} {xs : List Answer} → Trace t cs xs u → Step u c x v
+    → Trace t (cs ++ (c ∷ [])) (xs ++ (x ∷ [])) v
+trace-more stop s = call s stop
+trace-more (call w rest) s = call w (trace-more rest s)
+
+decode-over : (most : ℕ) (ws : List ℕ) (at : ℕ) → placed ws at ≡ none → decode most ws at ≡ []
+decode-over zero ws at e = unfold decode in refl
+decode-over (suc most) ws at e = unfold decode in (rw (e, decode))
+
+decode-next :
+    (most : ℕ) (ws : List ℕ) (at : ℕ) (c : Placed) → placed ws at ≡ some c
+    → decode (suc most) ws at ≡ c .call ∷ decode most ws (c .behind)
+unfolding decode
+decode-next most ws at c e = rw (e, decode)
+
+-- After count calls, at a place of the list: these were made, and the rest of the list is still to be read.
+pub record Going (ws before : List ℕ) (at count : ℕ) (t : Table) (now : List ℕ) : Type 0 where
+  pub done : List Call
+  pub told : List Answer
+  pub trace : Trace emptyTable done told t
+  pub calls : length done ≡ count
+  pub answers : length told ≡ count
+  pub room : count ≤ length before
+  pub left : calls-in ws before ≡ done ++ decode (length before - count) ws at
+  pub buffer : now ≡ map encode told ++ drop count before
+
+pub going-start : (ws before : List ℕ) (t : Table) → t ≡ emptyTable → Going ws before 0 0 t before
+going-start ws before t e = record {
+  done = [];
+  told = [];
+  trace = subst (λ (u : Table). Trace emptyTable [] [] u) (sym e) stop;
+  calls = refl;
+  answers = refl;
+  room = omega arith;
+  left = (let z : length before ≡ length before - 0 = omega arith in ap (λ (k : ℕ). decode k ws 0) z);
+  buffer = refl;
+}
+
+module _ (ws before : List ℕ) (at count : ℕ) (t : Table) (now : List ℕ) (G : Going ws before at count t now) where
+  pub going-length : length now ≡ length before
+  going-length =
+      ap length (G .buffer) ∙ length-append (map encode (G .told)) (drop count before)
+      ∙ omega (arith, G .answers, G .room, length-map (G .told) encode, length-dropped)
+    where
+      length-dropped : length (drop count before) ≡ length before - count
+      length-dropped = lib.ListN.length-drop count before
+
+  pub going-next :
+      (answer behind : ℕ) (u : Table) → count < length before → Made ws at t answer behind u
+      → Going ws before behind (count + 1) u (set now count answer)
+  going-next answer behind u l m = record {
+    done = G .done ++ (m .call ∷ []);
+    told = G .told ++ (m .told ∷ []);
+    trace = trace-more (G .trace) (m .step);
+    calls = length-append (G .done) (m .call ∷ []) ∙ omega (arith, G .calls);
+    answers = length-append (G .told) (m .told ∷ []) ∙ omega (arith, G .answers);
+    room = omega arith;
+    left =
+        let q : length before - count ≡ suc (length before - (count + 1)) = omega arith in
+        G .left
+        ∙ ap (λ (zs : List Call). G .done ++ zs)
+        (ap (λ (k : ℕ). decode k ws at) q ∙ decode-next (length before - (count + 1)) ws at _ (m .stands))
+        ∙ sym (append-assoc (G .done) (m .call ∷ []) (decode (length before - (count + 1)) ws behind));
+    buffer =
+        let d : drop count before ≡ getD before count 0 ∷ drop (count + 1) before =
+        drop-cons before count 0 l ∙ ap (λ (k : ℕ). getD before count 0 ∷ drop k before) (sym (add-one count)) in
+        ap (λ (zs : List ℕ). set zs count answer) (G .buffer ∙ ap (λ (zs : List ℕ). map encode (G .told) ++ zs) d)
+        ∙ set-at (map encode (G .told)) (getD before count 0) (drop (count + 1) before) answer count
+        (length-map (G .told) encode ∙ G .answers)
+        ∙ ap (λ (k : ℕ). map encode (G .told) ++ (k ∷ drop (count + 1) before)) (m .number)
+        ∙ sym (ap (λ (zs : List ℕ). zs ++ drop (count + 1) before) (map-append encode (G .told) (m .told ∷ []))
+        ∙ append-assoc (map encode (G .told)) (encode (m .told) ∷ []) (drop (count + 1) before));
+  }
+
+  -- Where no call is left, the whole was made.
+  finished : decode (length before - count) ws at ≡ [] → Replays ws before (record { count = count; table = t }) now
+  finished e =
+      let whole : calls-in ws before ≡ G .done = G .left ∙ ap
+      (λ (zs : List Call). G .done ++ zs) e ∙ append-nil (G .done) in
+      record {
+        told = G .told;
+        claim = subst (λ (cs : List Call). History cs (G .told) t) (sym whole)
+            (history (G .done) (G .told) t (G .trace));
+        count = sym (G .calls) ∙ ap length (sym whole);
+        written = G .buffer;
+      }
+
+  pub going-over : placed ws at ≡ none → Replays ws before (record { count = count; table = t }) now
+  going-over e = finished (decode-over (length before - count) ws at e)
+
+  pub going-full : length before ≤ count → Replays ws before (record { count = count; table = t }) now
+  going-full l =
+      let z : length before - count ≡ 0 = omega arith in
+      finished (ap (λ (k : ℕ). decode k ws at) z ∙ (unfold decode in refl))

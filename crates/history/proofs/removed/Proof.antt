@@ -1,0 +1,28 @@
+-- `history::removed` meets its contract. Assumes nothing.
+use native.Mathlib.Omega.{arith}
+use borrow.Author.Needs.{needs}
+use Rattle.history.proofs.Reading.{small, removed-refused}
+use Rattle.history.proofs.removed.Statement.{statement}
+use Rattle.history.proofs.removed.Tie as tie
+
+enum-told : tie.Need-enum-told
+enum-told c = search needs
+
+enum-known-answer : tie.Need-enum-known-answer
+enum-known-answer c = search needs
+
+number-requires : tie.Need-number-requires
+number-requires c κs = search needs
+
+add-result : tie.Need-add-result
+add-result c = omega (arith, small (c .before .before .answer .given .0 .0) _ (c .number .ensures))
+
+returns : tie.Need-returns
+returns c = search needs
+
+returns-2 : tie.Need-returns-2
+returns-2 c = removed-refused _ _ _ (c .before .before .answer .given .1) (c .number .ensures)
+
+pub removed-spec : {M : Type 1} → statement M
+removed-spec =
+    tie.close (tie.spec enum-told enum-known-answer number-requires add-result returns returns-2)
