@@ -1,11 +1,8 @@
 -- Kept labels checked as a certificate: conditions on one rule or one atom at a time hold if and only if the kept
--- labels
--- are the defined ones. Idea: the kept depths fall from a head to its positive entries, so the in atoms, taken by
--- depth,
--- are founded; the local equation of depths (`DepthEquation`) has only the least heights as its solution; and among
--- the
--- valid rules of a head those with all positive entries of smaller depth are those whose level is the head's depth.
--- Assumes nothing.
+-- labels are the defined ones. Idea: the kept depths fall from a head to its positive entries, so the in atoms, taken
+-- by depth, are founded; the local equation of depths (`DepthEquation`) has only the least heights as its solution;
+-- and among the valid rules of a head those with all positive entries of smaller depth are those whose level is the
+-- head's depth. Assumes nothing.
 use Prim.Native.Nat.{ℕ, zero, suc, _+_, _-_, _≤_, _<_, max}
 use native.Mathlib.Omega.{arith}
 use native.Mathlib.Nat.{eq-or-lt-of-le}
@@ -42,8 +39,7 @@ abbrev pub level : (ℕ → ℕ) → Rule → ℕ
 level d r = suc (greatest d (r .positives))
 
 -- The local equation of depths: no valid rule has a level below its head's depth, and each in atom has a valid rule
--- whose
--- level is its depth.
+-- whose level is its depth.
 pub record DepthEquation (P : Program) (M : AtomSet) (d : ℕ → ℕ) : Type 0 where
   pub least : (s : ℕ) (r : Rule) → Held P s r → valid M r ≡ true → d (r .head) ≤ level d r
   pub reached :
