@@ -3,6 +3,8 @@
 use table::Atom;
 use table::Slot;
 use table::Table;
+ghost use mathlib.Core.Path.{_≡_};
+ghost use Rattle.calls.specs.Answers.{numberOf};
 
 // A refusal: a case for each question that a call can answer no. Its number is document 01's (specs/Answers).
 pub enum Refusal {
@@ -60,4 +62,25 @@ pub enum SpoilerAnswer {
 pub enum ListAnswer {
     Count(usize),
     Refused(Refusal),
+}
+
+// The number of a refusal.
+pub fn refusal_number(f: Refusal) -> u32
+    ensures { λ r. ⌜ r ≡ numberOf f ⌝ }
+{
+    match f {
+        Refusal::Head => 1,
+        Refusal::Entries => 2,
+        Refusal::Entry => 3,
+        Refusal::Repeated => 4,
+        Refusal::Same => 5,
+        Refusal::Full => 6,
+        Refusal::NegativeCycle => 7,
+        Refusal::SlotNumber => 8,
+        Refusal::Free => 9,
+        Refusal::AtomNumber => 10,
+        Refusal::Buffer(needed) => 11,
+        Refusal::NotIn => 12,
+        Refusal::Unsound => 15,
+    }
 }

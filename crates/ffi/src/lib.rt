@@ -6,6 +6,7 @@ use calls::ListAnswer;
 use calls::Refusal;
 use calls::RemoveAnswer;
 use calls::SpoilerAnswer;
+use calls::refusal_number;
 use changes::add;
 use changes::remove;
 use queries::consequences;
@@ -18,7 +19,6 @@ use table::Table;
 ghost use mathlib.Core.Path.{_≡_};
 ghost use Rattle.table.specs.Clean.{emptyTable};
 ghost use Rattle.table.specs.Questions.{ruleFrom};
-ghost use Rattle.calls.specs.Answers.{numberOf};
 ghost use Rattle.calls.specs.Contracts.{JustificationsEnd, ConsequencesEnd, RepercussionsEnd, ReasonEnds};
 ghost use Rattle.ffi.specs.Crossing.{crossedAdd, crossedRemove, crossedLabel, crossedSpoiler, crossedList};
 ghost use Rattle.ffi.specs.Crossing.{neededBy};
@@ -56,27 +56,6 @@ pub struct Written {
     pub count: usize,
 }
 
-// The number of a refusal.
-fn number(f: Refusal) -> u32
-    ensures { λ r. ⌜ r ≡ numberOf f ⌝ }
-{
-    match f {
-        Refusal::Head => 1,
-        Refusal::Entries => 2,
-        Refusal::Entry => 3,
-        Refusal::Repeated => 4,
-        Refusal::Same => 5,
-        Refusal::Full => 6,
-        Refusal::NegativeCycle => 7,
-        Refusal::SlotNumber => 8,
-        Refusal::Free => 9,
-        Refusal::AtomNumber => 10,
-        Refusal::Buffer(needed) => 11,
-        Refusal::NotIn => 12,
-        Refusal::Unsound => 15,
-    }
-}
-
 // How many entries a refusal says are needed: with 11 alone.
 fn needed(f: Refusal) -> usize
     ensures { λ r. ⌜ r ≡ neededBy f ⌝ }
@@ -107,7 +86,7 @@ fn crossed_list(answer: ListAnswer) -> Written
             count: n,
         },
         ListAnswer::Refused(f) => Written {
-            refused: number(f),
+            refused: refusal_number(f),
             count: needed(f),
         },
     }
@@ -125,7 +104,7 @@ fn crossed_add(answer: AddAnswer, after: Table) -> Change
             table: after,
         },
         AddAnswer::Refused(f) => Change {
-            refused: number(f),
+            refused: refusal_number(f),
             slot: 0,
             table: after,
         },
@@ -142,7 +121,7 @@ fn crossed_remove(slot: u32, answer: RemoveAnswer, after: Table) -> Change
             table: after,
         },
         RemoveAnswer::Refused(f) => Change {
-            refused: number(f),
+            refused: refusal_number(f),
             slot: 0,
             table: after,
         },
@@ -172,7 +151,7 @@ fn crossed_label(answer: LabelAnswer) -> AtomLabel
             slot: s.0 as u32,
         },
         LabelAnswer::Refused(f) => AtomLabel {
-            refused: number(f),
+            refused: refusal_number(f),
             state: 0,
             depth: 0,
             slot: 0,
@@ -195,7 +174,7 @@ fn crossed_spoiler(answer: SpoilerAnswer) -> RuleSpoiler
             atom: a.0 as u32,
         },
         SpoilerAnswer::Refused(f) => RuleSpoiler {
-            refused: number(f),
+            refused: refusal_number(f),
             spoiled: 0,
             atom: 0,
         },

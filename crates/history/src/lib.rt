@@ -1,14 +1,14 @@
 // A list of calls, written as numbers, made one after another from the empty table.
 use calls::AddAnswer;
-use calls::Refusal;
 use calls::RemoveAnswer;
+use calls::refusal_number;
 use changes::add;
 use changes::remove;
 use table::Table;
 ghost use mathlib.Core.Path.{_≡_};
 ghost use Prim.Native.Nat.{_+_, _≤_};
 ghost use lib.ListN.{length};
-ghost use Rattle.calls.specs.Answers.{numberOf, bookAdd, bookRemove};
+ghost use Rattle.calls.specs.Answers.{bookAdd, bookRemove};
 ghost use Rattle.history.specs.Encoding.{encode};
 ghost use Rattle.history.specs.Steps.{NextOf, StepOf, Replays};
 
@@ -33,34 +33,13 @@ struct Stepped {
     table: Table,
 }
 
-// The number of a refusal.
-fn number(f: Refusal) -> u32
-    ensures { λ r. ⌜ r ≡ numberOf f ⌝ }
-{
-    match f {
-        Refusal::Head => 1,
-        Refusal::Entries => 2,
-        Refusal::Entry => 3,
-        Refusal::Repeated => 4,
-        Refusal::Same => 5,
-        Refusal::Full => 6,
-        Refusal::NegativeCycle => 7,
-        Refusal::SlotNumber => 8,
-        Refusal::Free => 9,
-        Refusal::AtomNumber => 10,
-        Refusal::Buffer(needed) => 11,
-        Refusal::NotIn => 12,
-        Refusal::Unsound => 15,
-    }
-}
-
 // What an addition answered, as a number.
 fn added(answer: AddAnswer) -> u32
     ensures { λ r. ⌜ r ≡ encode (bookAdd answer) ⌝ }
 {
     match answer {
         AddAnswer::Taken(s) => s.0 as u32,
-        AddAnswer::Refused(f) => 65536 + number(f),
+        AddAnswer::Refused(f) => 65536 + refusal_number(f),
     }
 }
 
@@ -70,7 +49,7 @@ fn removed(answer: RemoveAnswer) -> u32
 {
     match answer {
         RemoveAnswer::Removed => 65536,
-        RemoveAnswer::Refused(f) => 65536 + number(f),
+        RemoveAnswer::Refused(f) => 65536 + refusal_number(f),
     }
 }
 

@@ -22,8 +22,8 @@ cast-t7 c = search needs
 enum-known-answer-2 : tie.Need-enum-known-answer-2
 enum-known-answer-2 c = search needs
 
-number-requires : tie.Need-number-requires
-number-requires c κs = search needs
+refusal-number-requires : tie.Need-refusal-number-requires
+refusal-number-requires c κs = search needs
 
 returns : tie.Need-returns
 returns c = label-told _ _ (c .enum-told .given .1)
@@ -35,7 +35,7 @@ returns-3 : tie.Need-returns-3
 returns-3 c = label-told _ _ (c .before .before .answer .given .1)
 
 returns-4 : tie.Need-returns-4
-returns-4 c = label-refused _ _ _ (c .before .before .answer2 .given .1) (c .number .ensures)
+returns-4 c = label-refused _ _ _ (c .before .before .answer2 .given .1) (c .refusal-number .ensures)
 
 pub crossed-label-spec : {M : Type 1} → statement M
 crossed-label-spec =
@@ -47,7 +47,7 @@ crossed-label-spec =
     cast-t6
     cast-t7
     enum-known-answer-2
-    number-requires
+    refusal-number-requires
     returns
     returns-2
     returns-3

@@ -10,8 +10,8 @@ enum-known-answer c = search needs
 enum-known-answer-2 : tie.Need-enum-known-answer-2
 enum-known-answer-2 c = search needs
 
-number-requires : tie.Need-number-requires
-number-requires c κs = search needs
+refusal-number-requires : tie.Need-refusal-number-requires
+refusal-number-requires c κs = search needs
 
 needed-requires : tie.Need-needed-requires
 needed-requires c κs = search needs
@@ -21,7 +21,7 @@ returns c = list-told _ _ (c .before .answer .given .1)
 
 returns-2 : tie.Need-returns-2
 returns-2 c = list-refused _ _ _ _
-    (c .before .before .before .answer2 .given .1) (c .before .number .ensures) (c .needed .ensures)
+    (c .before .before .before .answer2 .given .1) (c .before .refusal-number .ensures) (c .needed .ensures)
 
 pub crossed-list-spec : {M : Type 1} → statement M
 crossed-list-spec =
@@ -29,7 +29,7 @@ crossed-list-spec =
     (tie.spec
     enum-known-answer
     enum-known-answer-2
-    number-requires
+    refusal-number-requires
     needed-requires
     returns
     returns-2)

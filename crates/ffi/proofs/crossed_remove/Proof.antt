@@ -10,15 +10,15 @@ enum-told c = search needs
 enum-known-answer : tie.Need-enum-known-answer
 enum-known-answer c = search needs
 
-number-requires : tie.Need-number-requires
-number-requires c κs = search needs
+refusal-number-requires : tie.Need-refusal-number-requires
+refusal-number-requires c κs = search needs
 
 returns : tie.Need-returns
 returns c = remove-accepted _ _ _ (c .enum-told .given .1)
 
 returns-2 : tie.Need-returns-2
-returns-2 c = remove-refused _ _ _ _ _ (c .before .before .answer .given .1) (c .number .ensures)
+returns-2 c = remove-refused _ _ _ _ _ (c .before .before .answer .given .1) (c .refusal-number .ensures)
 
 pub crossed-remove-spec : {M : Type 1} → statement M
 crossed-remove-spec =
-    tie.close (tie.spec enum-told enum-known-answer number-requires returns returns-2)
+    tie.close (tie.spec enum-told enum-known-answer refusal-number-requires returns returns-2)

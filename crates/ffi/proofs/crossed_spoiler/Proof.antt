@@ -16,8 +16,8 @@ cast-t5 c = search needs
 enum-known-answer-2 : tie.Need-enum-known-answer-2
 enum-known-answer-2 c = search needs
 
-number-requires : tie.Need-number-requires
-number-requires c κs = search needs
+refusal-number-requires : tie.Need-refusal-number-requires
+refusal-number-requires c κs = search needs
 
 returns : tie.Need-returns
 returns c = spoiler-told _ _ (c .enum-told .given .1)
@@ -26,7 +26,7 @@ returns-2 : tie.Need-returns-2
 returns-2 c = spoiler-told _ _ (c .before .before .answer .given .1)
 
 returns-3 : tie.Need-returns-3
-returns-3 c = spoiler-refused _ _ _ (c .before .before .answer2 .given .1) (c .number .ensures)
+returns-3 c = spoiler-refused _ _ _ (c .before .before .answer2 .given .1) (c .refusal-number .ensures)
 
 pub crossed-spoiler-spec : {M : Type 1} → statement M
 crossed-spoiler-spec =
@@ -36,7 +36,7 @@ crossed-spoiler-spec =
     enum-known-answer
     cast-t5
     enum-known-answer-2
-    number-requires
+    refusal-number-requires
     returns
     returns-2
     returns-3)

@@ -14,17 +14,17 @@ cast-result c = search needs
 enum-known-answer-2 : tie.Need-enum-known-answer-2
 enum-known-answer-2 c = search needs
 
-number-requires : tie.Need-number-requires
-number-requires c κs = search needs
+refusal-number-requires : tie.Need-refusal-number-requires
+refusal-number-requires c κs = search needs
 
 add-result : tie.Need-add-result
-add-result c = omega (arith, small (c .before .before .answer2 .given .0 .0) _ (c .number .ensures))
+add-result c = omega (arith, small (c .before .before .answer2 .given .0 .0) _ (c .refusal-number .ensures))
 
 returns : tie.Need-returns
 returns c = search needs
 
 returns-2 : tie.Need-returns-2
-returns-2 c = added-refused _ _ _ (c .before .before .answer2 .given .1) (c .number .ensures)
+returns-2 c = added-refused _ _ _ (c .before .before .answer2 .given .1) (c .refusal-number .ensures)
 
 pub added-spec : {M : Type 1} → statement M
 added-spec =
@@ -33,7 +33,7 @@ added-spec =
     enum-known-answer
     cast-result
     enum-known-answer-2
-    number-requires
+    refusal-number-requires
     add-result
     returns
     returns-2)

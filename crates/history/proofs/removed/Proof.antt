@@ -11,18 +11,18 @@ enum-told c = search needs
 enum-known-answer : tie.Need-enum-known-answer
 enum-known-answer c = search needs
 
-number-requires : tie.Need-number-requires
-number-requires c κs = search needs
+refusal-number-requires : tie.Need-refusal-number-requires
+refusal-number-requires c κs = search needs
 
 add-result : tie.Need-add-result
-add-result c = omega (arith, small (c .before .before .answer .given .0 .0) _ (c .number .ensures))
+add-result c = omega (arith, small (c .before .before .answer .given .0 .0) _ (c .refusal-number .ensures))
 
 returns : tie.Need-returns
 returns c = search needs
 
 returns-2 : tie.Need-returns-2
-returns-2 c = removed-refused _ _ _ (c .before .before .answer .given .1) (c .number .ensures)
+returns-2 c = removed-refused _ _ _ (c .before .before .answer .given .1) (c .refusal-number .ensures)
 
 pub removed-spec : {M : Type 1} → statement M
 removed-spec =
-    tie.close (tie.spec enum-told enum-known-answer number-requires add-result returns returns-2)
+    tie.close (tie.spec enum-told enum-known-answer refusal-number-requires add-result returns returns-2)
