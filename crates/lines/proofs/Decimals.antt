@@ -6,9 +6,9 @@ use native.Mathlib.Nat.{pow-suc}
 use mathlib.Core.Path.{_≡_, refl, sym, _∙_, ap}
 use mathlib.Core.Bool.{Bool, true, false}
 use mathlib.Core.List.{List, [], _∷_, _++_, append-assoc}
-use lib.ListN.{length, drop, set}
+use lib.ListN.{length, drop, set, length-append}
 use lib.Dec.{ltb}
-use borrow.Author.Tests.{lt-ltb, le-ltb, ltb-false}
+use borrow.Author.Tests.{lt-ltb, le-ltb, ltb-true, ltb-false}
 use Rattle.lines.specs.Numerals.{decimalIn, decimal}
 use Rattle.lines.proofs.Buffers.{store-front}
 
@@ -66,3 +66,15 @@ room-for-more rest (suc i) l h = omega arith
 
 pub room-behind : (rest i : ℕ) → rest < 10 ^ (i + 1) → rest / 10 < 10 ^ i
 room-behind rest i l = let k = rw (add-one i, pow-suc) at l in omega arith
+
+-- A number below 10 ^ (k + 1) has at most k + 1 digits.
+pub decimal-length : (k n : ℕ) → n < 10 ^ (k + 1) → length (decimal n) ≤ k + 1
+decimal-length zero n l = rw (decimal-digit n l) (omega arith)
+decimal-length (suc k) n l = go (ltb n 10) refl (decimal-length k (n / 10))
+  where
+    go : (t : Bool) → ltb n 10 ≡ t → (n / 10 < 10 ^ (k + 1) → length (decimal (n / 10)) ≤ k + 1)
+        → length (decimal n) ≤ suc k + 1
+    go true t e = rw (decimal-digit n (ltb-true n 10 t)) (omega arith)
+    go false t e =
+        let fewer = e (rw (add-one k) (room-behind n (suc k) l)) in
+        rw (decimal-last n (ltb-false n 10 t), length-append) (omega arith)

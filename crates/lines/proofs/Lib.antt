@@ -11,3 +11,5 @@ pub mod Decimals
 pub mod Examples
 pub mod RoundTrips
 pub mod Bounds
+pub mod Cut
+pub mod Lent

@@ -12,14 +12,22 @@ unfoldable pub leading : (ℕ → Bool) → List ℕ → ℕ
 leading f [] = zero
 leading f (b ∷ bs) = cond (f b) (suc (leading f bs)) zero
 
--- The place past the blanks that begin at a place. Past the end of the line it is that place.
+-- Where the blanks that begin at an offset end. Past the end of the line it is that offset.
+abbrev pub blanksEnd : List ℕ → ℕ → ℕ
+blanksEnd line start = start + leading isSpace (drop start line)
+
+-- The place past the blanks that begin at a place.
 abbrev pub pastBlanks : List ℕ → Place → Place
-pastBlanks line p = record { offset = p .offset + leading isSpace (drop (p .offset) line); line = p .line }
+pastBlanks line p = record { offset = blanksEnd line (p .offset); line = p .line }
 
 -- The start of a sheet. Lines count from 1.
 abbrev pub start : Place
 start = record { offset = 0; line = 1 }
 
--- The start of the next line. The count stops at the greatest number that the code can hold.
+-- The number of the next line. The count stops at the greatest number of 32 bits.
+abbrev pub lineAfter : ℕ → ℕ
+lineAfter n = min (n + 1) (2 ^ 32 - 1)
+
+-- The start of the next line.
 abbrev pub nextLine : Place → Place
-nextLine p = record { offset = 0; line = min (p .line + 1) (2 ^ 64 - 1) }
+nextLine p = record { offset = 0; line = lineAfter (p .line) }

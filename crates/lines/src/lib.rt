@@ -3,13 +3,14 @@ ghost use mathlib.Core.Path.{_≡_};
 ghost use Rattle.lines.specs.Places.{nextLine};
 ghost use Rattle.lines.specs.Places.{start as start-of-sheet};
 
+pub mod moves; // moves.rt: a lent place, moved past blanks and to the next line
 pub mod read; // read.rt: what a line is
 pub mod write; // write.rt: decimal digits and words at a place of a lent buffer
 
 // A place: an offset in the bytes of a line, and the number of that line.
 pub struct Place {
     pub offset: usize,
-    pub line: usize,
+    pub line: u32,
 }
 
 impl Place {
@@ -20,20 +21,12 @@ impl Place {
         Place { offset: 0, line: 1 }
     }
 
-    // The start of the next line. The count stops at the greatest usize: no sheet has as many lines.
-    pub fn next_line(self) -> Place
+    // The start of the next line.
+    pub fn next_line(mut self) -> Place
         ensures { λ r. ⌜ r ≡ nextLine self ⌝ }
     {
-        if self.line == 0xffff_ffff_ffff_ffff {
-            return Place {
-                offset: 0,
-                line: self.line,
-            };
-        }
-        Place {
-            offset: 0,
-            line: self.line + 1,
-        }
+        moves::count_line(&mut self);
+        self
     }
 }
 

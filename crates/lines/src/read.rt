@@ -3,6 +3,7 @@ use super::Command;
 use super::Parsed;
 use super::Place;
 use super::Reading;
+use super::moves;
 ghost use mathlib.Core.Path.{_≡_};
 ghost use mathlib.Core.List.{[]};
 ghost use Prim.Native.Nat.{_+_, _≤_};
@@ -36,24 +37,12 @@ struct Numbers {
     next: Place,
 }
 
-// Moves a place past blanks.
-pub fn past_blanks(line: &[u8], place: Place) -> Place
+// The place past the blanks that begin at a place.
+pub fn past_blanks(line: &[u8], mut place: Place) -> Place
     ensures { λ r. ⌜ r ≡ pastBlanks (now (line .entry)) place ⌝ }
 {
-    let mut i = place.offset;
-    while i < line.len() {
-        if line[i] != b' ' {
-            return Place {
-                offset: i,
-                line: place.line,
-            };
-        }
-        i += 1;
-    }
-    Place {
-        offset: i,
-        line: place.line,
-    }
+    moves::skip_blanks(line, &mut place);
+    place
 }
 
 // Where the token that begins at an offset ends.
