@@ -1,10 +1,13 @@
-// The calls on a table: what they answer, and what they hand back. Arguments are bare numbers; no call asks anything of
-// its caller.
+// The calls on a table: what they answer, what they hand back, and the questions that a call on an atom asks first.
+// Arguments are bare numbers; no call asks anything of its caller.
+use sound::sound;
 use table::Atom;
 use table::Slot;
 use table::Table;
+use table::questions::head_fits;
 ghost use mathlib.Core.Path.{_≡_};
 ghost use Rattle.calls.specs.Answers.{numberOf};
+ghost use Rattle.calls.specs.Asking.{AskEnds};
 
 // A refusal: a case for each question that a call can answer no. Its number is document 01's (specs/Answers).
 pub enum Refusal {
@@ -62,6 +65,26 @@ pub enum SpoilerAnswer {
 pub enum ListAnswer {
     Count(usize),
     Refused(Refusal),
+}
+
+// What questions 15 and 10 answer: the atom asked about, or the refusal.
+pub enum Asked {
+    Passed(Atom),
+    Refused(Refusal),
+}
+
+// Asks 15, then 10. Each call on an atom starts with it.
+pub fn ask(table: Table, atom: u32) -> Asked
+    ensures { λ r. ⌜ AskEnds table atom r ⌝ }
+{
+    if !sound(table) {
+        return Asked::Refused(Refusal::Unsound);
+    }
+    if !head_fits(atom) {
+        return Asked::Refused(Refusal::AtomNumber);
+    }
+    let a = atom as u16;
+    Asked::Passed(Atom(a))
 }
 
 // The number of a refusal.

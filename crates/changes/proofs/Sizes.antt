@@ -23,7 +23,7 @@ use Rattle.labels.proofs.Labelling as labelling-type
 use Rattle.calls.specs.Contracts.{Sized}
 
 -- What each element of an array tells of itself, at one place.
-each-at :
+pub each-at :
     {d : Type 0} (f : d → List Val → Fml) (Q : d → Type 0) → ((x : d) (vs : List Val) → shadow (f x vs) → Q x)
     → (xs : List d) (us : List Val) → shadow (each d f xs us) → (k : ℕ) (x : d) → k < length xs → Q (getD xs k x)
 each-at f Q h [] us p k x l = absurd (omega arith)

@@ -1,6 +1,6 @@
 -- Atoms marked one by one: a mark, the entries of a rule, the slots of a program. Assumes nothing. The number of atoms
 -- is a parameter.
-use Prim.Native.Nat.{ℕ, _+_, _≤_, _<_, min}
+use Prim.Native.Nat.{ℕ, _+_, _≤_, _<_}
 use native.Mathlib.Omega.{arith}
 use native.Mathlib.Numerals.{add-one}
 use native.Mathlib.Decide.{ℕ-discrete}
@@ -12,7 +12,7 @@ use mathlib.Core.Option.{Option, none, some}
 use lib.Dec.{eqb}
 use lib.ListN.{length, getD, set, drop, take, length-set, replicate, length-replicate, List·getD-eq-default}
 use lib.ListN.{drop-of-length-le}
-use lib.Seq.{getD-set-same, getD-set-other, drop-cons, take-suc, take-add, take-all}
+use lib.Seq.{getD-set-same, getD-set-other, drop-cons, take-suc}
 use Rattle.theory.specs.Lists.{any}
 use Rattle.theory.specs.Rules.{Rule, Program, Bounded, entries, passes}
 use Rattle.theory.proofs.Lists.{clash, eqb-of, eqb-not, le-or-lt, mem}
@@ -70,22 +70,6 @@ pub front-next :
 front-next xs j f g l W =
     rw (add-one, take-suc xs j noAtom, map-append)
     (marked-both (numbers (take j xs)) (getD xs j noAtom .0 ∷ []) f g _ W (marked-one (getD xs j noAtom .0) g))
-
--- Up to where the negative list ends they are all the entries of the rule.
-pub front-all :
-    (r : table.Rule) (b : ℕ) → length (r .entries) ≡ b → (n : ℕ) → n ≡ min (r .positives + r .negatives) b
-    → numbers (take n (r .entries)) ≡ entries (ruleOf r)
-front-all r b long n e =
-    ap numbers (whole ∙ take-add (r .positives) (r .negatives) (r .entries))
-    ∙ map-append (λ (a : Atom). a .0) (take (r .positives) (r .entries))
-    (take (r .negatives) (drop (r .positives) (r .entries)))
-  where
-    whole : take n (r .entries) ≡ take (r .positives + r .negatives) (r .entries)
-    whole = elim (le-or-lt (r .positives + r .negatives) b) [
-      | inl l ↦ (let q : n ≡ r .positives + r .negatives = omega arith in ap (λ (k : ℕ). take k (r .entries)) q)
-      | inr l ↦ take-all n (r .entries) (omega arith)
-          ∙ sym (take-all (r .positives + r .negatives) (r .entries) (omega arith))
-    ]
 
 -- The atoms of a slot: of a free one none; of a held one the head, then the entries.
 pub marked-free : (r : table.Rule) (f : List Bool) → r .state ≡ 0 → Marked (atoms (slotOf r)) f f

@@ -1,10 +1,14 @@
 -- What crosses, by the case of the answer. Assumes nothing.
 use Prim.Native.Nat.{ℕ}
-use mathlib.Core.Path.{_≡_, sym, _∙_, ap, ap₂}
-use Rattle.table.specs.declared.Atom.{Atom}
+use mathlib.Core.Path.{_≡_, refl, sym, _∙_, ap, ap₂}
+use mathlib.Core.List.{List, [], _∷_}
+use denote.Enum.Declared.{tagOf}
+use types.Run.{OneOf, miss}
 use Rattle.table.specs.declared.Slot.{Slot}
 use Rattle.table.specs.declared.Table.{Table}
 use Rattle.calls.specs.declared.Refusal.{Refusal}
+use Rattle.calls.specs.declared.Refusal.the-variants.{Head, Entries, Entry, Repeated, Same, Full, NegativeCycle}
+use Rattle.calls.specs.declared.Refusal.the-variants.{SlotNumber, Free, AtomNumber, Buffer, NotIn, Unsound}
 use Rattle.calls.specs.declared.AddAnswer.{AddAnswer}
 use Rattle.calls.specs.declared.AddAnswer.the-variants as added
 use Rattle.calls.specs.declared.RemoveAnswer.{RemoveAnswer}
@@ -16,6 +20,7 @@ use Rattle.calls.specs.declared.SpoilerAnswer.the-variants as spoilt
 use Rattle.calls.specs.declared.ListAnswer.{ListAnswer}
 use Rattle.calls.specs.declared.ListAnswer.the-variants as listed
 use Rattle.calls.specs.Answers.{numberOf}
+use Rattle.calls.proofs.Refusal.{the-type}
 use Rattle.ffi.specs.declared.Change.{Change}
 use Rattle.ffi.specs.declared.AtomLabel.{AtomLabel}
 use Rattle.ffi.specs.declared.RuleSpoiler.{RuleSpoiler}
@@ -71,3 +76,23 @@ pub list-refused :
     → _≡_ {A = Written} (record { refused = n; count = m }) (crossedList x)
 list-refused x f n m e d b =
     ap₂ (λ (j k : ℕ). record { refused = j; count = k }) d b ∙ list-told x (listed.Refused f) e
+
+-- Every refusal but 11, whose place in the enum is 10, needs no entries.
+
+abbrev pub others : List ℕ
+others = 0 ∷ 1 ∷ 2 ∷ 3 ∷ 4 ∷ 5 ∷ 6 ∷ 7 ∷ 8 ∷ 9 ∷ 11 ∷ 12 ∷ []
+
+pub none-needed : (f : Refusal) → OneOf others (tagOf the-type f) → 0 ≡ neededBy f
+none-needed Head h = refl
+none-needed Entries h = refl
+none-needed Entry h = refl
+none-needed Repeated h = refl
+none-needed Same h = refl
+none-needed Full h = refl
+none-needed NegativeCycle h = refl
+none-needed SlotNumber h = refl
+none-needed Free h = refl
+none-needed AtomNumber h = refl
+none-needed (Buffer n) h = absurd (miss others 10 tt h)
+none-needed NotIn h = refl
+none-needed Unsound h = refl

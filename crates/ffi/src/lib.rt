@@ -60,21 +60,7 @@ pub struct Written {
 fn needed(f: Refusal) -> usize
     ensures { λ r. ⌜ r ≡ neededBy f ⌝ }
 {
-    match f {
-        Refusal::Head => 0,
-        Refusal::Entries => 0,
-        Refusal::Entry => 0,
-        Refusal::Repeated => 0,
-        Refusal::Same => 0,
-        Refusal::Full => 0,
-        Refusal::NegativeCycle => 0,
-        Refusal::SlotNumber => 0,
-        Refusal::Free => 0,
-        Refusal::AtomNumber => 0,
-        Refusal::Buffer(n) => n,
-        Refusal::NotIn => 0,
-        Refusal::Unsound => 0,
-    }
+    if let Refusal::Buffer(n) = f { n } else { 0 }
 }
 
 fn crossed_list(answer: ListAnswer) -> Written

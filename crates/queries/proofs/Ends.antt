@@ -2,8 +2,8 @@
 -- Assumes nothing.
 use Prim.Native.Nat.{ℕ, _≤_, _<_}
 use native.Mathlib.Omega.{arith}
-use mathlib.Core.Path.{_≡_, sym, _∙_, ap, fun-ext}
-use mathlib.Core.Bool.{Bool, true, false, not, true≢false}
+use mathlib.Core.Path.{_≡_, sym, _∙_, ap, subst, fun-ext}
+use mathlib.Core.Bool.{Bool, true, false, true≢false}
 use mathlib.Core.List.{List, [], _∷_}
 use mathlib.Core.Option.{none, some}
 use lib.Dec.{ltb}
@@ -16,9 +16,10 @@ use Rattle.theory.specs.Labels.{absent, out, in-at, Labelled, is-in, Supporting
 use Rattle.theory.specs.Labels as theory-labels
 use Rattle.theory.specs.Questions.{Question, first-no, asks, atom-questions, slot-questions, is-in-label, is-some}
 use Rattle.theory.specs.Tables.{document}
-use Rattle.theory.proofs.Lists.{ltb-lt, lt-ltb, not-true, not-false, unless}
+use Rattle.theory.proofs.Lists.{ltb-lt, lt-ltb, unless}
 use Rattle.theory.proofs.Questions.{first-no-yes, first-no-here}
 use Rattle.theory.proofs.Certificate.{Certified, certified-admissible, certified-labels, kept-in}
+use Rattle.table.specs.declared.Atom.{Atom}
 use Rattle.table.specs.declared.Label.{Label}
 use Rattle.table.specs.declared.Table.{Table}
 use Rattle.table.specs.Sets.{member, number}
@@ -34,26 +35,17 @@ use Rattle.calls.specs.declared.SpoilerAnswer.{SpoilerAnswer}
 use Rattle.calls.specs.Answers.{tellLabel, tellSpoiler}
 use Rattle.calls.specs.Contracts.{held, LabelEnds, SpoilerEnds, ListEnds}
 use Rattle.calls.specs.Contracts as contract
+use Rattle.calls.proofs.Asking.{Passes, passes-low}
 use Rattle.queries.specs.declared.kept.Kept.{Kept}
 use Rattle.queries.specs.Kept.{KeptOf}
 use Rattle.queries.specs.Places.{Flags, places, Written, short, fits}
 use Rattle.queries.proofs.Places.{places-list}
 
--- Questions 10, and 8 and 9.
+-- Questions 8 and 9.
 
 asked-last : (q : Question) → q .yes? ≡ true → first-no (q ∷ []) ≡ none
 unfolding first-no
 asked-last q t = first-no-yes q [] t
-
-module _ (a : ℕ) (b : Bool) (told : b ≡ ltb a (document .atoms)) where
-  pub atom-yes : not b ≡ false → first-no (atom-questions document a) ≡ none
-  atom-yes t = asked-last (asks 10 (ltb a (document .atoms))) (sym told ∙ not-false b t)
-
-  pub atom-no : not b ≡ true → first-no (atom-questions document a) ≡ some 10
-  atom-no t = first-no-here (asks 10 (ltb a (document .atoms))) [] (sym told ∙ not-true b t)
-
-  pub atom-low : not b ≡ false → a < document .atoms
-  atom-low t = ltb-lt a (document .atoms) (sym told ∙ not-false b t)
 
 module _ (t : Table) (s : ℕ) where
   abbrev rule-asked : Question
@@ -82,6 +74,10 @@ module _ (t : Table) (s : ℕ) where
       → first-no (slot-questions document (held t) s) ≡ none
   slot-yes l n = low-next l ∙ asked-last rule-asked (ap is-some (slot-holds n))
 
+-- Every atom of a sound table's rules is below the number of atoms.
+pub sound-bounded : (t : Table) → Sound t → Bounded (held t) (document .atoms)
+sound-bounded t S = bounded-of document (held t) (S .labels .passes)
+
 -- What a sound table keeps is what is defined. The in atoms kept are the model.
 module _ (t : Table) (slots : length (t .rules) ≡ document .slots) (atoms : length (t .labels) ≡ document .atoms)
     (S : Sound t) where
@@ -91,19 +87,11 @@ module _ (t : Table) (slots : length (t .rules) ≡ document .slots) (atoms : le
   certified : Certified (held t) label
   certified = kept-certified (held t) label (sound-kept t slots atoms S) (sound-occurrence t slots atoms S)
 
-  pub sound-model : Admissible (held t) (kept-in label)
+  sound-model : Admissible (held t) (kept-in label)
   sound-model = certified-admissible (held t) label certified
 
-  pub sound-label : (a : ℕ) → Labelled (held t) (kept-in label) a (label a)
+  sound-label : (a : ℕ) → Labelled (held t) (kept-in label) a (label a)
   sound-label = certified-labels (held t) label certified
-
-  pub sound-bounded : Bounded (held t) (document .atoms)
-  sound-bounded = bounded-of document (held t) (S .labels .passes)
-
-  pub label-ends :
-      (a : ℕ) (r : LabelAnswer) → first-no (atom-questions document a) ≡ none → r ≡ tellLabel (label a)
-      → LabelEnds t a r
-  label-ends a r e q = rw q (contract.accepted (kept-in label) (label a) S e sound-model (sound-label a))
 
   sound-supports : (h : ℕ) → kept-in label h ≡ true → Supporting (held t) (kept-in label) h (slot-in (label h))
   sound-supports h e = go (label h) e (sound-label h)
@@ -140,7 +128,7 @@ module _ (t : Table) (slots : length (t .rules) ≡ document .slots) (atoms : le
         rw (flags-kept, slots-kept h) (sound-supports h q)
 
 -- A set given by flags, listed.
-pub flags-list : (flags : List Bool) (P : ℕ → Type 0) → Flags flags P → Lists (places 0 flags) P
+flags-list : (flags : List Bool) (P : ℕ → Type 0) → Flags flags P → Lists (places 0 flags) P
 flags-list flags P F =
     let L = places-list flags in
     record {
@@ -148,10 +136,28 @@ flags-list flags P F =
       exactly = λ x. (λ m. F x .0 (L .exactly x .0 m), λ p. L .exactly x .1 (F x .1 p));
     }
 
--- What was written is how a call that writes a list ends, where all questions before 11 are answered yes.
-pub list-ends :
-    (questions : List Question) (Is : AtomSet → List ℕ → Type 0) (t : Table) (M : AtomSet) (xs before : List ℕ)
-    (r : ListAnswer) (after : List ℕ) → Sound t → first-no questions ≡ none → Admissible (held t) M → Is M xs
-    → Written xs before r after → ListEnds questions Is t before r after
-list-ends questions Is t M xs before r after S e A X (short l) = contract.short M xs S e A X l
-list-ends questions Is t M xs before r after S e A X (fits l) = contract.accepted M xs S e A X l
+-- How a call on an atom ends that tells its kept label.
+pub label-ends :
+    (t : Table) (a : ℕ) (x : Atom) (r : LabelAnswer) → Passes t a x → r ≡ tellLabel (labelAt (t .labels) (x .0))
+    → LabelEnds t a r
+label-ends t a x r Q e =
+    let labels = Q .sound .labels in
+    rw (e, Q .atom)
+    (contract.accepted (labels .model) (labelAt (t .labels) a) (Q .sound) (Q .yes) (labels .admissible)
+    (labels .labels a (passes-low t a x Q)))
+
+-- How a call on an atom ends that lists a set: what was found and written is the set, in the model M.
+pub set-ends :
+    (t : Table) (a : ℕ) (x : Atom) (Is : AtomSet → ℕ → ℕ → Type 0) (M : AtomSet) (flags : List Bool) (before : List ℕ)
+    (r : ListAnswer) (after : List ℕ) → Passes t a x → Admissible (held t) M → Flags flags (Is M (x .0))
+    → Written (places 0 flags) before r after
+    → ListEnds (atom-questions document a) (λ N xs. Lists xs (Is N a)) t before r after
+set-ends t a x Is M flags before r after Q A F W = go r after W
+  where
+    is-listed : Lists (places 0 flags) (Is M a)
+    is-listed = subst (λ (k : ℕ). Lists (places 0 flags) (Is M k)) (Q .atom) (flags-list flags (Is M (x .0)) F)
+
+    go : (r : ListAnswer) (after : List ℕ) → Written (places 0 flags) before r after
+        → ListEnds (atom-questions document a) (λ N xs. Lists xs (Is N a)) t before r after
+    go r after (short l) = contract.short M (places 0 flags) (Q .sound) (Q .yes) A is-listed l
+    go r after (fits l) = contract.accepted M (places 0 flags) (Q .sound) (Q .yes) A is-listed l

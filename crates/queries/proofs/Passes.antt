@@ -1,14 +1,14 @@
 -- Justifications and consequences, found by passes over the slots. Assumes nothing.
-use Prim.Native.Nat.{ℕ, _+_, _≤_, _<_, min}
+use Prim.Native.Nat.{ℕ, _+_, _≤_, _<_}
 use native.Mathlib.Omega.{arith}
 use mathlib.Core.Path.{_≡_, refl, sym, _∙_, ap}
-use mathlib.Core.Logic.{_⊎_, inl, inr, ⊎-elim, _↔_}
+use mathlib.Core.Logic.{⊎-elim, _↔_}
 use mathlib.Core.Bool.{Bool, true, false, _||_, true≢false}
-use mathlib.Core.List.{List, map, map-append, List·Memᴰ·head}
+use mathlib.Core.List.{List, map, List·Memᴰ·head}
 use mathlib.Core.Option.{Option, none, some}
 use lib.Dec.{eqb}
-use lib.ListN.{length, getD, take, drop, set, replicate, length-replicate, length-set, List·getD-map}
-use lib.Seq.{slice, take-add, take-all}
+use lib.ListN.{length, getD, set, replicate, length-replicate, length-set, List·getD-map}
+use lib.Seq.{slice}
 use Rattle.theory.specs.Lists.{_∈_, any}
 use Rattle.theory.specs.Rules.{Rule, Program, Held, entries, passes, Bounded}
 use Rattle.theory.specs.Explanations.{Justification, Consequence}
@@ -58,22 +58,6 @@ justified rules a flags e s = (
     at s = ap (λ (xs : List Bool). getD xs s false) e
         ∙ List·getD-map (λ r. passes f (slotOf r)) rules s pastRule
         ∙ ap (passes f) (sym (program-at rules s))
-
--- Up to where the negative list ends, the entries are all those of the rule.
-pub entries-are :
-    (r : table.Rule) (b : ℕ) → length (r .entries) ≡ b → (n : ℕ) → n ≡ min (r .positives + r .negatives) b
-    → numbers (take n (r .entries)) ≡ entries (ruleOf r)
-entries-are r b long n e =
-    ap numbers (whole ∙ take-add (r .positives) (r .negatives) (r .entries))
-    ∙ map-append (λ (a : Atom). a .0) (take (r .positives) (r .entries))
-    (take (r .negatives) (drop (r .positives) (r .entries)))
-  where
-    whole : take n (r .entries) ≡ take (r .positives + r .negatives) (r .entries)
-    whole = elim (le-or-lt (r .positives + r .negatives) b) [
-      | inl l ↦ (let q : n ≡ r .positives + r .negatives = omega arith in ap (λ (k : ℕ). take k (r .entries)) q)
-      | inr l ↦ take-all n (r .entries) (omega arith)
-          ∙ sym (take-all (r .positives + r .negatives) (r .entries) (omega arith))
-    ]
 
 -- Does an atom stand among the entries from j to below n?
 module _ (a : ℕ) (xs : List Atom) (j n : ℕ) where

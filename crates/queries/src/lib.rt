@@ -1,13 +1,13 @@
 // The calls that ask a table and change nothing. Each asks question 15 first, so that the kept labels are the defined
 // ones, then those of its argument; the first answered no is the refusal.
+use calls::Asked;
 use calls::LabelAnswer;
 use calls::ListAnswer;
 use calls::Refusal;
 use calls::SpoilerAnswer;
+use calls::ask;
 use sound::sound;
-use table::Atom;
 use table::Table;
-use table::questions::head_fits;
 ghost use Rattle.calls.specs.Contracts.{LabelEnds, SpoilerEnds};
 ghost use Rattle.calls.specs.Contracts.{JustificationsEnd, ConsequencesEnd, RepercussionsEnd};
 
@@ -21,16 +21,16 @@ mod affected; // affected.rt: the steps from an atom to those that it affects
 pub fn label(table: Table, atom: u32) -> LabelAnswer
     ensures { λ r. ⌜ LabelEnds table atom r ⌝ }
 {
-    if !sound(table) {
-        return LabelAnswer::Refused(Refusal::Unsound);
+    let asked = ask(table, atom);
+    match asked {
+        Asked::Refused(why) => LabelAnswer::Refused(why),
+        Asked::Passed(a) => {
+            let labels = table.labels;
+            let i = a.0 as usize;
+            let kept = labels[i];
+            answers::tell_label(kept)
+        }
     }
-    if !head_fits(atom) {
-        return LabelAnswer::Refused(Refusal::AtomNumber);
-    }
-    let a = atom as usize;
-    let labels = table.labels;
-    let kept = labels[a];
-    answers::tell_label(kept)
 }
 
 // The spoiler of the rule in a slot, or that the rule is valid. Asks 15, 8, 9.
@@ -60,32 +60,30 @@ pub fn spoiler(table: Table, slot: u32) -> SpoilerAnswer
 pub fn justifications(table: Table, atom: u32, buffer: &mut [u32]) -> ListAnswer
     ensures { λ r. ⌜ JustificationsEnd table atom (now (buffer .entry)) r (now (buffer .exit)) ⌝ }
 {
-    if !sound(table) {
-        return ListAnswer::Refused(Refusal::Unsound);
+    let asked = ask(table, atom);
+    match asked {
+        Asked::Refused(why) => ListAnswer::Refused(why),
+        Asked::Passed(a) => {
+            let rules = table.rules;
+            let flags = found::justifying(rules, a);
+            written::write_marked(&flags, buffer)
+        }
     }
-    if !head_fits(atom) {
-        return ListAnswer::Refused(Refusal::AtomNumber);
-    }
-    let a = Atom(atom as u16);
-    let rules = table.rules;
-    let flags = found::justifying(rules, a);
-    written::write_marked(&flags, buffer)
 }
 
 // Consequences of an atom: the heads of the rules with this entry, written and counted likewise. Asks 15, 10, 11.
 pub fn consequences(table: Table, atom: u32, buffer: &mut [u32]) -> ListAnswer
     ensures { λ r. ⌜ ConsequencesEnd table atom (now (buffer .entry)) r (now (buffer .exit)) ⌝ }
 {
-    if !sound(table) {
-        return ListAnswer::Refused(Refusal::Unsound);
+    let asked = ask(table, atom);
+    match asked {
+        Asked::Refused(why) => ListAnswer::Refused(why),
+        Asked::Passed(a) => {
+            let rules = table.rules;
+            let flags = found::following(rules, a);
+            written::write_marked(&flags, buffer)
+        }
     }
-    if !head_fits(atom) {
-        return ListAnswer::Refused(Refusal::AtomNumber);
-    }
-    let a = Atom(atom as u16);
-    let rules = table.rules;
-    let flags = found::following(rules, a);
-    written::write_marked(&flags, buffer)
 }
 
 // Repercussions of an atom: all atoms that it affects in one or more steps, written and counted likewise. Asks 15, 10,
@@ -93,18 +91,17 @@ pub fn consequences(table: Table, atom: u32, buffer: &mut [u32]) -> ListAnswer
 pub fn repercussions(table: Table, atom: u32, buffer: &mut [u32]) -> ListAnswer
     ensures { λ r. ⌜ RepercussionsEnd table atom (now (buffer .entry)) r (now (buffer .exit)) ⌝ }
 {
-    if !sound(table) {
-        return ListAnswer::Refused(Refusal::Unsound);
+    let asked = ask(table, atom);
+    match asked {
+        Asked::Refused(why) => ListAnswer::Refused(why),
+        Asked::Passed(a) => {
+            let rules = table.rules;
+            let labels = table.labels;
+            let k = kept::keep(labels);
+            let flags = k.flags;
+            let slots = k.slots;
+            let reached = affected::reached(rules, &flags, &slots, a);
+            written::write_marked(&reached, buffer)
+        }
     }
-    if !head_fits(atom) {
-        return ListAnswer::Refused(Refusal::AtomNumber);
-    }
-    let a = Atom(atom as u16);
-    let rules = table.rules;
-    let labels = table.labels;
-    let k = kept::keep(labels);
-    let flags = k.flags;
-    let slots = k.slots;
-    let reached = affected::reached(rules, &flags, &slots, a);
-    written::write_marked(&reached, buffer)
 }

@@ -17,12 +17,13 @@ use Rattle.theory.specs.Labels.{Supporting, Labelled, is-absent, is-out, is-in}
 use Rattle.theory.specs.Explanations.{Gathered, asked, onward, Before, SlotsOf, Reason}
 use Rattle.theory.specs.Questions.{Question, first-no, reason-questions, is-in-label}
 use Rattle.theory.specs.Tables.{document}
-use Rattle.theory.proofs.Lists.{clash, le-or-lt, unless, ltb-lt, lt-ltb}
+use Rattle.theory.proofs.Lists.{clash, le-or-lt, lt-ltb}
 use Rattle.theory.proofs.Rules.{held-unique, valid-positive}
 use Rattle.theory.proofs.Derivations.{last}
 use Rattle.theory.proofs.Depths.{depth-unique}
 use Rattle.theory.proofs.Labels.{supporting-unique, in-occurs}
 use Rattle.theory.proofs.Questions.{held-below, first-no-yes, first-no-here}
+use Rattle.table.specs.declared.Atom.{Atom}
 use Rattle.table.specs.declared.Label.{Label}
 use Rattle.table.specs.declared.Table.{Table}
 use Rattle.table.specs.Sets.{member, number}
@@ -31,9 +32,11 @@ use Rattle.table.specs.Labels.{label-in, labelAt, absentLabel}
 use Rattle.table.specs.Sound.{Sound}
 use Rattle.table.proofs.Members.{all-alike}
 use Rattle.table.proofs.Programs.{held-rule, label-kept}
+use Rattle.calls.specs.declared.ListAnswer.{ListAnswer}
 use Rattle.calls.specs.declared.ListAnswer.the-variants as listed
 use Rattle.calls.specs.declared.Refusal.the-variants.{Buffer}
 use Rattle.calls.specs.Contracts.{ReasonEnds, short, accepted}
+use Rattle.calls.proofs.Asking.{Passes, passes-low}
 use Rattle.sound.proofs.Soundness.{bounded-of}
 use Rattle.reasons.specs.Kept.{KeptIn, depthAt, slotAt, positivesAt, NumbersOf, EntriesOf, Slotted, KeptEntry}
 use Rattle.reasons.specs.Gathering.{Reached, Falling, Gathers}
@@ -61,15 +64,12 @@ module _ (labels : List Label) (a : ℕ) where
   abbrev pub questions : List Question
   questions = reason-questions document a (labelAt labels a)
 
-  pub refused-10 : document .atoms ≤ a → first-no questions ≡ some 10
-  refused-10 l = first-no-here _ _ (unless _ (λ t. omega (arith, ltb-lt a (document .atoms) t)))
-
   module _ (l : a < document .atoms) where
     asked-10 : first-no questions ≡ first-no (drop 1 questions)
     asked-10 = first-no-yes _ _ (lt-ltb a (document .atoms) l)
 
-    pub refused-12 : getD labels a absentLabel .state < 2 → first-no questions ≡ some 12
-    refused-12 h = asked-10 ∙ first-no-here _ _ (not-in (getD labels a absentLabel .state) _ _ h)
+    no-12 : getD labels a absentLabel .state < 2 → first-no questions ≡ some 12
+    no-12 h = asked-10 ∙ first-no-here _ _ (not-in (getD labels a absentLabel .state) _ _ h)
       where
         not-in : (n d s : ℕ) → n < 2 → is-in-label (label-in n d s) ≡ false
         not-in zero d s k = refl
@@ -81,6 +81,18 @@ module _ (labels : List Label) (a : ℕ) where
     all-yes h =
         asked-10
         ∙ first-no-yes _ [] (ap is-in-label (label-kept (getD labels a absentLabel) (omega arith)))
+
+-- The atom that passed 15 and 10: its refusal 12, and its reason.
+module _ (t : Table) (a : ℕ) (x : Atom) (Q : Passes t a x) where
+  pub refused-12 : getD (t .labels) (x .0) absentLabel .state < 2 → first-no (questions (t .labels) a) ≡ some 12
+  refused-12 h =
+      no-12 (t .labels) a (passes-low t a x Q)
+      (subst (λ (k : ℕ). getD (t .labels) k absentLabel .state < 2) (Q .atom) h)
+
+  pub ends-asked :
+      (before : List ℕ) (r : ListAnswer) (after : List ℕ) → ReasonEnds t (x .0) before r after
+      → ReasonEnds t a before r after
+  ends-asked before r after E = subst (λ (k : ℕ). ReasonEnds t k before r after) (Q .atom) E
 
 -- What a label's state says of an atom with that label.
 module _ (P : Program) (M : AtomSet) (F : Founded P M) (x : ℕ) where

@@ -6,11 +6,11 @@ use native.Mathlib.Numerals.{add-one}
 use mathlib.Core.Path.{_≡_, refl, sym, _∙_, ap, ap₂}
 use mathlib.Core.Logic.{⊎-elim}
 use mathlib.Core.Bool.{Bool, true, false, not, _&&_}
-use mathlib.Core.List.{List, [], _∷_, _++_}
+use mathlib.Core.List.{List, [], _∷_, _++_, map-append}
 use mathlib.Core.Option.{Option, none, some, Option·none-ne-some}
 use lib.ListN.{length, getD, take, drop, set, length-map, length-take, drop-of-length-le}
 use lib.ListN.{List·getD-map, List·getD-eq-default}
-use lib.Seq.{slice, slice-cons, take-suc, take-suc-set, take-all, take-nil}
+use lib.Seq.{slice, slice-cons, take-add, take-suc, take-suc-set, take-all, take-nil}
 use Rattle.theory.specs.Lists.{every, first}
 use Rattle.theory.specs.Rules as theory
 use Rattle.theory.specs.Models.{AtomSet, valid}
@@ -93,6 +93,18 @@ take-drop : {A : Type 0} (p q : ℕ) (xs : List A) → take q (drop p xs) ≡ dr
 take-drop zero q xs = (let e : zero + q ≡ q = omega arith in rw e)
 take-drop (suc p) q [] = (let e : suc p + q ≡ suc (p + q) = omega arith in rw e (take-nil q))
 take-drop (suc p) q (x ∷ xs) = (let e : suc p + q ≡ suc (p + q) = omega arith in rw e (take-drop p q xs))
+
+-- Up to where the negative list ends, a rule's b entries are the positive list and then the negative list.
+pub entries-are :
+    (r : Rule) (b : ℕ) → length (r .entries) ≡ b → (n : ℕ) → n ≡ min (r .positives + r .negatives) b
+    → numbers (take n (r .entries)) ≡ theory.entries (ruleOf r)
+entries-are r b long n e =
+    let q : n ≡ min (r .positives + r .negatives) (length (r .entries)) = omega arith in
+    ap numbers
+    (ap (λ k. take k (r .entries)) q ∙ take-min (r .positives + r .negatives) (r .entries)
+    ∙ take-add (r .positives) (r .negatives) (r .entries))
+    ∙ map-append (λ (a : Atom). a .0) (take (r .positives) (r .entries))
+    (take (r .negatives) (drop (r .positives) (r .entries)))
 
 -- A rule's lists are parts of its b entries: the positive list ends at n, the negative list at m.
 module _ (r : Rule) (b : ℕ) (long : length (r .entries) ≡ b) (n : ℕ) (here : n ≡ min (r .positives) b) where

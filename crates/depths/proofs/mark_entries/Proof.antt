@@ -6,8 +6,9 @@ use Prim.Native.Nat.{_-_, _≤_}
 use mathlib.Core.Path.{_≡_, _∙_}
 use lib.ListN.{length, take, length-map}
 use Rattle.table.specs.Rules.{numbers}
+use Rattle.table.proofs.Entries.{entries-are}
 use Rattle.depths.specs.Passes.{Marked}
-use Rattle.depths.proofs.Marks.{marked-none, front-next, front-all}
+use Rattle.depths.proofs.Marks.{marked-none, front-next}
 use Rattle.depths.proofs.mark_entries.Statement.{statement}
 use Rattle.depths.proofs.mark_entries.Tie as tie
 
@@ -56,7 +57,7 @@ returns : tie.Need-returns Inv-loop μ-loop
 returns c =
     let s = c .before .before .before in
     let e : c .before .loop .j ≡ c .before .before .negative-end .result = omega arith in
-    let all = front-all (s .args .t1) (document .entries) (long s) _
+    let all = entries-are (s .args .t1) (document .entries) (long s) _
     (e ∙ c .before .before .negative-end .ensures) in
     rw all at (c .before .loop .inv .1)
 

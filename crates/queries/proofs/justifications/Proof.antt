@@ -1,43 +1,20 @@
 -- `queries::justifications` meets its contract. Assumes nothing.
-use mathlib.Core.Path.{_≡_}
-use lib.ListN.{length, length-map}
-use Rattle.theory.specs.Tables.{document}
-use Rattle.sound.proofs.Passes.{refused, granted}
-use Rattle.calls.specs.Contracts as contract
-use Rattle.calls.specs.declared.Refusal.the-variants.{AtomNumber}
-use Rattle.queries.proofs.Ends.{atom-yes, atom-no, atom-low, sound-model, flags-list, list-ends}
+use Rattle.theory.specs.Explanations.{Justification}
+use Rattle.calls.specs.Contracts.{held}
+use Rattle.calls.proofs.Asking.{ask-passed, list-refused}
+use Rattle.queries.proofs.Ends.{set-ends}
 use borrow.Author.Needs.{needs}
 use Rattle.queries.proofs.justifications.Statement.{statement}
 use Rattle.queries.proofs.justifications.Tie as tie
 
--- what owning the table tells of its arrays
-rules-long : (s : tie.Start) → length (s .args .table .rules) ≡ document .slots
-rules-long s = simp length-map at (s .good .0 .1 .1 .0 .1 .0 .1)
+ask-requires : tie.Need-ask-requires
+ask-requires c κs = search needs
 
-labels-long : (s : tie.Start) → length (s .args .table .labels) ≡ document .atoms
-labels-long s = simp length-map at (s .good .0 .1 .1 .1 .0 .1 .0 .1)
+enum-known-asked : tie.Need-enum-known-asked
+enum-known-asked c = search needs
 
-sound-requires : tie.Need-sound-requires
-sound-requires c κs = search needs
-
-returns : tie.Need-returns
-returns c = contract.unsound (refused _ (c .before .sound .ensures) (c .if1 .taken))
-
-head-fits-requires : tie.Need-head-fits-requires
-head-fits-requires c κs = search needs
-
-returns-2 : tie.Need-returns-2
-returns-2 c =
-    let fit = c .before in
-    let yes = fit .before in
-    contract.refused AtomNumber (granted _ (yes .before .sound .ensures) (yes .if1 .left))
-    (atom-no (yes .before .before .before .args .atom) _ (fit .head-fits .ensures) (c .if2 .taken))
-
-cast-t11 : tie.Need-cast-t11
-cast-t11 c =
-    let fit = c .before in
-    let low = atom-low (fit .before .before .before .before .args .atom) _ (fit .head-fits .ensures) (c .if2 .left) in
-    search needs
+enum-known-asked-2 : tie.Need-enum-known-asked-2
+enum-known-asked-2 c = search needs
 
 justifying-requires : tie.Need-justifying-requires
 justifying-requires c κs = search needs
@@ -48,34 +25,38 @@ slice-aggregate-write-marked c = search needs
 write-marked-requires : tie.Need-write-marked-requires
 write-marked-requires c κs = search needs
 
+returns : tie.Need-returns
+returns c =
+    let asked = c .before in
+    let ask = asked .before .before in
+    let s = ask .before .before in
+    list-refused (s .args .table) (s .args .atom) _ (ask .ask .ensures) _ (asked .asked .given .1) _ _ _ (λ k e. e)
+
 same-length : tie.Need-same-length
 same-length c = search needs
 
-returns-3 : tie.Need-returns-3
-returns-3 c =
+returns-2 : tie.Need-returns-2
+returns-2 c =
     let write = c .before .before in
     let find = write .before .before .before in
-    let low = find .before .before in
-    let fit = low .before in
-    let yes = fit .before in
-    let s = yes .before .before .before in
-    let is-sound = granted _ (yes .before .sound .ensures) (yes .if1 .left) in
-    list-ends _ _ (s .args .table) _ _ _ _ _ is-sound
-    (atom-yes (s .args .atom) _ (fit .head-fits .ensures) (low .if2 .left))
-    (sound-model (s .args .table) (rules-long s) (labels-long s) is-sound)
-    (flags-list (find .justifying .result) _ (find .justifying .ensures)) (write .write-marked .ensures)
+    let asked = find .before .before .before in
+    let ask = asked .before .before in
+    let s = ask .before .before in
+    let t = s .args .table in
+    let passes = ask-passed t (s .args .atom) _ (ask .ask .ensures) _ (asked .asked2 .given .1) in
+    set-ends t (s .args .atom) _ (λ M. Justification (held t)) _ (find .justifying .result) _ _ _ passes
+    (passes .sound .labels .admissible) (find .justifying .ensures) (write .write-marked .ensures)
 
 pub justifications-spec : {M : Type 1} → statement M
 justifications-spec =
     tie.close
     (tie.spec
-    sound-requires
-    returns
-    head-fits-requires
-    returns-2
-    cast-t11
+    ask-requires
+    enum-known-asked
+    enum-known-asked-2
     justifying-requires
     slice-aggregate-write-marked
     write-marked-requires
+    returns
     same-length
-    returns-3)
+    returns-2)

@@ -1,64 +1,84 @@
 -- `reasons::reason` meets its contract: each refusal is that of the first question answered no. Assumes nothing.
-use Rattle.theory.proofs.Lists.{clash, not-true, not-false}
-use Rattle.table.specs.Sound.{Sound}
-use Rattle.calls.specs.declared.Refusal.the-variants.{AtomNumber, NotIn}
-use Rattle.calls.specs.Contracts.{unsound, refused}
-use Rattle.reasons.proofs.Reasons.{refused-10, refused-12}
+use Rattle.calls.specs.declared.Refusal.the-variants.{NotIn}
+use Rattle.calls.specs.Contracts.{refused}
+use Rattle.calls.proofs.Asking.{asked-first, passes-low, ask-passed, list-refused}
+use Rattle.reasons.proofs.Reasons.{refused-12, ends-asked}
 use borrow.Author.Needs.{needs}
 use Rattle.reasons.proofs.reason.Statement.{statement}
 use Rattle.reasons.proofs.reason.Tie as tie
 
--- Past the first test the table is sound.
-is-sound : (c : tie.Else1) → Sound (c .before .before .before .args .table)
-is-sound c = c .before .sound .ensures .0 (not-false _ (c .if1 .left))
+ask-requires : tie.Need-ask-requires
+ask-requires c κs = search needs
 
-sound-requires : tie.Need-sound-requires
-sound-requires c κs = search needs
+enum-known-asked : tie.Need-enum-known-asked
+enum-known-asked c = search needs
 
-returns : tie.Need-returns
-returns c = unsound (λ w. clash (c .before .sound .ensures .1 w) (not-true _ (c .if1 .taken)))
+enum-known-asked-2 : tie.Need-enum-known-asked-2
+enum-known-asked-2 c = search needs
 
-returns-2 : tie.Need-returns-2
-returns-2 c =
-    let s = c .before .before .before .before in
-    refused AtomNumber (is-sound (c .before)) (refused-10 (s .args .table .labels) (s .args .atom) (c .if2 .taken))
+cast-i : tie.Need-cast-i
+cast-i c = search needs
 
 mul-kept : tie.Need-mul-kept
 mul-kept c = search needs
 
 array-copy-out-kept : tie.Need-array-copy-out-kept
-array-copy-out-kept c = search needs
+array-copy-out-kept c =
+    let asked = c .before .before .before in
+    let ask = asked .before .before in
+    let s = ask .before .before in
+    let passes = ask-passed (s .args .table) (s .args .atom) _ (ask .ask .ensures) _ (asked .asked2 .given .1) in
+    let low = passes-low _ _ _ passes in
+    let atom = passes .atom in
+    search needs
 
-returns-3 : tie.Need-returns-3
-returns-3 c =
-    let s = c .before .before .before .before .before .before .before .before in
-    let below = c .before .before .before .before in
-    refused NotIn (is-sound (below .before))
-    (refused-12 (s .args .table .labels) _ (below .if2 .left) (c .if3 .taken))
-
-cast-a : tie.Need-cast-a
-cast-a c = search needs
+returns : tie.Need-returns
+returns c =
+    let asked = c .before .before .before .before .before .before in
+    let ask = asked .before .before in
+    let s = ask .before .before in
+    let passes = ask-passed (s .args .table) (s .args .atom) _ (ask .ask .ensures) _ (asked .asked2 .given .1) in
+    refused NotIn (passes .sound)
+    (refused-12 (s .args .table) (s .args .atom) _ passes (c .if1 .taken))
 
 listed-requires : tie.Need-listed-requires
-listed-requires c κs = (is-sound (c .before .before .before .before .before .before), c .before .if3 .left)
+listed-requires c κs =
+    let asked = c .before .before .before .before .before .before .before in
+    let ask = asked .before .before in
+    (ask-passed _ _ _ (ask .ask .ensures) _ (asked .asked2 .given .1) .sound, c .before .if1 .left)
+
+returns-2 : tie.Need-returns-2
+returns-2 c =
+    let asked = c .before in
+    let ask = asked .before .before in
+    let s = ask .before .before in
+    list-refused (s .args .table) (s .args .atom) _ (ask .ask .ensures) _ (asked .asked .given .1) _ _ _
+    (asked-first _ _)
 
 same-length : tie.Need-same-length
 same-length c = search needs
 
-returns-4 : tie.Need-returns-4
-returns-4 c = search needs
+returns-3 : tie.Need-returns-3
+returns-3 c =
+    let listed = c .before .before in
+    let asked = listed .before .before .before .before .before .before .before .before in
+    let ask = asked .before .before in
+    let s = ask .before .before in
+    let passes = ask-passed (s .args .table) (s .args .atom) _ (ask .ask .ensures) _ (asked .asked2 .given .1) in
+    ends-asked (s .args .table) (s .args .atom) _ passes _ _ _ (listed .listed .ensures)
 
 pub reason-spec : {M : Type 1} → statement M
 reason-spec =
     tie.close
     (tie.spec
-    sound-requires
-    returns
-    returns-2
+    ask-requires
+    enum-known-asked
+    enum-known-asked-2
+    cast-i
     mul-kept
     array-copy-out-kept
-    returns-3
-    cast-a
+    returns
     listed-requires
+    returns-2
     same-length
-    returns-4)
+    returns-3)

@@ -6,7 +6,7 @@ use mathlib.Core.Path.{_≡_, _∙_}
 use lib.ListN.{length, length-map}
 use Rattle.theory.specs.Tables.{document}
 use Rattle.table.specs.Rules.{ruleOf}
-use Rattle.queries.proofs.Passes.{entries-are}
+use Rattle.table.proofs.Entries.{entries-are}
 use Rattle.queries.proofs.Edges.{Entering, entering-start, entering-next, entering-over}
 use borrow.Author.Needs.{needs}
 use Rattle.queries.proofs.affected.add_entries.Statement.{statement}

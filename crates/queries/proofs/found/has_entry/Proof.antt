@@ -10,7 +10,8 @@ use Rattle.theory.specs.Lists.{any}
 use Rattle.theory.specs.Tables.{document}
 use Rattle.theory.proofs.Lists.{eqb-of, eqb-not}
 use Rattle.table.specs.Rules.{numbers}
-use Rattle.queries.proofs.Passes.{test-free, test-held, entries-are, any-over, any-next, any-stop}
+use Rattle.table.proofs.Entries.{entries-are}
+use Rattle.queries.proofs.Passes.{test-free, test-held, any-over, any-next, any-stop}
 use borrow.Author.Needs.{needs}
 use Rattle.queries.proofs.found.has_entry.Statement.{statement}
 use Rattle.queries.proofs.found.has_entry.Tie as tie

@@ -1,0 +1,22 @@
+-- Questions 15 and 10, with which each call on an atom starts. Assumes nothing.
+use Prim.Native.Nat.{ℕ}
+use mathlib.Core.Path.{_≡_}
+use mathlib.Core.Option.{none, some}
+use Rattle.theory.specs.Questions.{first-no, atom-questions}
+use Rattle.theory.specs.Tables.{document}
+use Rattle.table.specs.declared.Table.{Table}
+use Rattle.table.specs.Sound.{Sound}
+use Rattle.calls.specs.declared.Refusal.{Refusal}
+use Rattle.calls.specs.declared.Refusal.the-variants.{Unsound}
+use Rattle.calls.specs.declared.Asked.{Asked}
+use Rattle.calls.specs.declared.Asked.the-variants as asked
+use Rattle.calls.specs.Answers.{numberOf}
+
+-- The table is not sound (15), the first question of the atom is answered no, or that atom passes.
+pub data AskEnds (t : Table) (a : ℕ) : Asked → Type 0 where
+  unsound : (Sound t → ⊥) → AskEnds t a (asked.Refused Unsound)
+  refused :
+      (f : Refusal) → Sound t → first-no (atom-questions document a) ≡ some (numberOf f)
+      → AskEnds t a (asked.Refused f)
+  passed :
+      Sound t → first-no (atom-questions document a) ≡ none → AskEnds t a (asked.Passed (record { 0 = a }))
