@@ -1,0 +1,6 @@
+-- The laws that the functions' proofs cite, and what follows for a whole sheet.
+pub mod Kept
+pub mod Reading
+pub mod Feeding
+pub mod Whole
+pub mod Books

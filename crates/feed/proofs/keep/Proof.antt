@@ -1,0 +1,83 @@
+-- `feed::keep` meets its contract. The loop keeps: behind the bytes of the line stand those that were passed, and there
+-- is room for them. Assumes nothing.
+use Prim.Native.Nat.{_+_, _-_, _≤_}
+use native.Mathlib.Omega.{arith}
+use mathlib.Core.Path.{_≡_, refl, sym}
+use mathlib.Core.Logic.{inl, inr}
+use mathlib.Core.List.{_++_, append-nil}
+use lib.ListN.{length, take, length-set}
+use borrow.Author.Needs.{needs}
+use borrow.Author.Tests.{ltb-true, ltb-false}
+use Rattle.feed.specs.Sheets.{KEPT}
+use Rattle.feed.proofs.Kept.{keeps, kept-next, sheet-sized}
+use Rattle.feed.proofs.keep.Statement.{statement}
+use Rattle.feed.proofs.keep.Tie as tie
+
+abbrev Inv-loop : tie.InvT-loop
+Inv-loop bytes line₀ place table end₀ i₀ line end i =
+    (i ≤ length bytes) × (end ≡ end₀ + i) × (end ≤ KEPT) × (length line ≡ KEPT)
+    × (take end line ≡ take end₀ line₀ ++ take i bytes)
+
+abbrev μ-loop : tie.MeasureT-loop
+μ-loop bytes line₀ place table end₀ i₀ line end i = length bytes - i
+
+loop-holds : tie.Need-loop-holds Inv-loop μ-loop
+loop-holds c =
+    let s = c .before .before .before in
+    (omega arith, omega arith, s .pre, sheet-sized (s .args .sheet) _ (s .good .0), sym (append-nil _))
+
+shared-slice-read-line : tie.Need-shared-slice-read-line Inv-loop μ-loop
+shared-slice-read-line c = search needs
+
+array-write-line : tie.Need-array-write-line Inv-loop μ-loop
+array-write-line c = search needs
+
+add-end : tie.Need-add-end Inv-loop μ-loop
+add-end c = search needs
+
+add-i : tie.Need-add-i Inv-loop μ-loop
+add-i c = search needs
+
+loop-less : tie.Need-loop-less Inv-loop μ-loop
+loop-less c = search needs
+
+loop-again : tie.Need-loop-again Inv-loop μ-loop
+loop-again c =
+    let at = c .before .before .before in
+    let l = at .loop in
+    let a = at .before .before .before .before .args in
+    let kept = take (a .sheet .place .offset) (a .sheet .line) in
+    let room = ltb-true (l .end) KEPT (c .before .if1 .taken) in (
+      omega arith,
+      omega arith,
+      omega arith,
+      simp length-set (l .inv .3),
+      kept-next kept (l .line) (l .end) (a .bytes .now) (l .i) (omega arith) (omega arith) (l .inv .4),
+    )
+
+returns : tie.Need-returns Inv-loop μ-loop
+returns c =
+    let l = c .before .before .loop in
+    let full = ltb-false (l .end) KEPT (c .if1 .left) in
+    keeps _ (l .i) refl refl (l .inv .1) (l .inv .4) (l .inv .0) (l .inv .2) (inr (omega arith))
+
+returns-2 : tie.Need-returns-2 Inv-loop μ-loop
+returns-2 c =
+    let l = c .before .loop in
+    keeps _ (l .i) refl refl (l .inv .1) (l .inv .4) (l .inv .0) (l .inv .2) (inl (omega (arith, c .loop-test .left)))
+
+pub keep-spec : {M : Type 1} → statement M
+keep-spec =
+    tie.close
+    (tie.spec
+    Inv-loop
+    μ-loop
+    loop-holds
+    shared-slice-read-line
+    array-write-line
+    add-end
+    add-i
+    loop-less
+    loop-again
+    returns
+    returns-2)

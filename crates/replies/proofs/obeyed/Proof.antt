@@ -1,0 +1,65 @@
+-- `replies::obeyed` meets its contract. Assumes nothing.
+use mathlib.Core.Path.{_∙_, ap}
+use Rattle.lines.specs.declared.Command.{Command}
+use Rattle.lines.specs.declared.Parsed.{Parsed}
+use Rattle.lines.specs.Readings.{Line, is, commandOf}
+use Rattle.replies.specs.Written.{positives, negatives}
+use borrow.Author.Needs.{needs}
+use Rattle.replies.proofs.obeyed.Statement.{statement}
+use Rattle.replies.proofs.obeyed.Tie as tie
+
+enum-known-command : tie.Need-enum-known-command
+enum-known-command c = search needs
+
+abbrev told : Parsed → Command → Line
+told p x = is (commandOf x (positives p) (negatives p))
+
+added-requires : tie.Need-added-requires
+added-requires c κs = search needs
+
+enum-known-command-2 : tie.Need-enum-known-command-2
+enum-known-command-2 c = search needs
+
+removed-requires : tie.Need-removed-requires
+removed-requires c κs = search needs
+
+enum-known-command-3 : tie.Need-enum-known-command-3
+enum-known-command-3 c = search needs
+
+explained-requires : tie.Need-explained-requires
+explained-requires c κs = search needs
+
+enum-told : tie.Need-enum-told
+enum-told c = search needs
+
+listed-requires : tie.Need-listed-requires
+listed-requires c κs = search needs
+
+returns : tie.Need-returns
+returns c = λ line e. c .added .ensures line (e ∙ ap (told (c .before .before .before .before .args .parsed)) (c .before .before .command .given .1))
+
+returns-2 : tie.Need-returns-2
+returns-2 c = λ line e. c .removed .ensures line (e ∙ ap (told (c .before .before .before .before .args .parsed)) (c .before .before .command2 .given .1))
+
+returns-3 : tie.Need-returns-3
+returns-3 c = λ line e. c .explained .ensures line (e ∙ ap (told (c .before .before .before .before .args .parsed)) (c .before .before .command3 .given .1))
+
+returns-4 : tie.Need-returns-4
+returns-4 c = λ line e. c .listed .ensures line (e ∙ ap (told (c .before .before .before .args .parsed)) (c .before .enum-told .given .1))
+
+pub obeyed-spec : {M : Type 1} → statement M
+obeyed-spec =
+    tie.close
+    (tie.spec
+    enum-known-command
+    added-requires
+    enum-known-command-2
+    removed-requires
+    enum-known-command-3
+    explained-requires
+    enum-told
+    listed-requires
+    returns
+    returns-2
+    returns-3
+    returns-4)

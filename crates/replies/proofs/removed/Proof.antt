@@ -1,0 +1,55 @@
+-- `replies::removed` meets its contract. Assumes nothing.
+use mathlib.Core.Path.{sym, _∙_, ap}
+use Rattle.replies.specs.Printed.{bytes, refusalLine}
+use Rattle.replies.specs.Replies as prints
+use Rattle.replies.specs.Replies.{tellRemove}
+use Rattle.replies.proofs.Saying.{replied}
+use borrow.Author.Needs.{needs}
+use Rattle.replies.proofs.removed.Statement.{statement}
+use Rattle.replies.proofs.removed.Tie as tie
+
+remove-requires : tie.Need-remove-requires
+remove-requires c κs = search needs
+
+enum-told : tie.Need-enum-told
+enum-told c = search needs
+
+slice-aggregate-named : tie.Need-slice-aggregate-named
+slice-aggregate-named c = search needs
+
+named-requires : tie.Need-named-requires
+named-requires c κs = search needs
+
+enum-known-answer : tie.Need-enum-known-answer
+enum-known-answer c = search needs
+
+refusal-number-requires : tie.Need-refusal-number-requires
+refusal-number-requires c κs = search needs
+
+refused-requires : tie.Need-refused-requires
+refused-requires c κs = search needs
+
+returns : tie.Need-returns
+unfolding bytes
+returns c =
+    λ line e. replied (prints.remove _ _ _ e (c .before .before .before .before .before .remove .ensures))
+    (ap (tellRemove _ _) (sym (c .before .before .enum-told .given .1))) (c .named .ensures)
+
+returns-2 : tie.Need-returns-2
+returns-2 c =
+    λ line e. replied (prints.remove _ _ _ e (c .before .before .before .before .before .before .remove .ensures))
+    (ap (refusalLine _) (c .before .refusal-number .ensures) ∙ ap (tellRemove _ _) (sym (c .before .before .before .answer .given .1))) (c .refused .ensures)
+
+pub removed-spec : {M : Type 1} → statement M
+removed-spec =
+    tie.close
+    (tie.spec
+    remove-requires
+    enum-told
+    slice-aggregate-named
+    named-requires
+    enum-known-answer
+    refusal-number-requires
+    refused-requires
+    returns
+    returns-2)

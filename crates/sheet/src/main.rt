@@ -1,0 +1,4 @@
+// The sheet program.
+fn main() {
+    stream::answer_input();
+}
