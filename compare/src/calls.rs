@@ -1,0 +1,165 @@
+//! Random sequences of all calls, with random buffers and damaged tables.
+
+use oracle::calls::{Answer, Call, Spoiler};
+use oracle::generate;
+use oracle::labels::Label;
+use oracle::questions::Refusal;
+use oracle::random::Random;
+use oracle::table::{RawLabel, RawRule, RawTable};
+use yeqontur::raw;
+
+/// An answer in numbers, comparable on both sides: the refusal with its needed length, or the values.
+#[derive(PartialEq, Eq, Debug)]
+enum Told {
+    Refused { number: u32, needed: usize },
+    Values(Vec<u32>),
+}
+
+fn to_raw(table: &RawTable) -> raw::Table {
+    let rule = |r: &RawRule| raw::Rule {
+        state: r.state,
+        head: r.head,
+        positives: r.positives,
+        negatives: r.negatives,
+        entries: r.entries,
+    };
+    let label = |l: &RawLabel| raw::Label {
+        state: l.state,
+        depth: l.depth,
+        slot: l.slot,
+    };
+    raw::Table {
+        rules: std::array::from_fn(|slot| rule(&table.rules[slot])),
+        labels: std::array::from_fn(|atom| label(&table.labels[atom])),
+    }
+}
+
+/// What the slow engine told.
+fn slow(told: Result<Answer, Refusal>) -> Told {
+    let values = match told {
+        Err(Refusal::BufferTooShort { needed }) => {
+            return Told::Refused {
+                number: 11,
+                needed: needed as usize,
+            }
+        }
+        Err(refusal) => {
+            return Told::Refused {
+                number: refusal.number(),
+                needed: 0,
+            }
+        }
+        Ok(Answer::Slot(slot)) => vec![slot],
+        Ok(Answer::Accepted) => vec![],
+        Ok(Answer::Label(Label::Absent)) => vec![0, 0, 0],
+        Ok(Answer::Label(Label::Out)) => vec![1, 0, 0],
+        Ok(Answer::Label(Label::In { depth, slot })) => vec![2, depth, slot],
+        Ok(Answer::Spoiler(Spoiler::Valid)) => vec![0, 0],
+        Ok(Answer::Spoiler(Spoiler::Atom(atom))) => vec![1, atom],
+        Ok(Answer::Count(count)) => vec![count],
+    };
+    Told::Values(values)
+}
+
+fn told(refused: u32, needed: usize, values: Vec<u32>) -> Told {
+    match refused {
+        0 => Told::Values(values),
+        number => Told::Refused { number, needed },
+    }
+}
+
+/// The same call on the proved library.
+fn proved(call: &Call, table: &mut raw::Table, buffer: &mut [u32]) -> Told {
+    let mut list = |which, atom| {
+        let answer = raw::list(which, table, atom, buffer);
+        told(answer.refused, answer.count, vec![answer.count as u32])
+    };
+    match call {
+        Call::Justifications { atom } => return list(raw::List::Justifications, *atom),
+        Call::Consequences { atom } => return list(raw::List::Consequences, *atom),
+        Call::Repercussions { atom } => return list(raw::List::Repercussions, *atom),
+        Call::Reason { atom } => return list(raw::List::Reason, *atom),
+        _ => {}
+    }
+    match call {
+        Call::Add {
+            head,
+            positives,
+            negatives,
+        } => {
+            let change = raw::add(table, *head, positives, negatives);
+            *table = change.table;
+            told(change.refused, 0, vec![change.slot])
+        }
+        Call::Remove { slot } => {
+            let change = raw::remove(table, *slot);
+            *table = change.table;
+            told(change.refused, 0, vec![])
+        }
+        Call::Label { atom } => {
+            let label = raw::label(table, *atom);
+            told(label.refused, 0, vec![label.state, label.depth, label.slot])
+        }
+        Call::Spoiler { slot } => {
+            let spoiler = raw::spoiler(table, *slot);
+            told(spoiler.refused, 0, vec![spoiler.spoiled, spoiler.atom])
+        }
+        _ => unreachable!("lists are answered above"),
+    }
+}
+
+/// A buffer of any length, filled with numbers that no call writes.
+fn buffer(random: &mut Random) -> Vec<u32> {
+    let length = *random.pick(&[0, 1, 2, 3, 5, 8, 20, 100, 255, 256, 257, 300]);
+    (0..length).map(|i| 1_000_000 + i as u32).collect()
+}
+
+/// One call on both sides: what differs, if anything does.
+fn differs(call: &Call, table: &mut RawTable, random: &mut Random) -> Option<String> {
+    let mut mine = to_raw(table);
+    let mut lent = buffer(random);
+    let mut also = lent.clone();
+    let expected = slow(call.make(table, &mut lent));
+    let answered = proved(call, &mut mine, &mut also);
+    if answered != expected {
+        return Some(format!("{call:?}: {answered:?}, expected {expected:?}"));
+    }
+    if also != lent {
+        return Some(format!("{call:?}: another buffer"));
+    }
+    (mine != to_raw(table)).then(|| format!("{call:?}: another table"))
+}
+
+/// A table to start a sequence from: empty for the most part, else of any kind, sound or not.
+fn start(random: &mut Random) -> RawTable {
+    match random.below(4) {
+        0 => generate::mixed_table(random),
+        1 => generate::sound_table(random),
+        _ => RawTable::empty(),
+    }
+}
+
+/// Makes `count` calls on both sides; table, answer and every buffer entry are compared after each. Answers how many
+/// differ.
+pub fn compare(seed: u64, count: usize) -> usize {
+    let mut random = Random::seeded(seed);
+    let (mut made, mut failed) = (0, 0);
+    while made < count {
+        let mut table = start(&mut random);
+        let atoms = *random.pick(&[4, 8, 20, 60, 256]);
+        for _ in 0..random.between(1, 120).min(count - made) {
+            let call = generate::calls::call(&mut random, atoms, 2 * atoms);
+            made += 1;
+            if let Some(difference) = differs(&call, &mut table, &mut random) {
+                println!("call {made} of seed {seed}: {difference}");
+                failed += 1;
+                break;
+            }
+        }
+    }
+    println!(
+        "calls compared with the slow engine: {} passed, {failed} failed",
+        made - failed
+    );
+    failed
+}
