@@ -1,7 +1,11 @@
 /*
- * Yeqontur: the rule table behind status labels. Every call takes any numbers, lists, buffer lengths and bytes of a
- * table, and answers a result or one numbered refusal. A refused call hands the table back as it came and writes no
- * buffer entry. Nothing is allocated or kept. Link target/staticlib/libffi.a (made by `rt staticlib ffi`; x86-64).
+ * Yeqontur: the rule table behind status labels. docs/GUIDE.md is the guide, bindings/c/guide.c a whole program.
+ *
+ * Every call takes any numbers, lists, buffer lengths and bytes of a table, and answers a result or one numbered
+ * refusal. A refused call hands the table back as it came and writes no buffer entry. Nothing is allocated or kept, so
+ * any thread may call; a call needs about 100 KB of stack. A list or buffer of length 0 may be NULL.
+ *
+ * Link target/staticlib/libffi.a (made by `rt staticlib ffi`; x86-64).
  */
 #ifndef YEQONTUR_H
 #define YEQONTUR_H
@@ -17,7 +21,8 @@ extern "C" {
 #define YEQONTUR_ATOMS 256
 #define YEQONTUR_ENTRIES 8
 
-/* A slot: free (state 0) or with one rule (state 1). The entries are the positive list, then the negative list. */
+/* A slot: free (state 0) or with one rule (state 1): the head is in if every positive entry is in and no negative one
+ * is. The entries are the positive list, then the negative list. To be read; rules are changed by the calls. */
 typedef struct {
     uint8_t state;
     uint16_t head;
@@ -82,17 +87,21 @@ typedef struct {
 /* The table in which every slot is free. */
 yeqontur_table yeqontur_empty(void);
 
-/* Adds a rule to the lowest free slot. Asks 15, 1, 2, 3, 4, 5, 6, 7. */
+/* "Asks" lists the refusals that a call can meet, in the order in which it asks; the first that applies is told. */
+
+/* Adds a rule to the lowest free slot and answers that slot; with both lists empty it is a fact. Every other slot keeps
+ * its rule, and all labels are right for the rules now held. Asks 15, 1, 2, 3, 4, 5, 6, 7. */
 yeqontur_change yeqontur_add(yeqontur_table table, uint32_t head, const uint32_t *positives, size_t positive_count,
                              const uint32_t *negatives, size_t negative_count);
 
-/* Frees a slot. Asks 15, 8, 9. */
+/* Frees a slot. Every other slot keeps its rule, and all labels are right for the rules now held. Asks 15, 8, 9. */
 yeqontur_change yeqontur_remove(yeqontur_table table, uint32_t slot);
 
-/* The label of an atom. Asks 15, 10. */
+/* The label of an atom: absent, out, or in with its least depth and supporting slot. Asks 15, 10. */
 yeqontur_label_answer yeqontur_label(yeqontur_table table, uint32_t atom);
 
-/* Whether the rule in a slot is valid, or what spoils it. Asks 15, 8, 9. */
+/* Whether the rule in a slot is valid, or its first entry that spoils it, positive list first: a positive entry spoils
+ * if it is out ("needs"), a negative one if it is in ("blocked by"). Asks 15, 8, 9. */
 yeqontur_spoiler_answer yeqontur_spoiler(yeqontur_table table, uint32_t slot);
 
 /* The slots of the rules with this head; the heads of the rules with this entry; all atoms whose label rests on this

@@ -1,32 +1,7 @@
 //! The proved engine's phases, as the static library exports them. The only unsafe code here.
 
-use oracle::limits::{ATOMS, ENTRIES, SLOTS};
 use oracle::table::{RawLabel, RawRule, RawTable};
-
-#[repr(C)]
-#[derive(Clone, Copy, PartialEq, Eq, Debug)]
-pub struct Rule {
-    pub state: u8,
-    pub head: u16,
-    pub positives: u8,
-    pub negatives: u8,
-    pub entries: [u16; ENTRIES],
-}
-
-#[repr(C)]
-#[derive(Clone, Copy, PartialEq, Eq, Debug)]
-pub struct Label {
-    pub state: u8,
-    pub depth: u16,
-    pub slot: u16,
-}
-
-#[repr(C)]
-#[derive(Clone, Copy, PartialEq, Eq, Debug)]
-pub struct Table {
-    pub rules: [Rule; SLOTS],
-    pub labels: [Label; ATOMS],
-}
+use yeqontur::raw::{Label, Rule, Table};
 
 /// The table with the labels that its rules give, or as it came: 0 where it was labelled, else the
 /// number of the question that its rules answer no (15 or 7).
@@ -53,23 +28,22 @@ pub fn labels(table: &Table) -> Labelled {
     unsafe { probe_labels(*table) }
 }
 
-impl From<&RawTable> for Table {
-    fn from(raw: &RawTable) -> Table {
-        let rule = |r: &RawRule| Rule {
-            state: r.state,
-            head: r.head,
-            positives: r.positives,
-            negatives: r.negatives,
-            entries: r.entries,
-        };
-        let label = |l: &RawLabel| Label {
-            state: l.state,
-            depth: l.depth,
-            slot: l.slot,
-        };
-        Table {
-            rules: std::array::from_fn(|slot| rule(&raw.rules[slot])),
-            labels: std::array::from_fn(|atom| label(&raw.labels[atom])),
-        }
+/// The slow engine's table as the library has it.
+pub fn from_slow(slow: &RawTable) -> Table {
+    let rule = |r: &RawRule| Rule {
+        state: r.state,
+        head: r.head,
+        positives: r.positives,
+        negatives: r.negatives,
+        entries: r.entries,
+    };
+    let label = |l: &RawLabel| Label {
+        state: l.state,
+        depth: l.depth,
+        slot: l.slot,
+    };
+    Table {
+        rules: std::array::from_fn(|slot| rule(&slow.rules[slot])),
+        labels: std::array::from_fn(|atom| label(&slow.labels[atom])),
     }
 }

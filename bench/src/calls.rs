@@ -1,106 +1,142 @@
-//! One addition and one removal on each shape, question 15 included, through the library that clients link; and
-//! clingo run on the same rules, where it is installed: a process for each run, so its start is part of its time.
+//! One addition, one removal and one label on each shape, question 15 included, through the Rust crate that clients
+//! use, beside plain Rust; and clingo on the same rules.
 
-use crate::boundary::{Rule, Table};
-use crate::{microseconds, shapes};
+use crate::clock::Pair;
+use crate::{clingo, plain, shapes};
 use std::hint::black_box;
-use std::io::Write;
-use std::process::{Command, Stdio};
-use std::time::Instant;
-use yeqontur::raw;
+use yeqontur::{raw, Rule, Table};
 
-fn to_raw(table: &Table) -> raw::Table {
-    let rule = |r: &Rule| raw::Rule {
-        state: r.state,
-        head: r.head,
-        positives: r.positives,
-        negatives: r.negatives,
-        entries: r.entries,
-    };
-    raw::Table {
-        rules: std::array::from_fn(|slot| rule(&table.rules[slot])),
-        labels: std::array::from_fn(|atom| raw::Label {
-            state: table.labels[atom].state,
-            depth: table.labels[atom].depth,
-            slot: table.labels[atom].slot,
-        }),
-    }
+/// A shape without its last rule, that rule, and the whole.
+struct Case {
+    less: Table,
+    rule: Rule,
+    full: Table,
 }
 
-/// The rules as clingo reads them.
-fn answer_set_program(table: &Table) -> String {
-    let mut text = String::new();
-    for rule in table.rules.iter().filter(|rule| rule.state != 0) {
-        let (positives, negatives) = (rule.positives as usize, rule.negatives as usize);
-        let entries: Vec<String> = (0..positives + negatives)
-            .map(|i| {
-                let sign = if i < positives { "" } else { "not " };
-                format!("{sign}a{}", rule.entries[i])
-            })
-            .collect();
-        let body = if entries.is_empty() {
-            String::new()
-        } else {
-            format!(" :- {}", entries.join(", "))
+impl Case {
+    fn of(fields: &raw::Table) -> Case {
+        let full = Table::try_from(*fields).expect("a sound shape");
+        let rule = full.rules().last().expect("a rule");
+        let mut less = full.clone();
+        less.remove(rule.slot).expect("a held rule");
+        Case { less, rule, full }
+    }
+
+    fn add(&self) -> Pair {
+        let (head, p, n) = (self.rule.head, &self.rule.positives, &self.rule.negatives);
+        let proved = || {
+            let mut table = self.less.clone();
+            table.add(head, p, n).expect("a rule that is accepted");
+            table
         };
-        text.push_str(&format!("a{}{body}.\n", rule.head));
+        let plain = || {
+            let mut table = *self.less.as_raw();
+            plain::add(&mut table, head, p, n).expect("the same");
+            table
+        };
+        assert!(proved() == self.full && plain() == *self.full.as_raw());
+        Pair::timed(proved, plain)
     }
-    text
+
+    fn remove(&self) -> Pair {
+        let proved = || {
+            let mut table = self.full.clone();
+            table.remove(self.rule.slot).expect("a held rule");
+            table
+        };
+        let plain = || {
+            let mut table = *self.full.as_raw();
+            plain::remove(&mut table, self.rule.slot).expect("the same");
+            table
+        };
+        assert!(proved() == self.less && plain() == *self.less.as_raw());
+        Pair::timed(proved, plain)
+    }
+
+    fn label(&self) -> Pair {
+        let head = self.rule.head;
+        Pair::timed(
+            || self.full.label(black_box(head)),
+            || plain::label(self.full.as_raw(), black_box(head)),
+        )
+    }
 }
 
-/// The least time of a clingo run in microseconds; none where it is not installed.
-fn clingo(table: &Table) -> Option<f64> {
-    let program = answer_set_program(table);
-    let mut best = f64::MAX;
-    for _ in 0..5 {
-        let start = Instant::now();
-        let mut child = Command::new("clingo")
-            .args(["--verbose=0", "-"])
-            .stdin(Stdio::piped())
-            .stdout(Stdio::null())
-            .spawn()
-            .ok()?;
-        child.stdin.take()?.write_all(program.as_bytes()).ok()?;
-        child.wait().ok()?;
-        best = best.min(start.elapsed().as_secs_f64() * 1e6);
-    }
-    Some(best)
-}
-
-/// The best of many batches.
-fn best(mut work: impl FnMut()) -> f64 {
-    (0..40)
-        .map(|_| microseconds(10, &mut work))
-        .fold(f64::MAX, f64::min)
+/// clingo's time, how many additions fit in it, and how many in what it takes beyond its start.
+fn other(table: &Table, start: Option<f64>, addition: f64) -> String {
+    let times = start.zip(clingo::time(table));
+    times.map_or(format!("{:>10}", "none"), |(start, time)| {
+        let (whole, less) = (time / addition, (time - start) / addition);
+        format!("{time:10.0}{whole:7.0}{less:7.0}")
+    })
 }
 
 pub fn bench() {
+    println!("Calls through the Rust crate: microseconds, and the ratio to plain Rust. clingo (none: not installed):");
+    println!("microseconds of a run, its ratio to an addition, and the same less its run without a rule.");
     println!(
-        "{:32}{:>10}{:>10}{:>12}",
-        "microseconds", "add", "remove", "clingo"
+        "{:32}{:>9}{:>7}{:>9}{:>7}{:>9}{:>7}{:>10}{:>7}{:>7}",
+        "table", "add", "ratio", "remove", "ratio", "label", "ratio", "clingo", "ratio", "less"
     );
-    for (name, table) in shapes::all() {
-        let full = to_raw(&table);
-        let last = full
-            .rules
-            .iter()
-            .rposition(|r| r.state != 0)
-            .expect("a rule") as u32;
-        let less = raw::remove(&full, last);
-        assert_eq!(less.refused, 0);
-        let rule = full.rules[last as usize];
-        let entries: Vec<u32> = rule.entries.iter().map(|&x| x.into()).collect();
-        let (positives, rest) = entries.split_at(rule.positives as usize);
-        let negatives = &rest[..rule.negatives as usize];
-        let add = || raw::add(&less.table, rule.head.into(), positives, negatives);
-        assert!(add().table == full);
-        let added = best(|| {
-            black_box(add());
-        });
-        let removed = best(|| {
-            black_box(raw::remove(black_box(&full), last));
-        });
-        let other = clingo(&table).map_or("not found".to_string(), |t| format!("{t:.0}"));
-        println!("{name:32}{added:10.2}{removed:10.2}{other:>12}");
+    let start = clingo::time(&Table::new());
+    for (name, fields) in shapes::all() {
+        let case = Case::of(&fields);
+        let (add, remove, label) = (case.add(), case.remove(), case.label());
+        let other = other(&case.full, start, add.proved);
+        println!(
+            "{name:32}{}{}{}{other}",
+            add.shown(),
+            remove.shown(),
+            label.shown()
+        );
+    }
+}
+
+#[cfg(test)]
+mod tests {
+    use crate::plain;
+    use oracle::calls::Call;
+    use oracle::generate;
+    use oracle::random::Random;
+    use yeqontur::{Label, Table};
+
+    /// The same call on both sides: the same answer, and the same table after it.
+    fn same(call: &Call, table: &mut Table) {
+        let mut other = *table.as_raw();
+        match call {
+            Call::Add {
+                head,
+                positives,
+                negatives,
+            } => {
+                let told = plain::add(&mut other, *head, positives, negatives);
+                let expected = table.add(*head, positives, negatives);
+                assert_eq!(told, expected.map_err(|r| r.number()), "{call:?}");
+            }
+            Call::Remove { slot } => {
+                let told = plain::remove(&mut other, *slot);
+                let expected = table.remove(*slot);
+                assert_eq!(told, expected.map_err(|r| r.number()), "{call:?}");
+            }
+            Call::Label { atom } => {
+                let told = plain::label(&other, *atom).map(|label| Label::from(&label));
+                let expected = table.label(*atom);
+                assert_eq!(told, expected.map_err(|r| r.number()), "{call:?}");
+            }
+            _ => {}
+        }
+        assert!(other == *table.as_raw(), "{call:?}: another table");
+    }
+
+    #[test]
+    fn plain_rust_does_the_same_work() {
+        let mut random = Random::seeded(1);
+        for round in 0..60 {
+            let mut table = Table::new();
+            let atoms = [4, 8, 20, 60, 256][round % 5];
+            for _ in 0..200 {
+                same(&generate::calls::call(&mut random, atoms, 80), &mut table);
+            }
+        }
     }
 }

@@ -1,11 +1,12 @@
 //! The tables that are timed.
 
-use crate::boundary::Table;
+use crate::boundary::from_slow;
 use oracle::generate::table_of;
 use oracle::limits::SLOTS;
 use oracle::loops::has_loop_through_negation;
 use oracle::random::Random;
 use oracle::rules::{Program, Rule};
+use yeqontur::raw::Table;
 
 fn rule(head: u32, positives: &[u32], negatives: &[u32]) -> Rule {
     Rule {
@@ -81,6 +82,6 @@ pub fn all() -> Vec<(&'static str, Table)> {
     ];
     shapes
         .into_iter()
-        .map(|(name, p)| (name, Table::from(&table_of(p))))
+        .map(|(name, p)| (name, from_slow(&table_of(p))))
         .collect()
 }

@@ -2,6 +2,9 @@
 //!
 //! Every function takes any numbers, lists, buffer lengths and bytes of a table, keeps nothing and writes at most the
 //! lent buffer, so that each call below is safe whatever it is given. A slice crosses as a pointer and a length.
+//!
+//! A table crosses by value, a copy of some kilobytes. The safe functions are not inlined, so that this copy is never
+//! part of a caller's frame: one that calls itself, as the telling of a tree does, would run out of stack.
 
 pub const SLOTS: usize = 256;
 pub const ATOMS: usize = 256;
@@ -35,7 +38,7 @@ pub struct Table {
     pub labels: [Label; ATOMS],
 }
 
-/// `refused` is 0 or the refusal's number; `slot` the slot that an addition took.
+/// `refused` is 0 or the refusal's number; `slot` the slot that an addition took or a removal freed.
 #[repr(C)]
 pub struct Change {
     pub refused: u32,
@@ -103,11 +106,13 @@ extern "C" {
     fn yeqontur_reason(table: Table, atom: u32, buffer: *mut u32, length: usize) -> ListAnswer;
 }
 
+#[inline(never)]
 pub fn empty() -> Table {
     // SAFETY: takes nothing.
     unsafe { yeqontur_empty() }
 }
 
+#[inline(never)]
 pub fn add(table: &Table, head: u32, positives: &[u32], negatives: &[u32]) -> Change {
     // SAFETY: each pointer has as many numbers behind it as the length beside it says.
     unsafe {
@@ -122,16 +127,19 @@ pub fn add(table: &Table, head: u32, positives: &[u32], negatives: &[u32]) -> Ch
     }
 }
 
+#[inline(never)]
 pub fn remove(table: &Table, slot: u32) -> Change {
     // SAFETY: numbers by value.
     unsafe { yeqontur_remove(*table, slot) }
 }
 
+#[inline(never)]
 pub fn label(table: &Table, atom: u32) -> LabelAnswer {
     // SAFETY: numbers by value.
     unsafe { yeqontur_label(*table, atom) }
 }
 
+#[inline(never)]
 pub fn spoiler(table: &Table, slot: u32) -> SpoilerAnswer {
     // SAFETY: numbers by value.
     unsafe { yeqontur_spoiler(*table, slot) }
@@ -146,6 +154,7 @@ pub enum List {
     Reason,
 }
 
+#[inline(never)]
 pub fn list(which: List, table: &Table, atom: u32, buffer: &mut [u32]) -> ListAnswer {
     let call = match which {
         List::Justifications => yeqontur_justifications,

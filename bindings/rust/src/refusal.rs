@@ -2,6 +2,7 @@
 
 use std::fmt;
 
+/// Why a call was refused. 13 and 14 belong to sheets and never come from a call.
 #[derive(Clone, Copy, PartialEq, Eq, Debug)]
 pub enum Refusal {
     HeadTooLarge,
@@ -14,77 +15,138 @@ pub enum Refusal {
     SlotTooLarge,
     SlotFree,
     AtomTooLarge,
-    BufferTooShort { needed: usize },
+    /// With how many entries the buffer needs.
+    BufferTooShort {
+        needed: usize,
+    },
     AtomNotIn,
     TableUnsound,
 }
 
 impl Refusal {
+    /// Every refusal by number; of 11 the one that needs no entry stands for all.
+    pub const ALL: [Refusal; 13] = [
+        Refusal::HeadTooLarge,
+        Refusal::TooManyEntries,
+        Refusal::EntryTooLarge,
+        Refusal::RepeatedEntry,
+        Refusal::SameRule,
+        Refusal::TableFull,
+        Refusal::NegativeCycle,
+        Refusal::SlotTooLarge,
+        Refusal::SlotFree,
+        Refusal::AtomTooLarge,
+        Refusal::BufferTooShort { needed: 0 },
+        Refusal::AtomNotIn,
+        Refusal::TableUnsound,
+    ];
+
     /// The refusal of a number, which 0 is not. `needed` goes with 11.
     pub(crate) fn from_number(number: u32, needed: usize) -> Option<Refusal> {
-        Some(match number {
-            0 => return None,
-            1 => Refusal::HeadTooLarge,
-            2 => Refusal::TooManyEntries,
-            3 => Refusal::EntryTooLarge,
-            4 => Refusal::RepeatedEntry,
-            5 => Refusal::SameRule,
-            6 => Refusal::TableFull,
-            7 => Refusal::NegativeCycle,
-            8 => Refusal::SlotTooLarge,
-            9 => Refusal::SlotFree,
-            10 => Refusal::AtomTooLarge,
-            11 => Refusal::BufferTooShort { needed },
-            12 => Refusal::AtomNotIn,
-            15 => Refusal::TableUnsound,
-            other => unreachable!("the library has no refusal {other}"),
-        })
+        match number {
+            0 => None,
+            11 => Some(Refusal::BufferTooShort { needed }),
+            _ => {
+                let known = Refusal::ALL.into_iter().find(|r| r.number() == number);
+                Some(known.unwrap_or_else(|| panic!("refusal {number}: crate and library differ")))
+            }
+        }
     }
 
     pub fn number(self) -> u32 {
+        self.told().0
+    }
+
+    /// What is the matter, in the words of the header.
+    pub fn words(self) -> &'static str {
+        self.told().1
+    }
+
+    /// What a person can do about it.
+    pub fn advice(self) -> &'static str {
+        self.told().2
+    }
+
+    /// Number, words and advice.
+    fn told(self) -> (u32, &'static str, &'static str) {
         match self {
-            Refusal::HeadTooLarge => 1,
-            Refusal::TooManyEntries => 2,
-            Refusal::EntryTooLarge => 3,
-            Refusal::RepeatedEntry => 4,
-            Refusal::SameRule => 5,
-            Refusal::TableFull => 6,
-            Refusal::NegativeCycle => 7,
-            Refusal::SlotTooLarge => 8,
-            Refusal::SlotFree => 9,
-            Refusal::AtomTooLarge => 10,
-            Refusal::BufferTooShort { .. } => 11,
-            Refusal::AtomNotIn => 12,
-            Refusal::TableUnsound => 15,
+            Refusal::HeadTooLarge => (
+                1,
+                "the head is not below 256",
+                "number your atoms from 0 to 255",
+            ),
+            Refusal::TooManyEntries => (
+                2,
+                "the two lists together have more than 8 entries",
+                "give a helper atom a rule with some of them, and name the helper instead",
+            ),
+            Refusal::EntryTooLarge => (
+                3,
+                "an entry is not below 256",
+                "number your atoms from 0 to 255",
+            ),
+            Refusal::RepeatedEntry => (
+                4,
+                "an atom stands twice in one list",
+                "name each atom once in a list",
+            ),
+            Refusal::SameRule => (
+                5,
+                "the table has the same rule already",
+                "nothing to do: the table says it already",
+            ),
+            Refusal::TableFull => (
+                6,
+                "no slot is free",
+                "remove a rule that is no longer needed, or open a second table",
+            ),
+            Refusal::NegativeCycle => (
+                7,
+                "the rule would close a loop through a negation",
+                "leave this rule out, or first remove another rule of the loop",
+            ),
+            Refusal::SlotTooLarge => (
+                8,
+                "the slot number is not below 256",
+                "pass a slot that an addition answered",
+            ),
+            Refusal::SlotFree => (
+                9,
+                "the slot holds no rule",
+                "look at the rules held now: this one was removed, or never added",
+            ),
+            Refusal::AtomTooLarge => (
+                10,
+                "the atom number is not below 256",
+                "number your atoms from 0 to 255",
+            ),
+            Refusal::BufferTooShort { .. } => (
+                11,
+                "the buffer is too short",
+                "lend a buffer of the count that is answered; 256 entries always do",
+            ),
+            Refusal::AtomNotIn => (
+                12,
+                "the atom is not in",
+                "ask for its label first: only an in atom has a reason",
+            ),
+            Refusal::TableUnsound => (
+                15,
+                "the table handed in is not sound",
+                "start from the empty table and add the rules again: these bytes were changed",
+            ),
         }
     }
 }
 
 impl fmt::Display for Refusal {
     fn fmt(&self, f: &mut fmt::Formatter<'_>) -> fmt::Result {
-        let words = match self {
-            Refusal::HeadTooLarge => "the head's number is too large: atoms are numbered 0 to 255",
-            Refusal::TooManyEntries => {
-                "the rule has more than 8 entries: split it over a helper atom"
-            }
-            Refusal::EntryTooLarge => "an entry's number is too large: atoms are numbered 0 to 255",
-            Refusal::RepeatedEntry => "an atom stands twice in one list: leave one out",
-            Refusal::SameRule => "the table has this rule already",
-            Refusal::TableFull => "all 256 slots hold a rule: remove one first",
-            Refusal::NegativeCycle => "the rule would make an atom depend on its own negation",
-            Refusal::SlotTooLarge => "the slot's number is too large: slots are numbered 0 to 255",
-            Refusal::SlotFree => "the slot holds no rule",
-            Refusal::AtomTooLarge => "the atom's number is too large: atoms are numbered 0 to 255",
-            Refusal::BufferTooShort { needed } => {
-                return write!(
-                    f,
-                    "refused 11: the buffer is too short: {needed} entries are needed"
-                )
-            }
-            Refusal::AtomNotIn => "the atom is not in, so there is no reason for it",
-            Refusal::TableUnsound => "the table was not made by these calls, or was changed since",
-        };
-        write!(f, "refused {}: {words}", self.number())
+        let (number, words, advice) = self.told();
+        write!(f, "refused {number}: {words}")?;
+        if let Refusal::BufferTooShort { needed } = self {
+            write!(f, " ({needed} needed)")?;
+        }
+        write!(f, "; {advice}")
     }
 }
 

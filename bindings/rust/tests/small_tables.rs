@@ -1,17 +1,11 @@
 //! The small tables T1 to T13 of the specification, on the proved library.
 
+mod common;
+
+use common::{fourth_example, table};
 use yeqontur::{Label, Refusal, Table};
 
 const IN: fn(u32, u32) -> Label = |depth, slot| Label::In { depth, slot };
-
-/// A table of rules (head, positives, negatives), in slots 0, 1, ..
-fn table(rules: &[(u32, &[u32], &[u32])]) -> Table {
-    let mut table = Table::new();
-    for (slot, (head, positives, negatives)) in rules.iter().enumerate() {
-        assert_eq!(table.add(*head, positives, negatives), Ok(slot as u32));
-    }
-    table
-}
 
 /// The named atoms have these labels, and every other is absent.
 fn shows(table: &Table, labels: &[(u32, Label)]) {
@@ -73,21 +67,14 @@ fn t9_and_t10_loops() {
     shows(&t, &[(1, Label::Out)]);
     assert_eq!(t.add(1, &[], &[1]), Err(Refusal::NegativeCycle));
     let mut t = table(&[(1, &[2], &[]), (2, &[], &[3])]);
-    let before = t;
+    let before = t.clone();
     assert_eq!(t.add(3, &[], &[1]), Err(Refusal::NegativeCycle));
     assert_eq!(t, before);
 }
 
 #[test]
 fn t11_the_report_s_fourth_example() {
-    let mut t = table(&[
-        (1, &[2], &[]),
-        (2, &[], &[3]),
-        (1, &[4], &[]),
-        (4, &[3], &[]),
-        (3, &[4], &[]),
-        (3, &[], &[5]),
-    ]);
+    let mut t = fourth_example();
     shows(
         &t,
         &[

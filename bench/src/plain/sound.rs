@@ -1,0 +1,91 @@
+//! Question 15: the kept labels as a certificate.
+
+use super::labels::{occurring, strata};
+use super::{has, negatives, number, positives, valid, Flags, Numbers};
+use yeqontur::raw::{Label, Rule, Table, ATOMS, ENTRIES, SLOTS};
+
+pub fn distinct<T: PartialEq>(list: &[T]) -> bool {
+    list.iter()
+        .enumerate()
+        .all(|(i, x)| !list[i + 1..].contains(x))
+}
+
+/// Clean, and questions 1 to 4 where the slot holds a rule.
+fn well_formed(rule: &Rule) -> bool {
+    let end = rule.positives as usize + rule.negatives as usize;
+    if rule.state > 1 || end > ENTRIES || rule.entries[end..].iter().any(|&x| x != 0) {
+        return false;
+    }
+    if rule.state == 0 {
+        return end == 0 && rule.head == 0;
+    }
+    (rule.head as usize) < ATOMS
+        && rule.entries[..end].iter().all(|&x| (x as usize) < ATOMS)
+        && distinct(positives(rule))
+        && distinct(negatives(rule))
+}
+
+pub fn same(a: &Rule, b: &Rule) -> bool {
+    a.head == b.head && positives(a) == positives(b) && negatives(a) == negatives(b)
+}
+
+/// Only rules of one head are compared: they are linked by the slot before.
+fn no_two_same(rules: &[Rule; SLOTS]) -> bool {
+    let mut last = [0; ATOMS];
+    let mut before = [0; SLOTS];
+    for (i, rule) in rules.iter().enumerate().filter(|(_, rule)| rule.state != 0) {
+        let start = last[rule.head as usize];
+        let mut k = start;
+        while k > 0 {
+            if same(rule, &rules[k - 1]) {
+                return false;
+            }
+            k = before[k - 1];
+        }
+        before[i] = start;
+        last[rule.head as usize] = i + 1;
+    }
+    true
+}
+
+/// The kept labels as a certificate, in one pass over the slots.
+fn certified(table: &Table) -> bool {
+    let flags: Flags = std::array::from_fn(|a| table.labels[a].state > 1);
+    let deep: Numbers = std::array::from_fn(|a| if flags[a] { table.labels[a].depth } else { 0 });
+    let slots: Numbers = std::array::from_fn(|a| if flags[a] { table.labels[a].slot } else { 0 });
+    let mut found = [false; ATOMS];
+    for (slot, rule) in table.rules.iter().enumerate() {
+        if rule.state == 0 || !valid(rule, &flags) {
+            continue;
+        }
+        let level = positives(rule)
+            .iter()
+            .map(|&x| number(&deep, x) as usize)
+            .max()
+            .unwrap_or(0)
+            + 1;
+        let depth = number(&deep, rule.head) as usize;
+        let kept = number(&slots, rule.head) as usize;
+        if !has(&flags, rule.head) || depth > level || (depth == level && kept > slot) {
+            return false;
+        }
+        if depth == level && kept == slot {
+            found[rule.head as usize] = true;
+        }
+    }
+    (0..ATOMS).all(|a| !flags[a] || found[a])
+}
+
+/// Question 15.
+pub fn sound(table: &Table) -> bool {
+    let clean = |l: &Label| l.state == 2 || (l.state < 2 && l.depth == 0 && l.slot == 0);
+    table.rules.iter().all(well_formed)
+        && table.labels.iter().all(clean)
+        && no_two_same(&table.rules)
+        && certified(table)
+        && occurring(&table.rules)
+            .iter()
+            .zip(&table.labels)
+            .all(|(&o, l)| o == (l.state != 0))
+        && strata(&table.rules).is_some()
+}

@@ -1,0 +1,143 @@
+/* Rules from a scan, their labels, why a label stands, and a refusal. */
+#include "yeqontur.h"
+
+#include <stdio.h>
+#include <stdlib.h>
+
+/* What a scan of the folder found. */
+typedef struct {
+    const char *name;
+    int sent, skipped;
+} file;
+
+#define FILES 2
+static const file files[FILES] = {{"report.pdf", 1, 0}, {"notes.txt", 1, 1}};
+
+/* Atoms are numbers from 0 to 255, handed out by the program: one for the folder, three for each file. */
+#define COMPLETE 0
+#define SENT(i) (1 + 3 * (uint32_t)(i))
+#define SKIPPED(i) (2 + 3 * (uint32_t)(i))
+#define GOOD(i) (3 + 3 * (uint32_t)(i))
+
+static const char *const states[] = {"absent", "out", "in"};
+
+/* The words of each refusal; 13 and 14 are the sheet program's. */
+static const char *const words[] = {
+    "accepted",
+    "the head is not below 256",
+    "the two lists together have more than 8 entries",
+    "an entry is not below 256",
+    "an atom stands twice in one list",
+    "the table has the same rule already",
+    "no slot is free",
+    "the rule would close a loop through a negation",
+    "the slot number is not below 256",
+    "the slot holds no rule",
+    "the atom number is not below 256",
+    "the buffer is too short",
+    "the atom is not in",
+    "the line has not the form of a command",
+    "the line is longer than 120 bytes",
+    "the table handed in is not sound",
+};
+
+static void print_name(uint32_t atom) {
+    static const char *const marks[] = {"sent", "skipped", "good"};
+    if (atom == COMPLETE) {
+        printf("complete");
+    } else {
+        printf("%s %s", files[(atom - 1) / 3].name, marks[(atom - 1) % 3]);
+    }
+}
+
+/* The table after an addition that has to be accepted. */
+static yeqontur_table added(yeqontur_table table, uint32_t head, const uint32_t *positives, size_t positive_count,
+                            const uint32_t *negatives, size_t negative_count) {
+    yeqontur_change change = yeqontur_add(table, head, positives, positive_count, negatives, negative_count);
+    if (change.refused != 0) {
+        fprintf(stderr, "refused %u: %s\n", change.refused, words[change.refused]);
+        exit(1);
+    }
+    return change.table;
+}
+
+/* A file is good if it was sent and not skipped; the folder is complete if every file is good. What the scan found is
+ * added as facts. */
+static yeqontur_table scanned(void) {
+    yeqontur_table table = yeqontur_empty();
+    uint32_t every[FILES];
+    for (int i = 0; i < FILES; i++) {
+        const uint32_t sent = SENT(i), skipped = SKIPPED(i);
+        table = added(table, GOOD(i), &sent, 1, &skipped, 1);
+        if (files[i].sent) {
+            table = added(table, sent, NULL, 0, NULL, 0);
+        }
+        if (files[i].skipped) {
+            table = added(table, skipped, NULL, 0, NULL, 0);
+        }
+        every[i] = GOOD(i);
+    }
+    return added(table, COMPLETE, every, FILES, NULL, 0);
+}
+
+/* Prints why an atom has its label. Each atom is told once: an atom that is out may wait for itself. */
+static void show(const yeqontur_table *table, uint32_t atom, int indent, char *told) {
+    yeqontur_label_answer label = yeqontur_label(*table, atom);
+    printf("%*s", indent, "");
+    print_name(atom);
+    printf(" is %s\n", states[label.state]);
+    if (told[atom]) {
+        return;
+    }
+    told[atom] = 1;
+    if (label.state == 2) { /* in: what its supporting rule rests on */
+        const yeqontur_rule *rule = &table->rules[label.slot];
+        for (int i = 0; i < rule->positives; i++) {
+            show(table, rule->entries[i], indent + 2, told);
+        }
+        return;
+    }
+    uint32_t slots[YEQONTUR_SLOTS]; /* out or absent: what stops each of its rules */
+    yeqontur_list_answer list = yeqontur_justifications(*table, atom, slots, YEQONTUR_SLOTS);
+    for (size_t i = 0; i < list.count; i++) {
+        uint32_t by = yeqontur_spoiler(*table, slots[i]).atom;
+        int blocked = yeqontur_label(*table, by).state == 2;
+        printf("%*s  slot %u %s ", indent, "", slots[i], blocked ? "is blocked by" : "needs");
+        print_name(by);
+        printf("\n");
+        show(table, by, indent + 4, told);
+    }
+}
+
+static void show_complete(const yeqontur_table *table) {
+    char told[YEQONTUR_ATOMS] = {0};
+    show(table, COMPLETE, 0, told);
+}
+
+int main(void) {
+    yeqontur_table table = scanned();
+    for (uint32_t atom = 0; atom < YEQONTUR_ATOMS; atom++) {
+        yeqontur_label_answer label = yeqontur_label(table, atom);
+        if (label.state != 0) {
+            print_name(atom);
+            printf(": %s\n", states[label.state]);
+        }
+    }
+    show_complete(&table);
+
+    printf("the skip of notes.txt is withdrawn\n");
+    uint32_t slots[YEQONTUR_SLOTS];
+    yeqontur_list_answer list = yeqontur_justifications(table, SKIPPED(1), slots, YEQONTUR_SLOTS);
+    for (size_t i = 0; i < list.count; i++) {
+        table = yeqontur_remove(table, slots[i]).table;
+    }
+    show_complete(&table);
+
+    printf("a file that is skipped unless it is good\n");
+    const uint32_t good = GOOD(0);
+    yeqontur_change change = yeqontur_add(table, SKIPPED(0), NULL, 0, &good, 1);
+    if (change.refused != 0) {
+        printf("refused %u: %s\n", change.refused, words[change.refused]);
+    }
+    return 0;
+}

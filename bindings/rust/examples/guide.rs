@@ -1,0 +1,114 @@
+//! Rules from a scan, their labels, why a label stands, and a refusal.
+
+use yeqontur::{Because, Label, Refusal, Stop, Table, Why};
+
+/// What a scan of the folder found.
+struct File {
+    name: &'static str,
+    sent: bool,
+    skipped: bool,
+}
+
+const FILES: [File; 2] = [
+    File {
+        name: "report.pdf",
+        sent: true,
+        skipped: false,
+    },
+    File {
+        name: "notes.txt",
+        sent: true,
+        skipped: true,
+    },
+];
+
+/// Atoms are numbers from 0 to 255, handed out by the program: one for the folder, three for each file.
+const COMPLETE: u32 = 0;
+
+fn sent(file: usize) -> u32 {
+    1 + 3 * file as u32
+}
+
+fn skipped(file: usize) -> u32 {
+    2 + 3 * file as u32
+}
+
+fn good(file: usize) -> u32 {
+    3 + 3 * file as u32
+}
+
+fn name(atom: u32) -> String {
+    if atom == COMPLETE {
+        return "complete".to_string();
+    }
+    let place = atom as usize - 1;
+    let mark = ["sent", "skipped", "good"][place % 3];
+    format!("{} {mark}", FILES[place / 3].name)
+}
+
+fn state(label: Label) -> &'static str {
+    match label {
+        Label::Absent => "absent",
+        Label::Out => "out",
+        Label::In { .. } => "in",
+    }
+}
+
+/// A file is good if it was sent and not skipped; the folder is complete if every file is good. What the scan found is
+/// added as facts.
+fn scanned(files: &[File]) -> Result<Table, Refusal> {
+    let mut table = Table::new();
+    for (i, file) in files.iter().enumerate() {
+        table.add(good(i), &[sent(i)], &[skipped(i)])?;
+        if file.sent {
+            table.add(sent(i), &[], &[])?;
+        }
+        if file.skipped {
+            table.add(skipped(i), &[], &[])?;
+        }
+    }
+    let every: Vec<u32> = (0..files.len()).map(good).collect();
+    table.add(COMPLETE, &every, &[])?;
+    Ok(table)
+}
+
+/// Prints the tree that says why an atom has its label.
+fn show(why: &Why, indent: usize) {
+    println!("{:indent$}{} is {}", "", name(why.atom), state(why.label));
+    match &why.because {
+        Because::Supported { from, .. } => from.iter().for_each(|w| show(w, indent + 2)),
+        Because::Stopped(rules) => {
+            for stopped in rules {
+                let how = match stopped.stop {
+                    Stop::Needs => "needs",
+                    Stop::BlockedBy => "is blocked by",
+                };
+                let (slot, by) = (stopped.rule.slot, name(stopped.by.atom));
+                println!("{:indent$}  slot {slot} {how} {by}", "");
+                show(&stopped.by, indent + 4);
+            }
+        }
+        // No rule has the atom, or its reason is shown elsewhere in the tree.
+        Because::Absent | Because::Above | Because::Earlier => {}
+    }
+}
+
+fn main() -> Result<(), Refusal> {
+    let mut table = scanned(&FILES)?;
+    for (atom, label) in table.labels() {
+        println!("{}: {}", name(atom), state(label));
+    }
+    show(&table.why(COMPLETE)?, 0);
+
+    println!("the skip of notes.txt is withdrawn");
+    for slot in table.justifications(skipped(1))? {
+        table.remove(slot)?;
+    }
+    show(&table.why(COMPLETE)?, 0);
+
+    println!("a file that is skipped unless it is good");
+    if let Err(refusal) = table.add(skipped(0), &[], &[good(0)]) {
+        println!("refused {}: {}", refusal.number(), refusal.words());
+    }
+    Ok(())
+}

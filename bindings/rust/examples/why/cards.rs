@@ -1,0 +1,177 @@
+//! A reason as cards: what each says, how it looks, and what hangs below it.
+
+use crate::sheet::Names;
+use yeqontur::{Because, Label, Stop, Stopped, Table, Why};
+
+/// How a card looks.
+#[derive(Clone, Copy, PartialEq, Eq, Debug)]
+pub enum Look {
+    In,
+    Out,
+    Rule,
+}
+
+/// How a card hangs below another.
+#[derive(Clone, Copy, PartialEq, Eq, Debug)]
+pub enum Link {
+    /// An in atom rests on this atom.
+    RestsOn,
+    /// An out atom has this rule.
+    HasRule,
+    /// The rule needs this atom, which is out.
+    Needs,
+    /// The rule is blocked by this atom, which is in.
+    BlockedBy,
+}
+
+#[derive(Clone, PartialEq, Eq, Debug)]
+pub struct Line {
+    pub text: String,
+    pub bold: bool,
+    /// For the entry that stops the rule: how.
+    pub stops: Option<Link>,
+}
+
+/// A card and the cards below it, each with its link and how many rows it is lower.
+pub struct Card {
+    pub look: Look,
+    pub lines: Vec<Line>,
+    pub below: Vec<(Link, usize, Card)>,
+}
+
+/// The whole: a headline, the first card, and its depth, 0 if it is not in.
+pub struct Drawing {
+    pub headline: String,
+    pub card: Card,
+    pub depth: usize,
+}
+
+struct Words<'a> {
+    table: &'a Table,
+    names: &'a Names,
+}
+
+fn line(text: String) -> Line {
+    Line {
+        text,
+        bold: false,
+        stops: None,
+    }
+}
+
+fn state(label: Label) -> &'static str {
+    match label {
+        Label::Absent => "absent",
+        Label::Out => "out",
+        Label::In { .. } => "in",
+    }
+}
+
+fn depth(label: Label) -> usize {
+    match label {
+        Label::In { depth, .. } => depth as usize,
+        _ => 0,
+    }
+}
+
+impl Drawing {
+    pub fn new(why: &Why, table: &Table, names: &Names) -> Drawing {
+        let words = Words { table, names };
+        Drawing {
+            headline: format!("Why {} is {}", words.name(why.atom), state(why.label)),
+            card: words.atom(why),
+            depth: depth(why.label),
+        }
+    }
+}
+
+impl Words<'_> {
+    fn name(&self, atom: u32) -> String {
+        let named = self.names.get(&atom);
+        named.cloned().unwrap_or_else(|| format!("atom {atom}"))
+    }
+
+    fn atom(&self, why: &Why) -> Card {
+        let mut lines = vec![Line {
+            bold: true,
+            ..line(self.name(why.atom))
+        }];
+        lines.extend(self.says(why).into_iter().map(line));
+        let below = match &why.because {
+            Because::Supported { from, .. } => from
+                .iter()
+                .map(|w| {
+                    let rows = depth(why.label) - depth(w.label);
+                    (Link::RestsOn, rows, self.atom(w))
+                })
+                .collect(),
+            Because::Stopped(rules) => rules
+                .iter()
+                .map(|stopped| (Link::HasRule, 1, self.rule(stopped)))
+                .collect(),
+            _ => Vec::new(),
+        };
+        let look = if why.label.is_in() {
+            Look::In
+        } else {
+            Look::Out
+        };
+        Card { look, lines, below }
+    }
+
+    /// What an atom's card says below its name.
+    fn says(&self, why: &Why) -> Vec<String> {
+        let mut lines = vec![match why.label {
+            Label::In { depth, slot } => format!("in, depth {depth}, by slot {slot}"),
+            label => state(label).to_string(),
+        }];
+        match &why.because {
+            Because::Absent => lines.push("stands in no rule".to_string()),
+            Because::Supported { rule, from } => {
+                if from.is_empty() && rule.negatives.is_empty() {
+                    lines.push("a fact".to_string());
+                }
+                let negatives = rule.negatives.iter();
+                lines.extend(negatives.map(|&atom| self.entry("not ", atom)));
+            }
+            Because::Stopped(rules) if rules.is_empty() => {
+                lines.push("no rule gives it".to_string());
+            }
+            Because::Stopped(_) => {}
+            Because::Above => lines.push("shown above: it waits for itself".to_string()),
+            Because::Earlier => lines.push("its reason is shown already".to_string()),
+        }
+        lines
+    }
+
+    /// A stopped rule: its entries with their labels, the one that stops it marked.
+    fn rule(&self, stopped: &Stopped) -> Card {
+        let Stopped { rule, stop, by } = stopped;
+        let (link, list) = match stop {
+            Stop::Needs => (Link::Needs, &rule.positives),
+            Stop::BlockedBy => (Link::BlockedBy, &rule.negatives),
+        };
+        let mut lines = vec![line(format!("the rule in slot {} asks for", rule.slot))];
+        for (not, entries) in [("", &rule.positives), ("not ", &rule.negatives)] {
+            lines.extend(entries.iter().map(|&atom| {
+                let stops = atom == by.atom && std::ptr::eq(entries, list);
+                Line {
+                    text: self.entry(not, atom),
+                    bold: stops,
+                    stops: stops.then_some(link),
+                }
+            }));
+        }
+        Card {
+            look: Look::Rule,
+            lines,
+            below: vec![(link, 1, self.atom(by))],
+        }
+    }
+
+    /// An entry and its label, which is never refused: the atoms of a rule are below 256.
+    fn entry(&self, not: &str, atom: u32) -> String {
+        let state = self.table.label(atom).map_or("", state);
+        format!("{not}{} ({state})", self.name(atom))
+    }
+}

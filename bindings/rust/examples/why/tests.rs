@@ -1,0 +1,145 @@
+//! Nothing in a picture overlaps, and the pictures of the repository are the ones that the program makes.
+
+use crate::cards::{Drawing, Link};
+use crate::layout::{Area, Picture, Wire, SAMPLE};
+use crate::{picture, sheet, svg};
+use yeqontur::Table;
+
+const NAMES: &str = include_str!("../../../../examples/deposit.names");
+
+fn made(sheet: &str, atom: &str) -> String {
+    picture(sheet, atom, NAMES).expect("a picture")
+}
+
+#[test]
+fn the_pictures_of_the_repository_are_made_by_the_program() {
+    let skipped = include_str!("../../../../examples/skipped.sheet");
+    let complete = include_str!("../../../../examples/complete.svg");
+    assert!(made(skipped, "7") == complete);
+    let deposit = include_str!("../../../../examples/deposit.sheet");
+    let complete = include_str!("../../../../examples/complete_in.svg");
+    assert!(made(deposit, "7") == complete);
+}
+
+#[test]
+fn needs_and_blocked_by_differ_in_line_and_word() {
+    let text = made("A 1 : 2\nA 1 : ! 3\nA 3 :\n", "1");
+    for sign in [
+        ">needs<",
+        ">blocked by<",
+        "stroke-dasharray=\"7 5\"",
+        "stroke-width=\"5\"",
+    ] {
+        assert!(text.contains(sign), "{sign}");
+    }
+}
+
+#[test]
+fn names_and_sheets_that_cannot_be_read_are_told() {
+    assert!(picture("A 1 :", "1", "1 <a> & b")
+        .expect("a picture")
+        .contains("&lt;a&gt; &amp; b"));
+    for (text, atom, names) in [
+        ("A 1", "1", ""),
+        ("B", "1", ""),
+        ("A 1 : x", "1", ""),
+        ("R 0", "1", ""),
+        ("A 256 :", "1", ""),
+        ("A 1 :", "one", ""),
+        ("A 1 :", "256", ""),
+        ("A 1 :", "1", "one 1"),
+        ("A 1 :", "1", "1"),
+    ] {
+        assert!(picture(text, atom, names).is_err(), "{text} {atom} {names}");
+    }
+}
+
+/// Tables of every kind of reason, from a seed.
+fn table(mut seed: u32) -> Table {
+    let mut below = |bound: u32| {
+        seed = seed.wrapping_mul(1_664_525).wrapping_add(1_013_904_223);
+        (seed >> 16) % bound
+    };
+    let mut table = Table::new();
+    for _ in 0..24 {
+        let positives: Vec<u32> = (0..below(4)).map(|_| below(9)).collect();
+        let negatives: Vec<u32> = (0..below(3)).map(|_| below(9)).collect();
+        let _ = table.add(below(9), &positives, &negatives);
+    }
+    table
+}
+
+fn overlap(a: Area, b: Area) -> bool {
+    a.x < b.right() && b.x < a.right() && a.y < b.bottom() && b.y < a.bottom()
+}
+
+fn line(x: (f64, f64), y: (f64, f64)) -> Area {
+    Area {
+        x: x.0.min(x.1),
+        y: y.0.min(y.1),
+        width: (x.1 - x.0).abs(),
+        height: (y.1 - y.0).abs(),
+    }
+}
+
+/// The three parts of a link.
+fn parts(wire: &Wire) -> [Area; 3] {
+    let ((x, y), turn, (to, lower)) = (wire.from, wire.turn, wire.to);
+    [
+        line((x, x), (y, turn)),
+        line((x, to), (turn, turn)),
+        line((to, to), (turn, lower)),
+    ]
+}
+
+fn boxes(picture: &Picture) -> Vec<Area> {
+    let notes = picture
+        .rows
+        .iter()
+        .chain([&picture.headline])
+        .map(|note| note.area);
+    let legend = picture.legend.iter().map(|(_, note)| Area {
+        x: note.area.x - SAMPLE,
+        width: note.area.width + SAMPLE,
+        ..note.area
+    });
+    let cards = picture.cards.iter().map(|card| card.area);
+    notes.chain(legend).chain(cards).collect()
+}
+
+fn nothing_overlaps(picture: &Picture) {
+    let plates = picture
+        .wires
+        .iter()
+        .filter_map(svg::plate)
+        .map(|(_, area)| area);
+    let boxes = boxes(picture);
+    let all: Vec<Area> = boxes.iter().copied().chain(plates).collect();
+    for (place, &a) in all.iter().enumerate() {
+        assert!(
+            a.x >= 0.0 && a.y >= 0.0 && a.right() <= picture.width && a.bottom() <= picture.height
+        );
+        assert!(all[place + 1..].iter().all(|&b| !overlap(a, b)));
+    }
+    for wire in &picture.wires {
+        assert!(parts(wire)
+            .iter()
+            .all(|&part| boxes.iter().all(|&b| !overlap(part, b))));
+        assert!(
+            matches!(wire.link, Link::RestsOn | Link::HasRule)
+                || (wire.from.0 - wire.to.0).abs() < 0.1
+        );
+    }
+}
+
+#[test]
+fn nothing_overlaps_in_any_picture() {
+    let names = sheet::names("1 x\n2 a rather long name of an atom\n3 WWWWW").expect("names");
+    for seed in 0..150 {
+        let table = table(seed);
+        for atom in 0..10 {
+            let why = table.why(atom).expect("an atom");
+            nothing_overlaps(&Picture::of(Drawing::new(&why, &table, &names)));
+        }
+    }
+}

@@ -1,0 +1,60 @@
+//! Rules as a program reads them, and the walk over them.
+
+use crate::{raw, Refusal, Table};
+use std::fmt;
+
+/// A rule that the table holds: its head is in if every positive entry is in and no negative entry is.
+#[derive(Clone, PartialEq, Eq, Debug)]
+pub struct Rule {
+    pub slot: u32,
+    pub head: u32,
+    pub positives: Vec<u32>,
+    pub negatives: Vec<u32>,
+}
+
+/// Whether a rule is valid, or the first entry that spoils it.
+#[derive(Clone, Copy, PartialEq, Eq, Debug)]
+pub enum Validity {
+    Valid,
+    Spoiled { atom: u32 },
+}
+
+impl Rule {
+    /// The rule of a slot that holds one, in a sound table.
+    fn read(slot: u32, rule: &raw::Rule) -> Rule {
+        let (positives, rest) = rule.entries.split_at(rule.positives.into());
+        let numbers = |list: &[u16]| list.iter().map(|&atom| atom.into()).collect();
+        Rule {
+            slot,
+            head: rule.head.into(),
+            positives: numbers(positives),
+            negatives: numbers(&rest[..rule.negatives.into()]),
+        }
+    }
+}
+
+/// As the specification writes it: `1 < 2, not 3`; a fact is `1 <`.
+impl fmt::Display for Rule {
+    fn fmt(&self, f: &mut fmt::Formatter<'_>) -> fmt::Result {
+        let positives = self.positives.iter().map(|atom| format!("{atom}"));
+        let negatives = self.negatives.iter().map(|atom| format!("not {atom}"));
+        let entries: Vec<String> = positives.chain(negatives).collect();
+        write!(f, "{} < {}", self.head, entries.join(", "))
+    }
+}
+
+impl Table {
+    /// The rules that the table holds, by slot.
+    pub fn rules(&self) -> impl Iterator<Item = Rule> + '_ {
+        (0..)
+            .zip(&self.as_raw().rules)
+            .filter(|(_, rule)| rule.state != 0)
+            .map(|(slot, rule)| Rule::read(slot, rule))
+    }
+
+    /// The rule in a slot.
+    pub fn rule(&self, slot: u32) -> Result<Rule, Refusal> {
+        self.spoiler(slot)?; // asks whether the slot holds a rule
+        Ok(Rule::read(slot, &self.as_raw().rules[slot as usize]))
+    }
+}

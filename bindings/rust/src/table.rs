@@ -1,0 +1,111 @@
+//! The table and its calls.
+
+use crate::raw::{self, List};
+use crate::{Label, Refusal, Validity};
+
+/// A table of rules with the labels of their atoms. It is always sound: it starts empty, calls keep it sound, and raw
+/// fields become one only if they are sound. It is a few kilobytes, so a copy is asked for by name.
+#[derive(Clone, PartialEq, Eq, Debug)]
+pub struct Table(raw::Table);
+
+/// The refusal that the numbers say, or the value.
+fn answered<T>(refused: u32, needed: usize, value: T) -> Result<T, Refusal> {
+    match Refusal::from_number(refused, needed) {
+        Some(refusal) => Err(refusal),
+        None => Ok(value),
+    }
+}
+
+impl Default for Table {
+    fn default() -> Table {
+        Table::new()
+    }
+}
+
+/// Any raw fields, for instance ones that were stored: refused (15) unless they are sound.
+impl TryFrom<raw::Table> for Table {
+    type Error = Refusal;
+
+    fn try_from(fields: raw::Table) -> Result<Table, Refusal> {
+        answered(raw::label(&fields, 0).refused, 0, Table(fields))
+    }
+}
+
+impl Table {
+    /// The empty table.
+    pub fn new() -> Table {
+        Table(raw::empty())
+    }
+
+    /// The fields, as the library has them.
+    pub fn as_raw(&self) -> &raw::Table {
+        &self.0
+    }
+
+    /// Adds the rule that the head is in if every positive atom is in and no negative one is; with both lists empty, a
+    /// fact. Answers its slot, the lowest that was free. A refused call leaves the table as it was.
+    pub fn add(&mut self, head: u32, positives: &[u32], negatives: &[u32]) -> Result<u32, Refusal> {
+        let change = raw::add(&self.0, head, positives, negatives);
+        self.0 = change.table;
+        answered(change.refused, 0, change.slot)
+    }
+
+    /// Frees a slot; every other slot keeps its rule. A refused call leaves the table as it was.
+    pub fn remove(&mut self, slot: u32) -> Result<(), Refusal> {
+        let change = raw::remove(&self.0, slot);
+        self.0 = change.table;
+        answered(change.refused, 0, ())
+    }
+
+    /// The label of an atom.
+    pub fn label(&self, atom: u32) -> Result<Label, Refusal> {
+        let told = raw::label(&self.0, atom);
+        let label = Label::from_numbers(told.state, told.depth, told.slot);
+        answered(told.refused, 0, label)
+    }
+
+    /// Whether the rule in the slot is valid, or what stops it.
+    pub fn spoiler(&self, slot: u32) -> Result<Validity, Refusal> {
+        let told = raw::spoiler(&self.0, slot);
+        let validity = match told.spoiled {
+            0 => Validity::Valid,
+            _ => Validity::Spoiled { atom: told.atom },
+        };
+        answered(told.refused, 0, validity)
+    }
+
+    /// The slots of the rules with this head, ascending.
+    pub fn justifications(&self, atom: u32) -> Result<Vec<u32>, Refusal> {
+        self.list(List::Justifications, atom)
+    }
+
+    /// The heads of the rules with this atom as an entry, ascending.
+    pub fn consequences(&self, atom: u32) -> Result<Vec<u32>, Refusal> {
+        self.list(List::Consequences, atom)
+    }
+
+    /// All atoms whose label rests on this one, directly or through others, ascending.
+    pub fn repercussions(&self, atom: u32) -> Result<Vec<u32>, Refusal> {
+        self.list(List::Repercussions, atom)
+    }
+
+    /// Why the atom is in: the slots of the rules that hold it up, by depth, so facts first and its own rule last.
+    pub fn reason(&self, atom: u32) -> Result<Vec<u32>, Refusal> {
+        self.list(List::Reason, atom)
+    }
+
+    /// Writes a list from the start of a lent buffer and answers how many entries it has; later entries stay. Nothing
+    /// is allocated, and a buffer that is too short stays as it was (11).
+    pub fn list_into(&self, which: List, atom: u32, buffer: &mut [u32]) -> Result<usize, Refusal> {
+        let told = raw::list(which, &self.0, atom, buffer);
+        answered(told.refused, told.count, told.count)
+    }
+
+    /// No list is longer than there are slots or atoms.
+    fn list(&self, which: List, atom: u32) -> Result<Vec<u32>, Refusal> {
+        let mut buffer = vec![0; raw::SLOTS.max(raw::ATOMS)];
+        let count = self.list_into(which, atom, &mut buffer)?;
+        buffer.truncate(count);
+        Ok(buffer)
+    }
+}

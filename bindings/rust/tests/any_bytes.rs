@@ -1,0 +1,106 @@
+//! Any bytes are a table: every call answers 15 or a result, and hands back what it refused.
+
+mod common;
+
+use common::Random;
+use yeqontur::raw::{self, List};
+use yeqontur::{Refusal, Table};
+
+const LISTS: [List; 4] = [
+    List::Justifications,
+    List::Consequences,
+    List::Repercussions,
+    List::Reason,
+];
+
+/// A sound table with one field changed to anything.
+fn damaged(table: &Table, random: &mut Random) -> raw::Table {
+    let mut fields = *table.as_raw();
+    let place = random.below(12) as usize;
+    let number = random.word() as u16 >> random.below(16);
+    let (rule, label) = (&mut fields.rules[place], &mut fields.labels[place]);
+    match random.below(8) {
+        0 => rule.state = number as u8,
+        1 => rule.head = number,
+        2 => rule.positives = number as u8,
+        3 => rule.negatives = number as u8,
+        4 => rule.entries[random.below(8) as usize] = number,
+        5 => label.state = number as u8,
+        6 => label.depth = number,
+        _ => label.slot = number,
+    }
+    fields
+}
+
+/// Every call agrees on whether the table is sound; where it is not, the table comes back and no buffer is written.
+fn refused_alike(fields: &raw::Table, random: &mut Random) -> bool {
+    let unsound = Table::try_from(*fields) == Err(Refusal::TableUnsound);
+    let number = random.below(300);
+    let added = raw::add(fields, number, &[1, 2], &[3]);
+    let removed = raw::remove(fields, number);
+    let mut refusals = vec![
+        added.refused,
+        removed.refused,
+        raw::label(fields, number).refused,
+        raw::spoiler(fields, number).refused,
+    ];
+    for which in LISTS {
+        let mut buffer = [7; 300];
+        refusals.push(raw::list(which, fields, number, &mut buffer).refused);
+        assert!(!unsound || buffer == [7; 300]);
+    }
+    assert!(
+        refusals.iter().all(|&r| (r == 15) == unsound),
+        "{refusals:?}"
+    );
+    assert!(!unsound || (added.table == *fields && removed.table == *fields));
+    unsound
+}
+
+#[test]
+fn random_bytes() {
+    let mut random = Random(1);
+    for _ in 0..2000 {
+        let fields = random.fields();
+        assert!(refused_alike(&fields, &mut random));
+    }
+}
+
+#[test]
+fn one_field_changed() {
+    let mut random = Random(2);
+    let mut unsound = 0;
+    for _ in 0..40 {
+        let table = random.table(40, 12);
+        for _ in 0..100 {
+            let fields = damaged(&table, &mut random);
+            unsound += usize::from(refused_alike(&fields, &mut random));
+        }
+    }
+    assert!((1000..4000).contains(&unsound), "{unsound} of 4000");
+}
+
+#[test]
+fn one_byte_everywhere() {
+    let mut random = Random(3);
+    for byte in 0..=255_u8 {
+        let pair = u16::from_ne_bytes([byte, byte]);
+        let rule = raw::Rule {
+            state: byte,
+            head: pair,
+            positives: byte,
+            negatives: byte,
+            entries: [pair; raw::ENTRIES],
+        };
+        let label = raw::Label {
+            state: byte,
+            depth: pair,
+            slot: pair,
+        };
+        let fields = raw::Table {
+            rules: [rule; raw::SLOTS],
+            labels: [label; raw::ATOMS],
+        };
+        assert_eq!(refused_alike(&fields, &mut random), byte != 0);
+    }
+}

@@ -1,0 +1,79 @@
+//! What the tests share.
+#![allow(dead_code)] // each test file uses a part
+
+use yeqontur::{raw, Table};
+
+/// A table of rules (head, positives, negatives), in slots 0, 1, ..
+pub fn table(rules: &[(u32, &[u32], &[u32])]) -> Table {
+    let mut table = Table::new();
+    for (slot, (head, positives, negatives)) in rules.iter().enumerate() {
+        assert_eq!(table.add(*head, positives, negatives), Ok(slot as u32));
+    }
+    table
+}
+
+/// T11's first table: the report's fourth example.
+pub fn fourth_example() -> Table {
+    table(&[
+        (1, &[2], &[]),
+        (2, &[], &[3]),
+        (1, &[4], &[]),
+        (4, &[3], &[]),
+        (3, &[4], &[]),
+        (3, &[], &[5]),
+    ])
+}
+
+/// A seeded generator (splitmix64), so that a run can be repeated.
+pub struct Random(pub u64);
+
+impl Random {
+    pub fn word(&mut self) -> u64 {
+        self.0 = self.0.wrapping_add(0x9e37_79b9_7f4a_7c15);
+        let mixed = (self.0 ^ (self.0 >> 30)).wrapping_mul(0xbf58_476d_1ce4_e5b9);
+        let mixed = (mixed ^ (mixed >> 27)).wrapping_mul(0x94d0_49bb_1331_11eb);
+        mixed ^ (mixed >> 31)
+    }
+
+    pub fn below(&mut self, bound: u32) -> u32 {
+        (self.word() % u64::from(bound)) as u32
+    }
+
+    fn list(&mut self, longest: u32, atoms: u32) -> Vec<u32> {
+        (0..self.below(longest + 1))
+            .map(|_| self.below(atoms))
+            .collect()
+    }
+
+    /// A table that this many additions over so many atoms were tried on; refused ones leave it as it was.
+    pub fn table(&mut self, additions: u32, atoms: u32) -> Table {
+        let mut table = Table::new();
+        for _ in 0..additions {
+            let (positives, negatives) = (self.list(3, atoms), self.list(2, atoms));
+            let _ = table.add(self.below(atoms), &positives, &negatives);
+        }
+        table
+    }
+
+    /// Fields of any bytes.
+    pub fn fields(&mut self) -> raw::Table {
+        let mut fields = raw::empty();
+        for rule in &mut fields.rules {
+            *rule = raw::Rule {
+                state: self.word() as u8,
+                head: self.word() as u16,
+                positives: self.word() as u8,
+                negatives: self.word() as u8,
+                entries: std::array::from_fn(|_| self.word() as u16),
+            };
+        }
+        for label in &mut fields.labels {
+            *label = raw::Label {
+                state: self.word() as u8,
+                depth: self.word() as u16,
+                slot: self.word() as u16,
+            };
+        }
+        fields
+    }
+}

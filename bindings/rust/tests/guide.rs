@@ -1,0 +1,75 @@
+//! What the guide shows is what stands in the files, and what its commands print.
+
+use std::path::PathBuf;
+use std::process::Command;
+use yeqontur::Refusal;
+
+fn root() -> PathBuf {
+    PathBuf::from(env!("CARGO_MANIFEST_DIR")).join("../..")
+}
+
+fn file(path: &str) -> String {
+    std::fs::read_to_string(root().join(path)).expect(path)
+}
+
+/// The guide's blocks of a kind.
+fn blocks(kind: &str) -> Vec<String> {
+    let guide = file("docs/GUIDE.md");
+    let start = format!("\n```{kind}\n");
+    let starts = guide.split(&start).skip(1);
+    let block = |rest: &str| rest[..rest.find("```").expect("an end")].to_string();
+    starts.map(block).collect()
+}
+
+#[test]
+fn the_programs_of_the_guide_are_the_files() {
+    assert_eq!(blocks("rust"), [file("bindings/rust/examples/guide.rs")]);
+    assert_eq!(blocks("c"), [file("bindings/c/guide.c")]);
+}
+
+/// The first command makes the library, which the tests are linked with already.
+#[test]
+fn the_commands_of_the_guide_print_what_it_says() {
+    let shown = blocks("text");
+    let commands = blocks("sh");
+    assert_eq!((shown.len(), commands.len()), (1, 3));
+    assert_eq!(commands[0], "rt staticlib ffi\n");
+    for command in &commands[1..] {
+        let mut shell = Command::new("sh");
+        let ran = shell.arg("-c").arg(command).current_dir(root()).output();
+        let ran = ran.expect("a shell");
+        let errors = String::from_utf8_lossy(&ran.stderr);
+        assert!(ran.status.success(), "{command}{errors}");
+        assert_eq!(String::from_utf8_lossy(&ran.stdout), shown[0], "{command}");
+    }
+}
+
+#[test]
+fn guide_header_and_c_program_have_the_words_of_each_refusal() {
+    let guide = file("docs/GUIDE.md");
+    let header = file("include/yeqontur.h");
+    let program = file("bindings/c/guide.c");
+    for refusal in Refusal::ALL {
+        let (number, words, advice) = (refusal.number(), refusal.words(), refusal.advice());
+        assert!(guide.contains(&format!("\n| {number} | {words} | {advice} |\n")));
+        assert!(
+            header.contains(&format!("\n *   {number:2}  {words}")),
+            "{number}"
+        );
+        assert!(program.contains(&format!("    \"{words}\",\n")), "{number}");
+    }
+}
+
+#[test]
+fn a_refusal_prints_its_number_its_words_and_what_to_do() {
+    let numbers = Refusal::ALL.map(Refusal::number);
+    assert_eq!(numbers, [1, 2, 3, 4, 5, 6, 7, 8, 9, 10, 11, 12, 15]);
+    assert_eq!(
+        Refusal::TableFull.to_string(),
+        "refused 6: no slot is free; remove a rule that is no longer needed, or open a second table"
+    );
+    let short: Box<dyn std::error::Error> = Refusal::BufferTooShort { needed: 5 }.into();
+    assert!(short
+        .to_string()
+        .starts_with("refused 11: the buffer is too short (5 needed); "));
+}
