@@ -13,8 +13,8 @@ use Rattle.lines.specs.Buffers as buffers
 use Rattle.lines.proofs.Leading.{leading-within}
 use Rattle.replies.specs.declared.Reply.{Reply}
 use Rattle.replies.specs.Replies.{ROOM, Says}
-use Rattle.replies.specs.Written.{Wrote}
-use Rattle.replies.proofs.Wrote.{wrote-put, wrote-then, wrote-nothing, wrote-length}
+use Rattle.printing.specs.Written.{Wrote}
+use Rattle.printing.proofs.Wrote.{wrote-put, wrote-then, wrote-nothing, wrote-length}
 use Rattle.feed.specs.declared.Sheet.{Sheet}
 use Rattle.feed.specs.declared.Fed.{Fed}
 use Rattle.feed.specs.Sheets.{KEPT, State, longer, ended, stop, StandsFor, Keeps, RepliesAt, ofLine, lineEnd}

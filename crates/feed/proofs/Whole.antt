@@ -7,7 +7,7 @@ use mathlib.Core.List.{List, [], _∷_, _++_}
 use lib.ListN.{take}
 use Rattle.replies.specs.declared.Reply.{Reply}
 use Rattle.replies.specs.Replies.{Prints}
-use Rattle.replies.proofs.Wrote.{wrote-start}
+use Rattle.printing.proofs.Wrote.{wrote-start}
 use Rattle.replies.proofs.Unique.{prints-unique}
 use Rattle.feed.specs.declared.Sheet.{Sheet}
 use Rattle.feed.specs.Sheets.{State, start, longer, ended, Reads, stop, byte, newline, SheetPrints}

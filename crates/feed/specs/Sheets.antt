@@ -13,7 +13,7 @@ use Rattle.replies.specs.declared.Reply.{Reply}
 use Rattle.feed.specs.declared.Sheet.{Sheet}
 use Rattle.feed.specs.declared.Fed.{Fed}
 use Rattle.replies.specs.Replies.{Prints, Replies, ROOM}
-use Rattle.replies.specs.Written.{Wrote}
+use Rattle.printing.specs.Written.{Wrote}
 
 abbrev pub NEWLINE : ℕ
 NEWLINE = 10

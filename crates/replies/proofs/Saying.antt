@@ -25,10 +25,11 @@ use Rattle.lines.specs.Readings.{is, reading, lineOf, readingOf, commandOf}
 use Rattle.lines.proofs.Reading as T
 use types.Run.{OneOf}
 use denote.Enum.Declared.{tagOf}
-use Rattle.replies.specs.Printed.{refusalLine}
+use Rattle.printing.specs.Printed.{refusalLine}
 use Rattle.replies.specs.Replies as prints
 use Rattle.replies.specs.Replies.{ROOM, lent, tellReason, Says, Prints, Replies}
-use Rattle.replies.specs.Written.{Wrote, Judged, positives, negatives, Obeys, Answers}
+use Rattle.printing.specs.Written.{Wrote}
+use Rattle.replies.specs.Parts.{Judged, positives, negatives, Obeys, Answers}
 
 pub drop-replicate : (k n : ℕ) → drop k (replicate {A = ℕ} n 0) ≡ replicate (n - k) 0
 drop-replicate zero n = let e : n - 0 ≡ n = omega arith in rw e

@@ -20,7 +20,7 @@ use Rattle.calls.proofs.OneTable.{same-label}
 use Rattle.calls.proofs.Determined.{add-determined, remove-determined, reason-determined}
 use Rattle.lines.specs.Commands as sheet
 use Rattle.lines.specs.Readings.{Line, is-blank, too-long, no-command, is, reading}
-use Rattle.replies.specs.Printed.{labelLine, labelLines, refusalLine}
+use Rattle.printing.specs.Printed.{labelLine, labelLines, refusalLine}
 use Rattle.replies.specs.Replies as prints
 use Rattle.replies.specs.Replies.{lent, tellAdd, tellRemove, tellReason, Prints}
 

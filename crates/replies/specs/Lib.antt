@@ -1,3 +1,2 @@
-pub mod Printed
 pub mod Replies
-pub mod Written
+pub mod Parts

@@ -11,10 +11,10 @@ use lines::Command;
 use lines::Parsed;
 use lines::Reading;
 use lines::read::read;
-use printed::write_labels;
-use printed::write_named;
-use printed::write_refusal;
-use printed::write_why;
+use printing::write_labels;
+use printing::write_named;
+use printing::write_refusal;
+use printing::write_why;
 use reasons::reason;
 use sound::sound;
 use table::Table;
@@ -25,11 +25,9 @@ ghost use Rattle.table.specs.Questions.{ruleFrom};
 ghost use Rattle.calls.specs.Contracts.{AddEnds};
 ghost use Rattle.lines.specs.Commands as sheet;
 ghost use Rattle.lines.specs.Readings.{ENTRIES, commandOf};
-ghost use Rattle.replies.specs.Printed.{named, refusalLine};
+ghost use Rattle.printing.specs.Printed.{named, refusalLine};
 ghost use Rattle.replies.specs.Replies.{Says, Replies};
-ghost use Rattle.replies.specs.Written.{Obeys, Answers, positives, negatives};
-
-mod printed; // printed.rt: the lines that are printed
+ghost use Rattle.replies.specs.Parts.{Obeys, Answers, positives, negatives};
 
 // The table after a line, and the bytes that the line prints: the first `count` of them. All that follow are 0.
 pub struct Reply {

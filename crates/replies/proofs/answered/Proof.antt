@@ -1,5 +1,5 @@
 -- `replies::answered` meets its contract. Assumes nothing.
-use Rattle.replies.specs.Written.{positives, negatives}
+use Rattle.replies.specs.Parts.{positives, negatives}
 use Rattle.replies.proofs.Saying.{unread, commanded}
 use borrow.Author.Needs.{needs}
 use Rattle.replies.proofs.answered.Statement.{statement}

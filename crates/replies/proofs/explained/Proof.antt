@@ -1,7 +1,7 @@
 -- `replies::explained` meets its contract. Assumes nothing.
 use native.Mathlib.Omega.{arith}
 use mathlib.Core.Path.{refl, ap}
-use Rattle.replies.specs.Printed.{refusalLine}
+use Rattle.printing.specs.Printed.{refusalLine}
 use Rattle.replies.proofs.Saying.{says, reason-said, count-within}
 use borrow.Author.Needs.{needs}
 use Rattle.replies.proofs.explained.Statement.{statement}

@@ -1,6 +1,6 @@
 -- `replies::removed` meets its contract. Assumes nothing.
 use mathlib.Core.Path.{sym, _∙_, ap}
-use Rattle.replies.specs.Printed.{bytes, refusalLine}
+use Rattle.printing.specs.Printed.{bytes, refusalLine}
 use Rattle.replies.specs.Replies as prints
 use Rattle.replies.specs.Replies.{tellRemove}
 use Rattle.replies.proofs.Saying.{replied}

@@ -1,0 +1,13 @@
+-- Bytes written into a lent buffer that has room for them. Assumes nothing.
+use Prim.Native.Nat.{ℕ, _+_, _≤_}
+use mathlib.Core.Path.{_≡_}
+use mathlib.Core.List.{List}
+use lib.ListN.{length}
+use Rattle.lines.specs.Buffers.{put}
+
+-- The bytes had room at a place of the buffer and stand there, every other byte is as it was, and the next place is
+-- behind them.
+pub record Wrote (bytes before : List ℕ) (at : ℕ) (after : List ℕ) (next : ℕ) : Type 0 where
+  pub room : at + length bytes ≤ length before
+  pub buffer : after ≡ put before at bytes
+  pub place : next ≡ at + length bytes
