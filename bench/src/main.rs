@@ -1,35 +1,58 @@
 //! The proved engine beside plain Rust of the same algorithm and clingo, and against the slow engine.
 //!
 //!     bench                     tables of times and ratios, all measured in this run
+//!     bench sheet PROGRAM       lines per second of the sheet program, beside plain Rust's and the slow engine's
+//!     bench plain-sheet         plain Rust's sheet program
+//!     bench slow-sheet          the slow engine's
 //!     bench compare SEED COUNT  COUNT tables of every kind: verdict and labels against the slow engine
 
 mod boundary;
 mod calls;
+mod churn;
 mod clingo;
 mod clock;
 mod compare;
 mod phases;
 mod plain;
 mod shapes;
+mod sheet;
 
-fn main() {
+use std::io;
+use std::process::ExitCode;
+
+const USAGE: &str =
+    "bench | bench sheet PROGRAM | bench plain-sheet | bench slow-sheet | bench compare SEED COUNT";
+
+fn code(good: bool) -> ExitCode {
+    ExitCode::from(u8::from(!good))
+}
+
+fn done(outcome: io::Result<()>) -> ExitCode {
+    if let Err(error) = &outcome {
+        eprintln!("bench: {error}");
+    }
+    code(outcome.is_ok())
+}
+
+fn main() -> ExitCode {
     let words: Vec<String> = std::env::args().skip(1).collect();
     match words.iter().map(String::as_str).collect::<Vec<_>>()[..] {
         [] => {
             calls::bench();
             println!();
             phases::bench();
+            ExitCode::SUCCESS
         }
-        ["compare", seed, count] => {
-            let good = compare::compare(
-                seed.parse().expect("a seed"),
-                count.parse().expect("a count"),
-            );
-            std::process::exit(i32::from(!good));
-        }
+        ["sheet", program] => done(sheet::bench(program)),
+        ["plain-sheet"] => done(plain::sheet::run(io::stdin().lock(), io::stdout().lock())),
+        ["slow-sheet"] => done(sheet::slow()),
+        ["compare", seed, count] => code(compare::compare(
+            seed.parse().expect("a seed"),
+            count.parse().expect("a count"),
+        )),
         _ => {
-            eprintln!("bench | bench compare SEED COUNT");
-            std::process::exit(2);
+            eprintln!("{USAGE}");
+            ExitCode::from(2)
         }
     }
 }

@@ -1,7 +1,12 @@
-//! The engine's algorithm in plain Rust, for the ratio: the same passes over the same arrays, no proof.
+//! The engine's algorithm and the sheet program in plain Rust, for the ratio: the same passes over the same arrays, no
+//! proof.
 
 mod calls;
 mod labels;
+mod lines;
+mod reason;
+mod replies;
+pub mod sheet;
 mod sound;
 
 pub use calls::{add, label, remove};
