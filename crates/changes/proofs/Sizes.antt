@@ -1,13 +1,9 @@
 -- A table that the code has is sized: what owning it tells of its arrays. Assumes nothing.
-use Prim.Native.Nat.{ℕ, zero, suc, _<_}
 use native.Mathlib.Omega.{arith}
 use mathlib.Core.Path.{_≡_, subst}
-use mathlib.Core.List.{List, [], _∷_, map}
+use mathlib.Core.List.{List, map}
 use lib.ListN.{length, getD, length-map, List·getD-map}
 use mir.Val.{Val}
-use base.Fml.{Fml}
-use denote.Shadow.{shadow}
-use denote.Array.{each}
 use denote.Laws.{Is}
 use denote.RattleType.{Denots}
 use denote.Struct.Declared.{row}
@@ -18,18 +14,10 @@ use Rattle.table.specs.declared.Table.{Table}
 use Rattle.table.specs.Rules.{pastRule}
 use Rattle.table.proofs.Rule as rule-type
 use Rattle.table.proofs.Table as table-type
+use Rattle.table.proofs.Arrays.{each-at}
 use Rattle.labels.specs.declared.Labelling.{Labelling}
 use Rattle.labels.proofs.Labelling as labelling-type
 use Rattle.calls.specs.Contracts.{Sized}
-
--- What each element of an array tells of itself, at one place.
-pub each-at :
-    {d : Type 0} (f : d → List Val → Fml) (Q : d → Type 0) → ((x : d) (vs : List Val) → shadow (f x vs) → Q x)
-    → (xs : List d) (us : List Val) → shadow (each d f xs us) → (k : ℕ) (x : d) → k < length xs → Q (getD xs k x)
-each-at f Q h [] us p k x l = absurd (omega arith)
-each-at f Q h (y ∷ xs) [] p k x l = absurd p
-each-at f Q h (y ∷ xs) (u ∷ us) p zero x l = h y (u ∷ []) (p .0)
-each-at f Q h (y ∷ xs) (u ∷ us) p (suc k) x l = each-at f Q h xs us (p .1) k x (omega arith)
 
 -- A rule as the tuple of its fields: how many entries it has.
 abbrev fields : Rule → Denots (declared.fields rule-type.the-type)

@@ -7,3 +7,4 @@ pub mod Walks
 pub mod Refusals
 pub mod Cleanness
 pub mod Empty
+pub mod Arrays
