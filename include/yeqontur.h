@@ -75,8 +75,9 @@ typedef struct {
 
 typedef struct {
     uint32_t refused;
-    uint32_t spoiled; /* 0: the rule is valid; 1: `atom` is the first entry that spoils it */
+    uint32_t spoiled; /* 0 valid; 1: the rule needs `atom`, which is out; 2: it is blocked by `atom`, which is in */
     uint32_t atom;
+    uint32_t place; /* of that entry in the positive (1) or the negative list (2), from 0 */
 } yeqontur_spoiler_answer;
 
 typedef struct {
@@ -101,7 +102,8 @@ yeqontur_change yeqontur_remove(yeqontur_table table, uint32_t slot);
 yeqontur_label_answer yeqontur_label(yeqontur_table table, uint32_t atom);
 
 /* Whether the rule in a slot is valid, or its first entry that spoils it, positive list first: a positive entry spoils
- * if it is out ("needs"), a negative one if it is in ("blocked by"). Asks 15, 8, 9. */
+ * if it is out ("needs"), a negative one if it is in ("blocked by"). An atom may stand in both lists; the answer says
+ * which of them is meant, and the place in it. For a valid rule or a refusal every other field is 0. Asks 15, 8, 9. */
 yeqontur_spoiler_answer yeqontur_spoiler(yeqontur_table table, uint32_t slot);
 
 /* The slots of the rules with this head; the heads of the rules with this entry; all atoms whose label rests on this

@@ -100,12 +100,12 @@ static void show(const yeqontur_table *table, uint32_t atom, int indent, char *t
     uint32_t slots[YEQONTUR_SLOTS]; /* out or absent: what stops each of its rules */
     yeqontur_list_answer list = yeqontur_justifications(*table, atom, slots, YEQONTUR_SLOTS);
     for (size_t i = 0; i < list.count; i++) {
-        uint32_t by = yeqontur_spoiler(*table, slots[i]).atom;
-        int blocked = yeqontur_label(*table, by).state == 2;
-        printf("%*s  slot %u %s ", indent, "", slots[i], blocked ? "is blocked by" : "needs");
-        print_name(by);
+        yeqontur_spoiler_answer stop = yeqontur_spoiler(*table, slots[i]);
+        const char *how = stop.spoiled == 2 ? "is blocked by" : "needs";
+        printf("%*s  slot %u %s ", indent, "", slots[i], how);
+        print_name(stop.atom);
         printf("\n");
-        show(table, by, indent + 4, told);
+        show(table, stop.atom, indent + 4, told);
     }
 }
 

@@ -45,6 +45,22 @@ static void is(yeqontur_table table, uint32_t atom, uint32_t state, uint32_t dep
     expect(label.refused == 0 && label.state == state && label.depth == depth && label.slot == slot, "a label");
 }
 
+static void spoils(yeqontur_table table, uint32_t slot, uint32_t refused, uint32_t spoiled, uint32_t atom,
+                   uint32_t place) {
+    yeqontur_spoiler_answer answer = yeqontur_spoiler(table, slot);
+    expect(answer.refused == refused && answer.spoiled == spoiled && answer.atom == atom && answer.place == place,
+           "the entry that spoils a rule, its list and its place");
+}
+
+/* A rule that holds 7 in both lists: needed while it is out, and what blocks once it is in. 3 is in. */
+static void sides(yeqontur_table table) {
+    const uint32_t positives[] = {3, 7}, negatives[] = {5, 6, 7};
+    table = added(table, 9, positives, 2, negatives, 3, 4);
+    spoils(table, 4, 0, 1, 7, 1);
+    table = added(table, 7, NULL, 0, NULL, 0, 5);
+    spoils(table, 4, 0, 2, 7, 2);
+}
+
 int main(void) {
     const uint32_t one = 1, two = 2, three = 3;
     uint32_t buffer[4] = {91, 92, 93, 94};
@@ -56,8 +72,12 @@ int main(void) {
     is(table, 1, 1, 0, 0);
     is(table, 3, 2, 1, 3);
     is(table, 200, 0, 0, 0);
-    yeqontur_spoiler_answer spoiler = yeqontur_spoiler(table, 1);
-    expect(spoiler.refused == 0 && spoiler.spoiled == 1 && spoiler.atom == 3, "the entry that spoils a rule");
+    spoils(table, 0, 0, 1, 2, 0);
+    spoils(table, 1, 0, 2, 3, 0);
+    spoils(table, 3, 0, 0, 0, 0);
+    spoils(table, 4, 9, 0, 0, 0);
+    spoils(table, 256, 8, 0, 0, 0);
+    sides(table);
 
     yeqontur_change change = yeqontur_remove(table, 3);
     expect(change.refused == 0, "an accepted removal");
@@ -80,6 +100,7 @@ int main(void) {
 
     memset(&table, 0xA5, sizeof table);
     expect(yeqontur_label(table, 1).refused == 15, "any bytes are a table, and this one is not sound");
+    spoils(table, 1, 15, 0, 0, 0);
 
     printf("C caller: %d passed, %d failed\n", passed, failed);
     return failed != 0;

@@ -1,12 +1,16 @@
 //! Random sequences of all calls, with random buffers and damaged tables.
 
-use oracle::calls::{Answer, Call, Spoiler};
+use oracle::calls::{Answer, Call, Validity};
 use oracle::generate;
 use oracle::labels::Label;
 use oracle::questions::Refusal;
 use oracle::random::Random;
+use oracle::relations::{Side, Spoiler};
 use oracle::table::{RawLabel, RawRule, RawTable};
 use yeqontur::raw;
+
+/// How many differences are shown; the rest are counted.
+const SHOWN: usize = 10;
 
 /// An answer in numbers, comparable on both sides: the refusal with its needed length, or the values.
 #[derive(PartialEq, Eq, Debug)]
@@ -54,11 +58,20 @@ fn slow(told: Result<Answer, Refusal>) -> Told {
         Ok(Answer::Label(Label::Absent)) => vec![0, 0, 0],
         Ok(Answer::Label(Label::Out)) => vec![1, 0, 0],
         Ok(Answer::Label(Label::In { depth, slot })) => vec![2, depth, slot],
-        Ok(Answer::Spoiler(Spoiler::Valid)) => vec![0, 0],
-        Ok(Answer::Spoiler(Spoiler::Atom(atom))) => vec![1, atom],
+        Ok(Answer::Spoiler(Validity::Valid)) => vec![0, 0, 0],
+        Ok(Answer::Spoiler(Validity::Spoiled(spoiler))) => stopper(spoiler),
         Ok(Answer::Count(count)) => vec![count],
     };
     Told::Values(values)
+}
+
+/// An entry that spoils as the boundary has it: 1 for the positive list or 2 for the negative, then atom and place.
+fn stopper(Spoiler { side, place, atom }: Spoiler) -> Vec<u32> {
+    let spoiled = match side {
+        Side::Positive => 1,
+        Side::Negative => 2,
+    };
+    vec![spoiled, atom, place]
 }
 
 fn told(refused: u32, needed: usize, values: Vec<u32>) -> Told {
@@ -102,7 +115,8 @@ fn proved(call: &Call, table: &mut raw::Table, buffer: &mut [u32]) -> Told {
         }
         Call::Spoiler { slot } => {
             let spoiler = raw::spoiler(table, *slot);
-            told(spoiler.refused, 0, vec![spoiler.spoiled, spoiler.atom])
+            let values = vec![spoiler.spoiled, spoiler.atom, spoiler.place];
+            told(spoiler.refused, 0, values)
         }
         _ => unreachable!("lists are answered above"),
     }
@@ -151,7 +165,9 @@ pub fn compare(seed: u64, count: usize) -> usize {
             let call = generate::calls::call(&mut random, atoms, 2 * atoms);
             made += 1;
             if let Some(difference) = differs(&call, &mut table, &mut random) {
-                println!("call {made} of seed {seed}: {difference}");
+                if failed < SHOWN {
+                    println!("call {made} of seed {seed}: {difference}");
+                }
                 failed += 1;
                 break;
             }

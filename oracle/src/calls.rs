@@ -4,16 +4,16 @@ use crate::labels::{Label, Labelled};
 use crate::limits::{ATOMS, SLOTS};
 use crate::loops::has_loop_through_negation;
 use crate::questions::{rule_from, Refusal};
-use crate::relations;
+use crate::relations::{self, Spoiler};
 use crate::rules::{held, Rule};
 use crate::sound::sound_content;
 use crate::table::RawTable;
 
 /// What the spoiler call answers for a held rule.
 #[derive(Clone, Copy, PartialEq, Eq, Debug)]
-pub enum Spoiler {
+pub enum Validity {
     Valid,
-    Atom(u32),
+    Spoiled(Spoiler),
 }
 
 /// Question 15.
@@ -86,10 +86,10 @@ pub fn label(table: &RawTable, atom: u32) -> Result<Label, Refusal> {
     Ok(ask_atom(table, atom)?.label(atom))
 }
 
-pub fn spoiler(table: &RawTable, slot: u32) -> Result<Spoiler, Refusal> {
+pub fn spoiler(table: &RawTable, slot: u32) -> Result<Validity, Refusal> {
     let labelled = ask_sound(table)?;
     let rule = ask_held(&labelled, slot)?;
-    Ok(relations::spoiler(&labelled, rule).map_or(Spoiler::Valid, Spoiler::Atom))
+    Ok(relations::spoiler(&labelled, rule).map_or(Validity::Valid, Validity::Spoiled))
 }
 
 pub fn justifications(table: &RawTable, atom: u32, buffer: &mut [u32]) -> Result<u32, Refusal> {
@@ -157,7 +157,7 @@ pub enum Answer {
     Slot(u32),
     Accepted,
     Label(Label),
-    Spoiler(Spoiler),
+    Spoiler(Validity),
     Count(u32),
 }
 

@@ -6,17 +6,38 @@ use crate::labels::{Label, Labelled};
 use crate::limits::ATOMS;
 use crate::rules::{held, Rule};
 
+/// The list that an entry stands in.
+#[derive(Clone, Copy, PartialEq, Eq, Debug)]
+pub enum Side {
+    Positive,
+    Negative,
+}
+
+/// The entry that spoils a rule: its atom, its list, and its place in that list, from 0.
+#[derive(Clone, Copy, PartialEq, Eq, Debug)]
+pub struct Spoiler {
+    pub side: Side,
+    pub place: u32,
+    pub atom: u32,
+}
+
 /// The first spoiling entry, the positive list read first: a positive entry spoils if it is
 /// not in, a negative one if it is. `None` for a valid rule.
-pub fn spoiler(labelled: &Labelled, rule: &Rule) -> Option<u32> {
-    let positive = rule.positives.iter().find(|&&atom| !labelled.is_in(atom));
-    positive
-        .or_else(|| rule.negatives.iter().find(|&&atom| labelled.is_in(atom)))
-        .copied()
+pub fn spoiler(labelled: &Labelled, rule: &Rule) -> Option<Spoiler> {
+    first(Side::Positive, &rule.positives, |atom| {
+        !labelled.is_in(atom)
+    })
+    .or_else(|| first(Side::Negative, &rule.negatives, |atom| labelled.is_in(atom)))
+}
+
+/// The first entry of a list that spoils.
+fn first(side: Side, list: &[u32], spoils: impl Fn(u32) -> bool) -> Option<Spoiler> {
+    let (place, &atom) = (0..).zip(list).find(|&(_, &atom)| spoils(atom))?;
+    Some(Spoiler { side, place, atom })
 }
 
 /// All entries of the supporting rule of an in atom; the spoilers of the rules of an out
-/// atom; nothing for an absent one.
+/// atom; nothing for an absent one. A set of atoms: list and place don't matter.
 pub fn support(labelled: &Labelled, atom: u32) -> AtomSet {
     let rules_of_atom = held(&labelled.program).filter(|(_, rule)| rule.head == atom);
     match labelled.label(atom) {
@@ -27,6 +48,7 @@ pub fn support(labelled: &Labelled, atom: u32) -> AtomSet {
             .collect(),
         Label::Out => rules_of_atom
             .filter_map(|(_, rule)| spoiler(labelled, rule))
+            .map(|spoiler| spoiler.atom)
             .collect(),
     }
 }

@@ -1,6 +1,6 @@
 //! Rules from a scan, their labels, why a label stands, and a refusal.
 
-use yeqontur::{Because, Label, Refusal, Stop, Table, Why};
+use yeqontur::{Because, Label, Refusal, Side, Table, Why};
 
 /// What a scan of the folder found.
 struct File {
@@ -79,9 +79,9 @@ fn show(why: &Why, indent: usize) {
         Because::Supported { from, .. } => from.iter().for_each(|w| show(w, indent + 2)),
         Because::Stopped(rules) => {
             for stopped in rules {
-                let how = match stopped.stop {
-                    Stop::Needs => "needs",
-                    Stop::BlockedBy => "is blocked by",
+                let how = match stopped.side {
+                    Side::Positive => "needs",
+                    Side::Negative => "is blocked by",
                 };
                 let (slot, by) = (stopped.rule.slot, name(stopped.by.atom));
                 println!("{:indent$}  slot {slot} {how} {by}", "");

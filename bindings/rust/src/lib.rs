@@ -22,6 +22,6 @@ mod why;
 pub use label::Label;
 pub use raw::List;
 pub use refusal::Refusal;
-pub use rule::{Rule, Validity};
+pub use rule::{Rule, Side, Validity};
 pub use table::Table;
-pub use why::{Because, Stop, Stopped, Why};
+pub use why::{Because, Stopped, Why};

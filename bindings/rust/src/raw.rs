@@ -55,13 +55,15 @@ pub struct LabelAnswer {
     pub slot: u32,
 }
 
-/// `spoiled` is 0 for a valid rule, else 1, and then `atom` is the entry.
+/// `spoiled` is 0 for a valid rule, 1 if it needs `atom` and 2 if it is blocked by `atom`; `place` is that of the entry
+/// in the positive (1) or the negative list (2), from 0.
 #[repr(C)]
-#[derive(Clone, Copy)]
+#[derive(Clone, Copy, PartialEq, Eq, Debug)]
 pub struct SpoilerAnswer {
     pub refused: u32,
     pub spoiled: u32,
     pub atom: u32,
+    pub place: u32,
 }
 
 /// `count` is how many entries were written, or with refusal 11 how many are needed.

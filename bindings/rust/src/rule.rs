@@ -12,14 +12,43 @@ pub struct Rule {
     pub negatives: Vec<u32>,
 }
 
-/// Whether a rule is valid, or the first entry that spoils it.
+/// The list that the entry that stops a rule stands in, and so how it stops it.
+#[derive(Clone, Copy, PartialEq, Eq, Debug)]
+pub enum Side {
+    /// The rule needs the atom, which is out.
+    Positive,
+    /// The rule is blocked by the atom, which is in.
+    Negative,
+}
+
+/// Whether a rule is valid, or the first entry that spoils it: its list, its place in that list, from 0, and its atom.
 #[derive(Clone, Copy, PartialEq, Eq, Debug)]
 pub enum Validity {
     Valid,
-    Spoiled { atom: u32 },
+    Spoiled { side: Side, place: u32, atom: u32 },
+}
+
+impl Validity {
+    /// What the numbers of the boundary stand for.
+    pub(crate) fn from_numbers(spoiled: u32, place: u32, atom: u32) -> Validity {
+        let side = match spoiled {
+            0 => return Validity::Valid,
+            1 => Side::Positive,
+            _ => Side::Negative,
+        };
+        Validity::Spoiled { side, place, atom }
+    }
 }
 
 impl Rule {
+    /// One of the two lists.
+    pub fn list(&self, side: Side) -> &[u32] {
+        match side {
+            Side::Positive => &self.positives,
+            Side::Negative => &self.negatives,
+        }
+    }
+
     /// The rule of a slot that holds one, in a sound table.
     fn read(slot: u32, rule: &raw::Rule) -> Rule {
         let (positives, rest) = rule.entries.split_at(rule.positives.into());

@@ -64,13 +64,10 @@ impl Table {
         answered(told.refused, 0, label)
     }
 
-    /// Whether the rule in the slot is valid, or what stops it.
+    /// Whether the rule in the slot is valid, or the first entry that stops it, the positive list read first.
     pub fn spoiler(&self, slot: u32) -> Result<Validity, Refusal> {
         let told = raw::spoiler(&self.0, slot);
-        let validity = match told.spoiled {
-            0 => Validity::Valid,
-            _ => Validity::Spoiled { atom: told.atom },
-        };
+        let validity = Validity::from_numbers(told.spoiled, told.place, told.atom);
         answered(told.refused, 0, validity)
     }
 

@@ -1,6 +1,6 @@
 //! Why an atom has its label, as a tree put together from the library's answers.
 
-use crate::{raw, Label, Refusal, Rule, Table, Validity};
+use crate::{raw, Label, Refusal, Rule, Side, Table, Validity};
 
 /// An atom, its label, and why it has it.
 #[derive(Clone, PartialEq, Eq, Debug)]
@@ -30,18 +30,12 @@ pub enum Because {
 #[derive(Clone, PartialEq, Eq, Debug)]
 pub struct Stopped {
     pub rule: Rule,
-    pub stop: Stop,
-    /// The entry, with its own reason.
+    /// The entry's list: the rule needs a positive entry, and is blocked by a negative one.
+    pub side: Side,
+    /// The entry's place in that list, from 0.
+    pub place: u32,
+    /// The entry's atom, with its own reason.
     pub by: Why,
-}
-
-/// How an entry stops a rule.
-#[derive(Clone, Copy, PartialEq, Eq, Debug)]
-pub enum Stop {
-    /// The rule needs the atom, which is out.
-    Needs,
-    /// The rule is blocked by the atom, which is in.
-    BlockedBy,
 }
 
 /// How far the reason of an atom has been told.
@@ -105,14 +99,15 @@ impl Teller<'_> {
     fn stopped(&mut self, atom: u32) -> Result<(Because, usize), Refusal> {
         let mut rules = Vec::new();
         for slot in self.table.justifications(atom)? {
-            if let Validity::Spoiled { atom } = self.table.spoiler(slot)? {
+            if let Validity::Spoiled { side, place, atom } = self.table.spoiler(slot)? {
                 let rule = self.table.rule(slot)?;
                 let by = self.why(atom)?;
-                let stop = match by.label {
-                    Label::In { .. } => Stop::BlockedBy,
-                    _ => Stop::Needs,
-                };
-                rules.push(Stopped { rule, stop, by });
+                rules.push(Stopped {
+                    rule,
+                    side,
+                    place,
+                    by,
+                });
             }
         }
         let branches = rules.len();

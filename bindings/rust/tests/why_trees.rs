@@ -4,7 +4,7 @@ mod common;
 
 use common::{fourth_example, table, Random};
 use std::collections::BTreeSet;
-use yeqontur::{Because, Label, Stop, Table, Validity, Why};
+use yeqontur::{Because, Label, Side, Table, Validity, Why};
 
 /// The tree on one line: `1 in 2 by 0 (2 in 1 by 2)`, `1 out (0 needs 2 out)`.
 fn told(why: &Why) -> String {
@@ -19,11 +19,11 @@ fn told(why: &Why) -> String {
         Because::Stopped(rules) => rules
             .iter()
             .map(|s| {
-                let stop = match s.stop {
-                    Stop::Needs => "needs",
-                    Stop::BlockedBy => "blocked by",
+                let how = match s.side {
+                    Side::Positive => "needs",
+                    Side::Negative => "blocked by",
                 };
-                format!("{} {stop} {}", s.rule.slot, told(&s.by))
+                format!("{} {how} {}", s.rule.slot, told(&s.by))
             })
             .collect(),
         Because::Above => vec!["above".to_string()],
@@ -138,14 +138,11 @@ fn holds(t: &Table, why: &Why) {
             let slots: Vec<u32> = rules.iter().map(|s| s.rule.slot).collect();
             assert_eq!(t.justifications(why.atom), Ok(slots));
             for s in rules {
-                let atom = s.by.atom;
-                assert_eq!(t.spoiler(s.rule.slot), Ok(Validity::Spoiled { atom }));
-                assert_eq!(s.stop == Stop::BlockedBy, s.by.label.is_in());
-                let list = match s.stop {
-                    Stop::Needs => &s.rule.positives,
-                    Stop::BlockedBy => &s.rule.negatives,
-                };
-                assert!(list.contains(&atom));
+                let (side, place, atom) = (s.side, s.place, s.by.atom);
+                let stopper = Validity::Spoiled { side, place, atom };
+                assert_eq!(t.spoiler(s.rule.slot), Ok(stopper));
+                assert_eq!(side == Side::Negative, s.by.label.is_in());
+                assert_eq!(s.rule.list(side)[place as usize], atom);
             }
         }
         (Because::Above, Label::Out) | (Because::Absent, Label::Absent) => {}

@@ -1,7 +1,7 @@
 -- Refusals by their numbers, and answers in the words of the theory. Assumes nothing.
 use Prim.Native.Nat.{ℕ}
 use mathlib.Core.Option.{Option, none, some}
-use Rattle.theory.specs.Labels.{absent, out, in-at}
+use Rattle.theory.specs.Labels.{absent, out, in-at, Side, positive, negative}
 use Rattle.theory.specs.Labels as theory
 use Rattle.theory.specs.Book as book
 use Rattle.calls.specs.declared.Refusal.{Refusal}
@@ -48,6 +48,10 @@ tellLabel out = labelled.Out
 tellLabel (in-at d s) = labelled.In d (record { 0 = s })
 
 -- The answer that tells a rule's spoiler.
-abbrev pub tellSpoiler : Option ℕ → SpoilerAnswer
+abbrev pub tellEntry : Side → ℕ → ℕ → SpoilerAnswer
+tellEntry positive i x = spoilt.Positive i (record { 0 = x })
+tellEntry negative i x = spoilt.Negative i (record { 0 = x })
+
+abbrev pub tellSpoiler : Option theory.Spoiler → SpoilerAnswer
 tellSpoiler none = spoilt.Valid
-tellSpoiler (some x) = spoilt.Spoiled (record { 0 = x })
+tellSpoiler (some s) = tellEntry (s .side) (s .place) (s .atom)

@@ -75,7 +75,7 @@ pub data LabelEnds (t : Table) (a : ℕ) : LabelAnswer → Type 0 where
       (M : AtomSet) (l : theory-labels.Label) → Sound t → first-no (atom-questions document a) ≡ none
       → Admissible (held t) M → Labelled (held t) M a l → LabelEnds t a (tellLabel l)
 
--- Spoiler: 15, 8, 9. Answers valid, or the atom.
+-- Spoiler: 15, 8, 9. Answers valid, or the entry that spoils: its list, its place there and the atom.
 pub data SpoilerEnds (t : Table) (s : ℕ) : SpoilerAnswer → Type 0 where
   unsound : (Sound t → ⊥) → SpoilerEnds t s (spoilt.Refused Unsound)
   refused :

@@ -55,9 +55,11 @@ pub enum LabelAnswer {
     Refused(Refusal),
 }
 
+// The entry that spoils a rule: its place in the positive or the negative list, from 0, and the atom.
 pub enum SpoilerAnswer {
     Valid,
-    Spoiled(Atom),
+    Positive(u8, Atom),
+    Negative(u8, Atom),
     Refused(Refusal),
 }
 

@@ -64,9 +64,9 @@ spoiler-told x y e = ap crossedSpoiler (sym e)
 
 pub spoiler-refused :
     (x : SpoilerAnswer) (f : Refusal) (n : ℕ) → x ≡ spoilt.Refused f → n ≡ numberOf f
-    → _≡_ {A = RuleSpoiler} (record { refused = n; spoiled = 0; atom = 0 }) (crossedSpoiler x)
+    → _≡_ {A = RuleSpoiler} (record { refused = n; spoiled = 0; place = 0; atom = 0 }) (crossedSpoiler x)
 spoiler-refused x f n e d =
-    ap (λ (k : ℕ). record { refused = k; spoiled = 0; atom = 0 }) d ∙ spoiler-told x (spoilt.Refused f) e
+    ap (λ (k : ℕ). record { refused = k; spoiled = 0; place = 0; atom = 0 }) d ∙ spoiler-told x (spoilt.Refused f) e
 
 pub list-told : (x y : ListAnswer) → x ≡ y → crossedList y ≡ crossedList x
 list-told x y e = ap crossedList (sym e)

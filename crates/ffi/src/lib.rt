@@ -41,12 +41,14 @@ pub struct AtomLabel {
     pub slot: u32,
 }
 
-// `spoiled` is 0 for a valid rule, else 1, and `atom` the entry that spoils it.
+// `spoiled` is 0 for a valid rule, 1 if the rule needs a positive entry that is out, 2 if it is blocked by a negative
+// entry that is in. `atom` is that entry, `place` where it stands in its list, from 0.
 #[repr(C)]
 pub struct RuleSpoiler {
     pub refused: u32,
     pub spoiled: u32,
     pub atom: u32,
+    pub place: u32,
 }
 
 // How many entries were written; with refusal 11, how many are needed.
@@ -152,16 +154,25 @@ fn crossed_spoiler(answer: SpoilerAnswer) -> RuleSpoiler
         SpoilerAnswer::Valid => RuleSpoiler {
             refused: 0,
             spoiled: 0,
+            place: 0,
             atom: 0,
         },
-        SpoilerAnswer::Spoiled(a) => RuleSpoiler {
+        SpoilerAnswer::Positive(i, a) => RuleSpoiler {
             refused: 0,
             spoiled: 1,
+            place: i as u32,
+            atom: a.0 as u32,
+        },
+        SpoilerAnswer::Negative(i, a) => RuleSpoiler {
+            refused: 0,
+            spoiled: 2,
+            place: i as u32,
             atom: a.0 as u32,
         },
         SpoilerAnswer::Refused(f) => RuleSpoiler {
             refused: refusal_number(f),
             spoiled: 0,
+            place: 0,
             atom: 0,
         },
     }

@@ -13,7 +13,8 @@ use Rattle.theory.specs.Lists.{_∈_, Lists}
 use Rattle.theory.specs.Rules.{Rule, Program, Held}
 use Rattle.theory.specs.Models.{AtomSet, valid, Admissible}
 use Rattle.theory.specs.Dependencies.{NegativeCycle}
-use Rattle.theory.specs.Labels.{Label, absent, out, in-at, Labelled, is-absent, is-out, is-in, spoiler}
+use Rattle.theory.specs.Labels.{Label, absent, out, in-at, Labelled, is-absent, is-out, is-in}
+use Rattle.theory.specs.Labels.{Spoiler, spoiler, Spoils}
 use Rattle.theory.specs.Questions.{is-in-label, first-no, add-questions, slot-questions, atom-questions, put-in}
 use Rattle.theory.specs.Questions.{asks, is-some}
 use Rattle.theory.specs.Book.{Call, add, remove, Answer, refused, slot, accepted, empty, answer, after, answers}
@@ -38,7 +39,7 @@ use Rattle.calls.specs.Answers.{bookAdd, bookRemove, tellLabel, tellSpoiler}
 use Rattle.calls.specs.Contracts as contract
 use Rattle.calls.specs.Contracts.{held, AddEnds, RemoveEnds, LabelEnds, SpoilerEnds}
 use Rattle.calls.proofs.Determined.{same-model, label-determined, spoiler-determined}
-use Rattle.history.specs.Claim.{Step, adds, removes, Trace, stop, call, bookAfter, Supported, Spoils}
+use Rattle.history.specs.Claim.{Step, adds, removes, Trace, stop, call, bookAfter, Supported}
 use Rattle.history.specs.Claim.{History, InModel}
 
 -- What a call on a sound table answers and leaves is what the book does, and the table stays sound.
@@ -121,10 +122,10 @@ in-supported P M A a d s (is-in t D S) =
       few = λ xs L. depth-count P M (A .founded) xs (λ x i. L .exactly x .1 i) a d t D;
     }
 
--- A rule of an out atom has a spoiler, which really spoils it.
+-- A rule of an out atom has a spoiler, which really spoils it, and before which no entry does.
 out-spoiled :
     (P : Program) (M : AtomSet) → Admissible P M → (a s : ℕ) (r : Rule) → Labelled P M a out → Held P s r
-    → r .head ≡ a → (x : ℕ) × (spoiler M r ≡ some x) × Spoils M r x
+    → r .head ≡ a → (x : Spoiler) × (spoiler M r ≡ some x) × Spoils M r x
 out-spoiled P M A a s r (is-out o n) h e = ⊎-elim
     (λ (t : valid M r ≡ true). absurd (clash (ap M (sym e) ∙ A .closed s r h t) n))
     (λ (t : valid M r ≡ false). (let w = spoiler-exists M r t in (w .0, w .1, spoils M r (w .0) (w .1))))

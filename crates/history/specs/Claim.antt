@@ -2,8 +2,8 @@
 -- claimed after it: answers, rules, labels, depths, supports and spoilers are those of the plain book. Assumes nothing.
 use Prim.Native.Nat.{ℕ, _≤_, _<_}
 use mathlib.Core.Path.{_≡_}
-use mathlib.Core.Logic.{_⊎_, _↔_}
-use mathlib.Core.Bool.{true, false}
+use mathlib.Core.Logic.{_↔_}
+use mathlib.Core.Bool.{true}
 use mathlib.Core.List.{List, [], _∷_}
 use mathlib.Core.Option.{none, some}
 use lib.ListN.{length}
@@ -12,7 +12,7 @@ use Rattle.theory.specs.Rules.{Rule, Program, Held}
 use Rattle.theory.specs.Models.{AtomSet, valid, Admissible}
 use Rattle.theory.specs.Dependencies.{NegativeCycle}
 use Rattle.theory.specs.Derivations.{Derivation}
-use Rattle.theory.specs.Labels.{Label, out, in-at, Labelled, Shallower, spoiler}
+use Rattle.theory.specs.Labels.{Label, out, in-at, Labelled, Shallower, Spoiler, spoiler, Spoils}
 use Rattle.theory.specs.Questions.{is-in-label, lowest-free, put-in}
 use Rattle.theory.specs.Book.{Call, add, remove, Answer, empty, answers, after-all}
 use Rattle.theory.specs.Tables.{document}
@@ -54,10 +54,6 @@ pub record Supported (P : Program) (M : AtomSet) (a depth slot : ℕ) : Type 0 w
   pub fewest : (h : ℕ) → Derivation P M a h → depth ≤ h
   pub few : (xs : List ℕ) → Lists xs (λ x. M x ≡ true) → depth ≤ length xs
 
--- An entry x really spoils a rule: it is positive and out, or negative and in.
-abbrev pub Spoils : AtomSet → Rule → ℕ → Type 0
-Spoils M r x = ((x ∈ r .positives) × (M x ≡ false)) ⊎ ((x ∈ r .negatives) × (M x ≡ true))
-
 -- Demand 3: after the calls cs, with the answers xs, the table is t.
 pub record History (cs : List Call) (xs : List Answer) (t : Table) : Type 0 where
   -- each answer is the book's, and each slot holds what the page of its number holds
@@ -79,10 +75,10 @@ pub record History (cs : List Call) (xs : List Answer) (t : Table) : Type 0 wher
   pub spoiler-answer :
       (s : ℕ) (r : Rule) → Held (bookAfter cs) s r → (x : SpoilerAnswer) → SpoilerEnds t s x
       → x ≡ tellSpoiler (spoiler model r)
-  -- and each rule of an out atom shows the first entry that really spoils it
+  -- and each rule of an out atom shows the first entry that really spoils it: on its side, at its place
   pub spoiled :
       (a : ℕ) → a < document .atoms → labelAt (t .labels) a ≡ out → (s : ℕ) (r : Rule) → Held (bookAfter cs) s r
-      → r .head ≡ a → (x : ℕ) × (spoiler model r ≡ some x) × Spoils model r x
+      → r .head ≡ a → (x : Spoiler) × (spoiler model r ≡ some x) × Spoils model r x
 
 -- Demand 2, of a table handed back: an atom is in if and only if it is in the admissible model of the rules now held.
 abbrev pub InModel : Table → Type 0

@@ -14,14 +14,14 @@ use lib.Seq.{take-suc, getD-set-same, getD-set-other}
 use Rattle.theory.specs.Lists.{_∈_, Steps, one, more}
 use Rattle.theory.specs.Rules.{Rule, Program, entries, Bounded}
 use Rattle.theory.specs.Models.{AtomSet}
-use Rattle.theory.specs.Labels.{Supporting, spoiler}
+use Rattle.theory.specs.Labels.{Supporting, Spoiler, spoiler}
 use Rattle.theory.specs.Explanations.{Affected, Repercussion}
 use Rattle.theory.specs.Explanations as explained
 use Rattle.theory.specs.Tables.{document}
 use Rattle.theory.proofs.Lists.{le-or-lt, clash}
 use Rattle.theory.proofs.Rules.{held-unique}
 use Rattle.theory.proofs.Questions.{held-below}
-use Rattle.theory.proofs.Labels.{supporting-unique, spoils}
+use Rattle.theory.proofs.Labels.{supporting-unique, spoils, spoiler-entry}
 use Rattle.table.specs.declared.Atom.{Atom}
 use Rattle.table.specs.Rules.{numbers, noAtom}
 use Rattle.reach.specs.Edges.{Edge, Reached}
@@ -217,7 +217,7 @@ entering-over r xs j {n} {n′} {from} {to} {from′} {to′} l e E = record {
 module _ (M : AtomSet) (s : ℕ → ℕ) (i : ℕ) (o : Option Rule) where
   pub gives-free : o ≡ none → (x h : ℕ) → Gives M s i o x h → ⊥
   gives-free e x h (edges.entry r u t k F) = (let z : _≡_ {A = ℕ} 0 1 = cc in omega arith)
-  gives-free e x h (edges.spoils r u t k m) = (let z : _≡_ {A = ℕ} 0 1 = cc in omega arith)
+  gives-free e x h (edges.spoils r z u t k m d) = (let z : _≡_ {A = ℕ} 0 1 = cc in omega arith)
 
   module _ (q : Rule) (held : o ≡ some q) where
     same : (r : Rule) → o ≡ some r → q ≡ r
@@ -227,7 +227,7 @@ module _ (M : AtomSet) (s : ℕ → ℕ) (i : ℕ) (o : Option Rule) where
     pub gives-other : M (q .head) ≡ true → (s (q .head) ≡ i → ⊥) → (x h : ℕ) → Gives M s i o x h → ⊥
     gives-other t n x h (edges.entry r u v k F) =
         n (ap s (ap (λ (z : Rule). z .head) (same r u) ∙ F .heads) ∙ k)
-    gives-other t n x h (edges.spoils r u v k m) =
+    gives-other t n x h (edges.spoils r z u v k m d) =
         clash t (ap M (ap (λ (z : Rule). z .head) (same r u) ∙ k) ∙ v)
 
     -- the head is in, and this slot supports it
@@ -237,26 +237,28 @@ module _ (M : AtomSet) (s : ℕ → ℕ) (i : ℕ) (o : Option Rule) where
 
     pub entries-give : M (q .head) ≡ true → (x h : ℕ) → Gives M s i o x h → FromEntries q x h
     entries-give t x h (edges.entry r u v k F) = subst (λ (z : Rule). FromEntries z x h) (sym (same r u)) F
-    entries-give t x h (edges.spoils r u v k m) =
+    entries-give t x h (edges.spoils r z u v k m d) =
         absurd (clash t (ap M (ap (λ (z : Rule). z .head) (same r u) ∙ k) ∙ v))
 
-    -- the head is out: the spoiler, if there is one
+    -- the head is out: the spoiler's atom, if there is one
     pub gives-spoiler :
-        M (q .head) ≡ false → (x h : ℕ) → Gives M s i o x h → (spoiler M q ≡ some x) × (h ≡ q .head)
+        M (q .head) ≡ false → (x h : ℕ) → Gives M s i o x h
+        → (z : Spoiler) × (spoiler M q ≡ some z) × (z .atom ≡ x) × (h ≡ q .head)
     gives-spoiler t x h (edges.entry r u v k F) =
         absurd (clash (ap M (ap (λ (z : Rule). z .head) (same r u) ∙ F .heads) ∙ v) t)
-    gives-spoiler t x h (edges.spoils r u v k m) =
-        (ap (spoiler M) (same r u) ∙ m, sym (ap (λ (z : Rule). z .head) (same r u) ∙ k))
+    gives-spoiler t x h (edges.spoils r z u v k m d) =
+        (z, ap (spoiler M) (same r u) ∙ m, d, sym (ap (λ (z : Rule). z .head) (same r u) ∙ k))
 
     pub gives-nothing : M (q .head) ≡ false → spoiler M q ≡ none → (x h : ℕ) → Gives M s i o x h → ⊥
-    gives-nothing t e x h g = Option·none-ne-some x (sym e ∙ gives-spoiler t x h g .0)
+    gives-nothing t e x h g = (let w = gives-spoiler t x h g in Option·none-ne-some (w .0) (sym e ∙ w .1))
 
     pub gives-one :
-        M (q .head) ≡ false → (a : ℕ) → spoiler M q ≡ some a → (x h : ℕ) → Gives M s i o x h
-        → (x ≡ a) × (h ≡ q .head)
-    gives-one t a e x h g =
+        M (q .head) ≡ false → (z : Spoiler) → spoiler M q ≡ some z → (x h : ℕ) → Gives M s i o x h
+        → (x ≡ z .atom) × (h ≡ q .head)
+    gives-one t z e x h g =
         let w = gives-spoiler t x h g in
-        (Option·some-injective x a (sym (w .0) ∙ e), w .1)
+        let one : w .0 ≡ z = Option·some-injective (w .0) z (sym (w .1) ∙ e) in
+        (sym (w .2) ∙ ap (λ (y : Spoiler). y .atom) one, w .3)
 
 -- The slots below i make x affect h.
 pub record Given (P : Program) (M : AtomSet) (s : ℕ → ℕ) (i x h : ℕ) : Type 0 where
@@ -311,7 +313,7 @@ module _ (P : Program) (M : AtomSet) (s : ℕ → ℕ) (room : ℕ) where
         go : Gives M s (g .slot) (getD P (g .slot) none) x h → Affected P M x h
         go (edges.entry r u t k F) =
             explained.entry (g .slot) r t (subst (λ (z : ℕ). Supporting P M h z) k (supports h t)) u (F .there)
-        go (edges.spoils r u t k m) = explained.spoils (g .slot) r t u k m
+        go (edges.spoils r z u t k m d) = explained.spoils (g .slot) r z t u k m d
 
     affected-given : (i x h : ℕ) → length P ≤ i → Affected P M x h → Given P M s i x h
     affected-given i x h l (explained.entry k r t S held m) = record {
@@ -323,10 +325,10 @@ module _ (P : Program) (M : AtomSet) (s : ℕ → ℕ) (room : ℕ) where
             ∙ S .supports .heads;
       });
     }
-    affected-given i x h l (explained.spoils k r t held e m) = record {
+    affected-given i x h l (explained.spoils k r z t held e m d) = record {
       slot = k;
       low = omega (arith, held-below P k r held);
-      gives = edges.spoils r held t e m;
+      gives = edges.spoils r z held t e m d;
     }
 
     affected-atoms : (x h : ℕ) → Affected P M x h → (x < document .atoms) × (h < document .atoms)
@@ -334,11 +336,9 @@ module _ (P : Program) (M : AtomSet) (s : ℕ → ℕ) (room : ℕ) where
       B k r held x (List·Memᴰ·tail m),
       B k (S .supports .rule) (S .supports .held) h (List·Memᴰ·head (sym (S .supports .heads))),
     )
-    affected-atoms x h (explained.spoils k r t held e m) = (
-      B k r held x (List·Memᴰ·tail (⊎-elim
-          (λ (w : (x ∈ r .positives) × (M x ≡ false)). Memᴰ·append-left (r .negatives) (w .0))
-          (λ (w : (x ∈ r .negatives) × (M x ≡ true)). Memᴰ·append-right (r .positives) (w .0))
-          (spoils M r x m))),
+    affected-atoms x h (explained.spoils k r z t held e m d) = (
+      B k r held x (List·Memᴰ·tail
+          (subst (λ (y : ℕ). y ∈ entries r) d (spoiler-entry M r z (spoils M r z m)))),
       B k r held h (List·Memᴰ·head (sym e)),
     )
 

@@ -9,7 +9,7 @@ use lib.ListN.{length, getD, set}
 use Rattle.theory.specs.Lists.{_∈_}
 use Rattle.theory.specs.Rules.{Rule, entries}
 use Rattle.theory.specs.Models.{AtomSet}
-use Rattle.theory.specs.Labels.{spoiler}
+use Rattle.theory.specs.Labels.{Spoiler, spoiler}
 use Rattle.theory.specs.Tables.{document}
 
 -- One of the first n edges leads from x to h.
@@ -40,7 +40,9 @@ pub record FromEntries (r : Rule) (x h : ℕ) : Type 0 where
   pub heads : r .head ≡ h
 
 -- Slot i, which is o, makes x affect h. In M, an in atom h has the supporting slot s h, and all entries x of its rule
--- affect h; an out atom is affected by the spoilers of its rules.
+-- affect h; an out atom is affected by the atoms of its rules' spoilers.
 pub data Gives (M : AtomSet) (s : ℕ → ℕ) (i : ℕ) (o : Option Rule) (x h : ℕ) : Type 0 where
   entry : (r : Rule) → o ≡ some r → M h ≡ true → s h ≡ i → FromEntries r x h → Gives M s i o x h
-  spoils : (r : Rule) → o ≡ some r → M h ≡ false → r .head ≡ h → spoiler M r ≡ some x → Gives M s i o x h
+  spoils :
+      (r : Rule) (z : Spoiler) → o ≡ some r → M h ≡ false → r .head ≡ h → spoiler M r ≡ some z → z .atom ≡ x
+      → Gives M s i o x h

@@ -55,7 +55,7 @@ fn add_entries(rule: Rule, from: &mut [u16; EDGES], to: &mut [u16; EDGES], count
 }
 
 // The edges that a slot gives. If its rule is the supporting rule of an in atom, one from each entry to the head; if
-// the head is out, one from the rule's spoiler to the head.
+// the head is out, one from the atom of the rule's spoiler to the head.
 fn add_slot(
     rule: Rule,
     slot: u16,
@@ -82,7 +82,8 @@ fn add_slot(
     let found = spoiler(rule, flags);
     match found {
         Spoiler::Nothing => count,
-        Spoiler::Entry(a) => add_edge(from, to, count, a, head),
+        Spoiler::Positive(_, a) => add_edge(from, to, count, a, head),
+        Spoiler::Negative(_, a) => add_edge(from, to, count, a, head),
     }
 }
 

@@ -34,6 +34,7 @@ pub fn tell_spoiler(rule: Rule, flags: &[bool; Table::ATOMS]) -> SpoilerAnswer
     let found = spoiler(rule, flags);
     match found {
         Spoiler::Nothing => SpoilerAnswer::Valid,
-        Spoiler::Entry(a) => SpoilerAnswer::Spoiled(a),
+        Spoiler::Positive(i, a) => SpoilerAnswer::Positive(i, a),
+        Spoiler::Negative(i, a) => SpoilerAnswer::Negative(i, a),
     }
 }

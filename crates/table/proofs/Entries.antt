@@ -7,20 +7,23 @@ use mathlib.Core.Path.{_≡_, refl, sym, _∙_, ap, ap₂}
 use mathlib.Core.Logic.{⊎-elim}
 use mathlib.Core.Bool.{Bool, true, false, not, _&&_}
 use mathlib.Core.List.{List, [], _∷_, _++_, map-append}
-use mathlib.Core.Option.{Option, none, some, Option·none-ne-some}
+use mathlib.Core.Option.{none, some, Option·none-ne-some}
 use lib.ListN.{length, getD, take, drop, set, length-map, length-take, drop-of-length-le}
 use lib.ListN.{List·getD-map, List·getD-eq-default}
-use lib.Seq.{slice, slice-cons, take-add, take-suc, take-suc-set, take-all, take-nil}
-use Rattle.theory.specs.Lists.{every, first}
+use lib.Seq.{slice, slice-cons, length-slice, getD-drop, getD-take}
+use lib.Seq.{take-add, take-suc, take-suc-set, take-all, take-nil}
+use Rattle.theory.specs.Lists.{every, before}
 use Rattle.theory.specs.Rules as theory
 use Rattle.theory.specs.Models.{AtomSet, valid}
-use Rattle.theory.specs.Labels.{spoiler}
-use Rattle.theory.proofs.Lists.{le-or-lt, unless}
-use Rattle.theory.proofs.Labels.{no-spoiler-valid, valid-no-spoiler}
+use Rattle.theory.specs.Labels.{Side, positive, negative, first-on, spoiler}
+use Rattle.theory.specs.Labels as labels
+use Rattle.theory.proofs.Lists.{before-hit, before-miss, first-past, first-there, le-or-lt, unless}
+use Rattle.theory.proofs.Labels.{first-on-none, first-on-some, no-spoiler-valid, spoiler-negative, spoiler-positive}
+use Rattle.theory.proofs.Labels.{valid-no-spoiler}
 use Rattle.table.specs.declared.Atom.{Atom}
 use Rattle.table.specs.declared.Rule.{Rule}
 use Rattle.table.specs.declared.Spoiler.{Spoiler}
-use Rattle.table.specs.declared.Spoiler.the-variants.{Nothing, Entry}
+use Rattle.table.specs.declared.Spoiler.the-variants.{Nothing, Positive, Negative}
 use Rattle.table.specs.Rules.{numbers, ruleOf, spoilerOf, noAtom}
 
 -- Past its end an array reads as the default.
@@ -35,15 +38,6 @@ module _ (xs : List Atom) (j n : ℕ) where
   pub part-next :
       j < n → n ≤ length xs → numbers (slice j n xs) ≡ getD xs j noAtom .0 ∷ numbers (slice (j + 1) n xs)
   part-next l k = rw (add-one, slice-cons j n xs noAtom)
-
--- The first that passes, by the test of the first entry.
-first-yes : (f : ℕ → Bool) (x : ℕ) (xs : List ℕ) → f x ≡ true → first f (x ∷ xs) ≡ some x
-unfolding first
-first-yes f x xs t = ap (λ b. elim b [ true ↦ some x | false ↦ first f xs ]) t
-
-first-not : (f : ℕ → Bool) (x : ℕ) (xs : List ℕ) → f x ≡ false → first f (x ∷ xs) ≡ first f xs
-unfolding first
-first-not f x xs t = ap (λ b. elim b [ true ↦ some x | false ↦ first f xs ]) t
 
 -- What a walk over the entries learns of the whole: at each entry, and past the last.
 module _ (f : ℕ → Bool) (xs : List Atom) (j n : ℕ) where
@@ -66,19 +60,47 @@ module _ (f : ℕ → Bool) (xs : List Atom) (j n : ℕ) where
       j < n → n ≤ length xs → f (getD xs j noAtom .0) ≡ false → every f (numbers (slice j n xs)) ≡ false
   every-stop l k t = every-step l k ∙ ap (λ b. b && every f (numbers (slice (j + 1) n xs))) t
 
-  pub first-over : n ≤ j → first f (numbers (slice j n xs)) ≡ none
-  unfolding first
-  first-over l = rw (part-over xs j n l)
+  pub before-over : n ≤ j → j + before f (numbers (slice j n xs)) ≡ j
+  unfolding before
+  before-over l = rw (part-over xs j n l) (omega arith)
 
-  pub first-next :
+  pub before-next :
       j < n → n ≤ length xs → f (getD xs j noAtom .0) ≡ false
-      → first f (numbers (slice j n xs)) ≡ first f (numbers (slice (j + 1) n xs))
-  first-next l k t = ap (first f) (part-next xs j n l k) ∙ first-not f _ _ t
+      → j + before f (numbers (slice j n xs)) ≡ (j + 1) + before f (numbers (slice (j + 1) n xs))
+  before-next l k t =
+      let e = ap (before f) (part-next xs j n l k) ∙ before-miss f _ _ t in
+      omega (arith, e)
 
-  pub first-stop :
-      j < n → n ≤ length xs → f (getD xs j noAtom .0) ≡ true
-      → first f (numbers (slice j n xs)) ≡ some (getD xs j noAtom .0)
-  first-stop l k t = ap (first f) (part-next xs j n l k) ∙ first-yes f _ _ t
+  pub before-stop :
+      j < n → n ≤ length xs → f (getD xs j noAtom .0) ≡ true → j + before f (numbers (slice j n xs)) ≡ j
+  before-stop l k t =
+      let e = ap (before f) (part-next xs j n l k) ∙ before-hit f _ _ t in
+      omega (arith, e)
+
+-- Where a walk over the part from j to below n stopped, at k: at the first entry that passes, or past the part.
+module _ (d : Side) (f : ℕ → Bool) (xs : List Atom) (j n : ℕ) (in-it : n ≤ length xs) (k : ℕ)
+    (stopped : k ≡ j + before f (numbers (slice j n xs))) where
+  part-long : length (numbers (slice j n xs)) ≡ n - j
+  part-long = length-map (slice j n xs) (λ a. a .0) ∙ length-slice j n xs in-it
+
+  part-entry : k < n → getD (numbers (slice j n xs)) (before f (numbers (slice j n xs))) 0 ≡ getD xs k noAtom .0
+  part-entry l =
+      let b = before f (numbers (slice j n xs)) in
+      List·getD-map (λ a. a .0) (slice j n xs) b noAtom
+      ∙ ap (λ (a : Atom). a .0) (getD-drop j (take n xs) b noAtom
+      ∙ getD-take n xs (j + b) noAtom (omega (arith, stopped)) ∙ ap (λ i. getD xs i noAtom) (sym stopped))
+
+  pub part-found :
+      k < n
+      → first-on d f (numbers (slice j n xs))
+      ≡ some (record { side = d; place = k - j; atom = getD xs k noAtom .0 })
+  part-found l =
+      let e : before f (numbers (slice j n xs)) ≡ k - j = omega (arith, stopped) in
+      first-on-some d f _ _ (first-there f _ (omega (arith, part-long, stopped)))
+      ∙ ap₂ (λ i a. some (record { side = d; place = i; atom = a })) e (part-entry l)
+
+  pub part-none : n ≤ k → first-on d f (numbers (slice j n xs)) ≡ none
+  part-none l = first-on-none d f _ (first-past f _ (omega (arith, part-long, stopped)))
 
 -- A list cut at its own length, or beyond it, is whole.
 take-min : {A : Type 0} (n : ℕ) (xs : List A) → take (min n (length xs)) xs ≡ take n xs
@@ -132,34 +154,36 @@ module _ (r : Rule) (b : ℕ) (long : length (r .entries) ≡ b) (n : ℕ) (here
         ∙ front (take m (r .entries)) (simp length-take (omega arith)))
 
     module _ (M : AtomSet) where
-      -- the spoiler: the first of the positive part that is out, or else of the negative part that is in
-      spoiler-parts :
-          (o : Option ℕ) → o ≡ first (λ x. not (M x)) (numbers (slice 0 n (r .entries)))
-          → spoiler M (ruleOf r) ≡ elim o [ some x ↦ some x | none ↦ first M (numbers (slice n m (r .entries))) ]
-      unfolding spoiler
-      spoiler-parts o p =
-          ap₂ (λ q ns. elim q [ some x ↦ some x | none ↦ first M ns ])
-          (ap (first (λ x. not (M x))) positives-are ∙ sym p) negatives-are
+      -- the walk over the positive part stopped at i, the one over the negative part at k
+      module _ (i : ℕ) (at-i : i ≡ 0 + before (λ x. not (M x)) (numbers (slice 0 n (r .entries)))) where
+        pub spoiler-needs : i < n → spoilerOf (Positive i (getD (r .entries) i noAtom)) ≡ spoiler M (ruleOf r)
+        spoiler-needs l =
+            let e : i - 0 ≡ i = omega arith in
+            let out = part-found positive (λ x. not (M x)) (r .entries) 0 n (omega arith) i at-i l in
+            sym (spoiler-positive M (ruleOf r) _ (rw positives-are (rw e at out)))
 
-      pub spoiler-found :
-          (f : Spoiler) (a : Atom) → f ≡ Entry a
-          → spoilerOf f ≡ first (λ x. not (M x)) (numbers (slice 0 n (r .entries)))
-          → spoilerOf (Entry a) ≡ spoiler M (ruleOf r)
-      spoiler-found f a e p = sym (spoiler-parts (some (a .0)) (ap spoilerOf (sym e) ∙ p))
+        no-positive : n ≤ i → spoiler M (ruleOf r) ≡ first-on negative M (numbers (slice n m (r .entries)))
+        no-positive l =
+            let in-all = part-none positive (λ x. not (M x)) (r .entries) 0 n (omega arith) i at-i l in
+            spoiler-negative M (ruleOf r) (rw positives-are in-all) ∙ ap (first-on negative M) negatives-are
 
-      pub spoiler-else :
-          (f g : Spoiler) → f ≡ Nothing
-          → spoilerOf f ≡ first (λ x. not (M x)) (numbers (slice 0 n (r .entries)))
-          → spoilerOf g ≡ first M (numbers (slice n m (r .entries))) → spoilerOf g ≡ spoiler M (ruleOf r)
-      spoiler-else f g e p q = q ∙ sym (spoiler-parts none (ap spoilerOf (sym e) ∙ p))
+        module _ (over : n ≤ i) (k : ℕ) (at-k : k ≡ n + before M (numbers (slice n m (r .entries)))) where
+          pub spoiler-blocked :
+              k < m → spoilerOf (Negative (k - n) (getD (r .entries) k noAtom)) ≡ spoiler M (ruleOf r)
+          spoiler-blocked l =
+              sym (no-positive over ∙ part-found negative M (r .entries) n m (omega arith) k at-k l)
+
+          pub spoiler-nothing : m ≤ k → spoilerOf Nothing ≡ spoiler M (ruleOf r)
+          spoiler-nothing l =
+              sym (no-positive over ∙ part-none negative M (r .entries) n m (omega arith) k at-k l)
 
 -- A rule is valid exactly if no entry spoils it.
 
 pub spoiled-not-valid :
-    (M : AtomSet) (r : theory.Rule) (f : Spoiler) (a : Atom) → f ≡ Entry a → spoilerOf f ≡ spoiler M r
-    → false ≡ valid M r
-spoiled-not-valid M r f a e p =
-    sym (unless _ (λ v. Option·none-ne-some (a .0) (sym (valid-no-spoiler M r v) ∙ sym p ∙ ap spoilerOf e)))
+    (M : AtomSet) (r : theory.Rule) (f g : Spoiler) (s : labels.Spoiler) → f ≡ g → spoilerOf g ≡ some s
+    → spoilerOf f ≡ spoiler M r → false ≡ valid M r
+spoiled-not-valid M r f g s e q p =
+    sym (unless _ (λ v. Option·none-ne-some s (sym (valid-no-spoiler M r v) ∙ sym p ∙ ap spoilerOf e ∙ q)))
 
 pub unspoiled-valid :
     (M : AtomSet) (r : theory.Rule) (f : Spoiler) → f ≡ Nothing → spoilerOf f ≡ spoiler M r → true ≡ valid M r

@@ -5,10 +5,12 @@ use mathlib.Core.Option.{Option, none, some}
 use lib.ListN.{take, drop}
 use Rattle.theory.specs.Rules.{Program}
 use Rattle.theory.specs.Rules as theory
+use Rattle.theory.specs.Labels.{positive, negative}
+use Rattle.theory.specs.Labels as labels
 use Rattle.table.specs.declared.Atom.{Atom}
 use Rattle.table.specs.declared.Rule.{Rule}
 use Rattle.table.specs.declared.Spoiler.{Spoiler}
-use Rattle.table.specs.declared.Spoiler.the-variants.{Nothing, Entry}
+use Rattle.table.specs.declared.Spoiler.the-variants.{Nothing, Positive, Negative}
 
 -- Atoms by their numbers.
 abbrev pub numbers : List Atom → List ℕ
@@ -37,9 +39,10 @@ abbrev pub programOf : List Rule → Program
 programOf rules = map slotOf rules
 
 -- The spoiler that an answer names, if it names one.
-abbrev pub spoilerOf : Spoiler → Option ℕ
+abbrev pub spoilerOf : Spoiler → Option labels.Spoiler
 spoilerOf Nothing = none
-spoilerOf (Entry a) = some (a .0)
+spoilerOf (Positive i a) = some (record { side = positive; place = i; atom = a .0 })
+spoilerOf (Negative i a) = some (record { side = negative; place = i; atom = a .0 })
 
 -- What an array of slots, or of entries, reads as past its end.
 abbrev pub noAtom : Atom

@@ -40,10 +40,11 @@ pub struct Table {
     pub labels: [Label; Table::ATOMS],
 }
 
-// The first entry that spoils a rule, if one does.
+// The first entry that spoils a rule, if one does: its place in the positive or the negative list, from 0, and atom.
 pub enum Spoiler {
     Nothing,
-    Entry(Atom),
+    Positive(u8, Atom),
+    Negative(u8, Atom),
 }
 
 impl Table {

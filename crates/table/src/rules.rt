@@ -6,7 +6,7 @@ use super::sets::has;
 ghost use mathlib.Core.Path.{_≡_};
 ghost use Prim.Native.Nat.{_+_, _≤_, min};
 ghost use lib.Seq.{slice};
-ghost use Rattle.theory.specs.Lists.{first};
+ghost use Rattle.theory.specs.Lists.{before};
 ghost use Rattle.theory.specs.Models.{valid};
 ghost use Rattle.theory.specs.Labels.{spoiler};
 ghost use Rattle.theory.specs.Rules.{same};
@@ -38,16 +38,17 @@ pub fn negative_end(rule: Rule) -> usize
     }
 }
 
-// The first entry from `from` to below `to` that is in the set (`wanted` true) or out of it (`wanted` false).
+// Where among the entries, from `from` to below `to`, stands the first that is in the set (`wanted` true) or out of it
+// (`wanted` false)? Past them, if none is.
 fn first_standing(
     rule: Rule,
     from: usize,
     to: usize,
     flags: &[bool; Table::ATOMS],
     wanted: bool,
-) -> Spoiler
+) -> usize
     requires { ⌜ to ≤ document .entries ⌝ }
-    ensures { λ r. ⌜ spoilerOf r ≡ first (standing wanted (member (now (flags .entry))))
+    ensures { λ r. ⌜ r ≡ from + before (standing wanted (member (now (flags .entry))))
         (numbers (slice from to (rule .entries))) ⌝ }
 {
     let mut j = from;
@@ -55,11 +56,11 @@ fn first_standing(
         let a = rule.entries[j];
         let is_in = has(flags, a);
         if is_in == wanted {
-            return Spoiler::Entry(a);
+            return j;
         }
         j += 1;
     }
-    Spoiler::Nothing
+    j
 }
 
 // The first entry that keeps the rule from being valid in the set: the positive list is read first.
@@ -68,11 +69,17 @@ pub fn spoiler(rule: Rule, flags: &[bool; Table::ATOMS]) -> Spoiler
 {
     let p = positive_end(rule);
     let n = negative_end(rule);
-    let found = first_standing(rule, 0, p, flags, false);
-    match found {
-        Spoiler::Entry(a) => Spoiler::Entry(a),
-        Spoiler::Nothing => first_standing(rule, p, n, flags, true),
+    let i = first_standing(rule, 0, p, flags, false);
+    if i < p {
+        let a = rule.entries[i];
+        return Spoiler::Positive(i as u8, a);
     }
+    let j = first_standing(rule, p, n, flags, true);
+    if j < n {
+        let a = rule.entries[j];
+        return Spoiler::Negative((j - p) as u8, a);
+    }
+    Spoiler::Nothing
 }
 
 // Is the rule valid in the set: every positive entry in it, no negative entry? So does no entry spoil it?
@@ -81,8 +88,9 @@ pub fn valid(rule: Rule, flags: &[bool; Table::ATOMS]) -> bool
 {
     let found = spoiler(rule, flags);
     match found {
-        Spoiler::Entry(a) => false,
         Spoiler::Nothing => true,
+        Spoiler::Positive(i, a) => false,
+        Spoiler::Negative(i, a) => false,
     }
 }
 

@@ -5,19 +5,20 @@ use native.Mathlib.Omega.{arith}
 use mathlib.Core.Path.{_≡_, refl, sym, _∙_, ap, ap₂, subst, fun-ext}
 use mathlib.Core.Logic.{_⊎_, inl, inr, ⊎-elim, _↔_}
 use mathlib.Core.Bool.{Bool, true, false, not, _&&_, true≢false}
-use mathlib.Core.List.{List, [], _∷_, List·Memᴰ, List·Memᴰ·head, List·Memᴰ·tail, List·Memᴰ·cases-cons}
-use mathlib.Core.List.{List·Memᴰ·not-nil}
+use mathlib.Core.List.{List, [], _∷_, List·Memᴰ·head, Memᴰ·append-left, Memᴰ·append-right}
 use lib.Dec.{eqb}
 use lib.ListN.{getD}
 use mathlib.Core.Option.{Option, none, some, Option·some-injective, Option·none-ne-some}
-use Rattle.theory.specs.Lists.{_∈_, every, first}
-use Rattle.theory.specs.Rules.{Occurs, passes, Program, Rule}
+use Rattle.theory.specs.Lists.{_∈_, before, every, first}
+use Rattle.theory.specs.Rules.{entries, Occurs, passes, Program, Rule}
 use Rattle.theory.specs.Models.{AtomSet, Founded, valid}
 use Rattle.theory.specs.Derivations.{Depth}
-use Rattle.theory.specs.Labels.{absent, in-at, is-absent, is-in, is-out, Label, Labelled, out, spoiler}
-use Rattle.theory.specs.Labels.{Supporting, Supports}
+use Rattle.theory.specs.Labels.{absent, in-at, is-absent, is-in, is-out, Label, Labelled, out}
+use Rattle.theory.specs.Labels.{Supporting, Supports, Side, positive, negative, Spoiler, first-on, spoiler}
+use Rattle.theory.specs.Labels.{Spoils, needs, blocked}
 use Rattle.theory.proofs.Lists.{and-l, and-of, and-r, clash, eqb-eq, eqb-of, every-at, every-of, le-or-lt}
-use Rattle.theory.proofs.Lists.{least, not-false, not-true, test}
+use Rattle.theory.proofs.Lists.{before-hit, first-hit, first-in, first-miss, first-none, first-place, least}
+use Rattle.theory.proofs.Lists.{not-false, not-true, test}
 use Rattle.theory.proofs.Rules.{occurs-at, occurs-of, occurs-test, rules-at, valid-negative, valid-of}
 use Rattle.theory.proofs.Rules.{valid-positive}
 use Rattle.theory.proofs.Derivations.{entry, last}
@@ -143,81 +144,118 @@ label-moves P M N e a l w = subst (λ (X : AtomSet). Labelled P X a l) (fun-ext 
 
 -- Spoilers.
 
-first-hit : (f : ℕ → Bool) (y : ℕ) (ys : List ℕ) → f y ≡ true → first f (y ∷ ys) ≡ some y
-unfolding first
-first-hit f y ys t = rw (t, first)
+module _ (d : Side) (f : ℕ → Bool) (xs : List ℕ) where
+  pub first-on-some :
+      (x : ℕ) → first f xs ≡ some x → first-on d f xs ≡ some (record { side = d; place = before f xs; atom = x })
+  unfolding first-on
+  first-on-some x e = rw (e, first-on)
 
-first-miss : (f : ℕ → Bool) (y : ℕ) (ys : List ℕ) → f y ≡ false → first f (y ∷ ys) ≡ first f ys
-unfolding first
-first-miss f y ys t = rw (t, first)
-
-first-at : (f : ℕ → Bool) (xs : List ℕ) (x : ℕ) → first f xs ≡ some x → (x ∈ xs) × (f x ≡ true)
-first-at f [] x e = absurd (Option·none-ne-some x (unfold first in e))
-first-at f (y ∷ ys) x e = ⊎-elim
-    (λ (t : f y ≡ true).
-    (let q : y ≡ x = Option·some-injective y x (sym (first-hit f y ys t) ∙ e) in
-    (List·Memᴰ·head (sym q), sym (ap f q) ∙ t)))
-    (λ (t : f y ≡ false). (let w = first-at f ys x (sym (first-miss f y ys t) ∙ e) in (List·Memᴰ·tail (w .0), w .1)))
-    (test (f y))
-
-first-none : (f : ℕ → Bool) (xs : List ℕ) → first f xs ≡ none → (x : ℕ) → x ∈ xs → f x ≡ false
-first-none f [] e x m = absurd (List·Memᴰ·not-nil m)
-first-none f (y ∷ ys) e x m = ⊎-elim
-    (λ (t : f y ≡ true). absurd (Option·none-ne-some y (sym e ∙ first-hit f y ys t)))
-    (λ (t : f y ≡ false). ⊎-elim (λ (q : x ≡ y). ap f q ∙ t)
-    (λ (m′ : x ∈ ys). first-none f ys (sym (first-miss f y ys t) ∙ e) x m′) (List·Memᴰ·cases-cons m))
-    (test (f y))
+  pub first-on-none : first f xs ≡ none → first-on d f xs ≡ none
+  unfolding first-on
+  first-on-none e = rw (e, first-on)
 
 -- The positive list is read first: a spoiling positive entry comes before any negative one.
 pub spoiler-positive :
-    (M : AtomSet) (r : Rule) (x : ℕ) → first (λ y. not (M y)) (r .positives) ≡ some x → spoiler M r ≡ some x
+    (M : AtomSet) (r : Rule) (s : Spoiler) → first-on positive (λ y. not (M y)) (r .positives) ≡ some s
+    → spoiler M r ≡ some s
 unfolding spoiler
-spoiler-positive M r x e = rw (e, spoiler)
+spoiler-positive M r s e = rw (e, spoiler)
 
 pub spoiler-negative :
-    (M : AtomSet) (r : Rule) → first (λ y. not (M y)) (r .positives) ≡ none → spoiler M r ≡ first M (r .negatives)
+    (M : AtomSet) (r : Rule) → first-on positive (λ y. not (M y)) (r .positives) ≡ none
+    → spoiler M r ≡ first-on negative M (r .negatives)
 unfolding spoiler
 spoiler-negative M r e = rw (e, spoiler)
 
--- A spoiler spoils: a positive entry that is out, or a negative one that is in.
-pub spoils :
-    (M : AtomSet) (r : Rule) (x : ℕ) → spoiler M r ≡ some x
-    → ((x ∈ r .positives) × (M x ≡ false)) ⊎ ((x ∈ r .negatives) × (M x ≡ true))
-spoils M r x e = go (first (λ y. not (M y)) (r .positives)) refl
+-- Two cases: no entry spoils, or the spoiler is found and spoils.
+data Read (M : AtomSet) (r : Rule) : Type 0 where
+  nothing :
+      first (λ y. not (M y)) (r .positives) ≡ none → first M (r .negatives) ≡ none → spoiler M r ≡ none → Read M r
+  found : (s : Spoiler) → spoiler M r ≡ some s → Spoils M r s → Read M r
+
+all-in : (M : AtomSet) (xs : List ℕ) → first (λ y. not (M y)) xs ≡ none → (x : ℕ) → x ∈ xs → M x ≡ true
+all-in M xs e x m = not-false (M x) (first-none (λ y. not (M y)) xs e x m)
+
+read : (M : AtomSet) (r : Rule) → Read M r
+read M r = go (first (λ y. not (M y)) (r .positives)) refl (first M (r .negatives)) refl
   where
-    go : (o : Option ℕ) → first (λ y. not (M y)) (r .positives) ≡ o
-        → ((x ∈ r .positives) × (M x ≡ false)) ⊎ ((x ∈ r .negatives) × (M x ≡ true))
-    go (some y) h =
-        let q : some y ≡ some x = sym (spoiler-positive M r y h) ∙ e in
-        let w = first-at (λ y. not (M y)) (r .positives) x (h ∙ q) in
-        inl (w .0, not-true _ (w .1))
-    go none h = inr (first-at M (r .negatives) x (sym (spoiler-negative M r h) ∙ e))
+    go : (o : Option ℕ) → first (λ y. not (M y)) (r .positives) ≡ o → (q : Option ℕ) → first M (r .negatives) ≡ q
+        → Read M r
+    go (some x) h q k =
+        found _ (spoiler-positive M r _ (first-on-some positive (λ y. not (M y)) (r .positives) x h))
+        (needs (first-place (λ y. not (M y)) (r .positives) x h))
+    go none h (some x) k =
+        found _ (spoiler-negative M r (first-on-none positive (λ y. not (M y)) (r .positives) h)
+        ∙ first-on-some negative M (r .negatives) x k)
+        (blocked (all-in M (r .positives) h) (first-place M (r .negatives) x k))
+    go none h none k =
+        nothing h k (spoiler-negative M r (first-on-none positive (λ y. not (M y)) (r .positives) h)
+        ∙ first-on-none negative M (r .negatives) k)
+
+-- The spoiler stands at its place of its list and really spoils; no entry before it does.
+pub spoils : (M : AtomSet) (r : Rule) (s : Spoiler) → spoiler M r ≡ some s → Spoils M r s
+spoils M r s e = go (read M r)
+  where
+    go : Read M r → Spoils M r s
+    go (nothing p n h) = absurd (Option·none-ne-some s (sym h ∙ e))
+    go (found z h w) = subst (Spoils M r) (Option·some-injective z s (sym h ∙ e)) w
+
+-- An atom alone in both lists: if it is out the rule needs it, if it is in the rule is blocked by it.
+
+alone :
+    (d : Side) (f : ℕ → Bool) (x : ℕ) → f x ≡ true
+    → first-on d f (x ∷ []) ≡ some (record { side = d; place = 0; atom = x })
+alone d f x t =
+    first-on-some d f (x ∷ []) x (first-hit f x [] t)
+    ∙ ap (λ i. some (record { side = d; place = i; atom = x })) (before-hit f x [] t)
+
+pub both-needed :
+    (M : AtomSet) (h x : ℕ) → M x ≡ false
+    → spoiler M (record { head = h; positives = x ∷ []; negatives = x ∷ [] })
+    ≡ some (record { side = positive; place = 0; atom = x })
+both-needed M h x t = spoiler-positive M _ _ (alone positive (λ y. not (M y)) x (ap not t))
+
+pub both-blocked :
+    (M : AtomSet) (h x : ℕ) → M x ≡ true
+    → spoiler M (record { head = h; positives = x ∷ []; negatives = x ∷ [] })
+    ≡ some (record { side = negative; place = 0; atom = x })
+unfolding first
+both-blocked M h x t =
+    let in-all = first-miss (λ y. not (M y)) x [] (ap not t) in
+    spoiler-negative M _ (first-on-none positive (λ y. not (M y)) (x ∷ []) in-all) ∙ alone negative M x t
+
+-- The spoiler's atom is an entry of the rule.
+pub spoiler-entry : (M : AtomSet) (r : Rule) (s : Spoiler) → Spoils M r s → s .atom ∈ entries r
+spoiler-entry M r s (needs w) = Memᴰ·append-left (r .negatives) (first-in _ (r .positives) _ _ w)
+spoiler-entry M r s (blocked p w) = Memᴰ·append-right (r .positives) (first-in _ (r .negatives) _ _ w)
+
+-- A rule that an entry spoils is not valid.
+spoilt-invalid : (M : AtomSet) (r : Rule) (s : Spoiler) → Spoils M r s → valid M r ≡ true → ⊥
+spoilt-invalid M r s (needs {x = x} w) v =
+    clash (valid-positive M r v x (first-in _ (r .positives) _ x w)) (not-true _ (w .good))
+spoilt-invalid M r s (blocked {x = x} p w) v =
+    clash (w .good) (valid-negative M r v x (first-in _ (r .negatives) _ x w))
 
 -- A rule has no spoiler if and only if it is valid.
 
 pub no-spoiler-valid : (M : AtomSet) (r : Rule) → spoiler M r ≡ none → valid M r ≡ true
-no-spoiler-valid M r e = go (first (λ y. not (M y)) (r .positives)) refl
+no-spoiler-valid M r e = go (read M r)
   where
-    go : (o : Option ℕ) → first (λ y. not (M y)) (r .positives) ≡ o → valid M r ≡ true
-    go (some y) h = absurd (Option·none-ne-some y (sym e ∙ spoiler-positive M r y h))
-    go none h = valid-of M r
-        (λ p m. not-false (M p) (first-none (λ y. not (M y)) (r .positives) h p m))
-        (λ n m. first-none M (r .negatives) (sym (spoiler-negative M r h) ∙ e) n m)
+    go : Read M r → valid M r ≡ true
+    go (nothing p n h) = valid-of M r (all-in M (r .positives) p) (first-none M (r .negatives) n)
+    go (found s h w) = absurd (Option·none-ne-some s (sym e ∙ h))
 
 pub valid-no-spoiler : (M : AtomSet) (r : Rule) → valid M r ≡ true → spoiler M r ≡ none
-valid-no-spoiler M r v = go (spoiler M r) refl
+valid-no-spoiler M r v = go (read M r)
   where
-    go : (o : Option ℕ) → spoiler M r ≡ o → spoiler M r ≡ none
-    go none e = e
-    go (some x) e = ⊎-elim
-        (λ (w : (x ∈ r .positives) × (M x ≡ false)). absurd (clash (valid-positive M r v x (w .0)) (w .1)))
-        (λ (w : (x ∈ r .negatives) × (M x ≡ true)). absurd (clash (w .1) (valid-negative M r v x (w .0))))
-        (spoils M r x e)
+    go : Read M r → spoiler M r ≡ none
+    go (nothing p n h) = h
+    go (found s h w) = absurd (spoilt-invalid M r s w v)
 
 -- a rule that is not valid has a spoiler
-pub spoiler-exists : (M : AtomSet) (r : Rule) → valid M r ≡ false → (x : ℕ) × (spoiler M r ≡ some x)
+pub spoiler-exists : (M : AtomSet) (r : Rule) → valid M r ≡ false → (s : Spoiler) × (spoiler M r ≡ some s)
 spoiler-exists M r v = go (spoiler M r) refl
   where
-    go : (o : Option ℕ) → spoiler M r ≡ o → (x : ℕ) × (spoiler M r ≡ some x)
+    go : (o : Option Spoiler) → spoiler M r ≡ o → (s : Spoiler) × (spoiler M r ≡ some s)
     go none e = absurd (clash (no-spoiler-valid M r e) v)
-    go (some x) e = (x, e)
+    go (some s) e = (s, e)

@@ -8,9 +8,10 @@ use mathlib.Core.Logic.{_⊎_, inl, inr, ⊎-elim, _↔_}
 use mathlib.Core.Bool.{Bool, true, false, not, _&&_, _||_, true≢false}
 use mathlib.Core.List.{List, [], _∷_, List·Memᴰ, List·Memᴰ·head, List·Memᴰ·tail, List·Memᴰ·cases-cons}
 use mathlib.Core.List.{List·Memᴰ·not-nil}
+use mathlib.Core.Option.{none, some, Option·some-injective, Option·none-ne-some}
 use lib.Dec.{T, eqb, leb, ltb, eqb→eq, eqb-refl, leb→le, ltb→lt, le→leb, lt→ltb}
-use lib.ListN.{length}
-use Rattle.theory.specs.Lists.{_∈_, agree, any, every}
+use lib.ListN.{length, getD}
+use Rattle.theory.specs.Lists.{_∈_, agree, any, before, every, first, FirstAt}
 
 -- Tests.
 
@@ -147,6 +148,86 @@ mem-in x xs t = let w = any-at (eqb x) xs t in subst (λ (y : ℕ). y ∈ xs) (s
 
 pub in-mem : (x : ℕ) (xs : List ℕ) → x ∈ xs → mem x xs ≡ true
 in-mem x xs m = any-of (eqb x) xs x m (eqb-of x x refl)
+
+-- The first entry that passes, and its place: by the test of the head, then of the whole list.
+
+module _ (f : ℕ → Bool) where
+  pub first-hit : (y : ℕ) (ys : List ℕ) → f y ≡ true → first f (y ∷ ys) ≡ some y
+  unfolding first
+  first-hit y ys t = rw (t, first)
+
+  pub first-miss : (y : ℕ) (ys : List ℕ) → f y ≡ false → first f (y ∷ ys) ≡ first f ys
+  unfolding first
+  first-miss y ys t = rw (t, first)
+
+  pub before-hit : (y : ℕ) (ys : List ℕ) → f y ≡ true → before f (y ∷ ys) ≡ 0
+  unfolding before
+  before-hit y ys t = rw (t, before)
+
+  pub before-miss : (y : ℕ) (ys : List ℕ) → f y ≡ false → before f (y ∷ ys) ≡ suc (before f ys)
+  unfolding before
+  before-miss y ys t = rw (t, before)
+
+  pub first-none : (xs : List ℕ) → first f xs ≡ none → (x : ℕ) → x ∈ xs → f x ≡ false
+  first-none [] e x m = absurd (List·Memᴰ·not-nil m)
+  first-none (y ∷ ys) e x m = ⊎-elim
+      (λ (t : f y ≡ true). absurd (Option·none-ne-some y (sym e ∙ first-hit y ys t)))
+      (λ (t : f y ≡ false). ⊎-elim (λ (q : x ≡ y). ap f q ∙ t)
+      (λ (m′ : x ∈ ys). first-none ys (sym (first-miss y ys t) ∙ e) x m′) (List·Memᴰ·cases-cons m))
+      (test (f y))
+
+  -- The first entry that passes stands at the place counted.
+  pub first-place : (xs : List ℕ) (x : ℕ) → first f xs ≡ some x → FirstAt f xs (before f xs) x
+  first-place [] x e = absurd (Option·none-ne-some x (unfold first in e))
+  first-place (y ∷ ys) x e = ⊎-elim
+      (λ (t : f y ≡ true). (
+      let q : y ≡ x = Option·some-injective y x (sym (first-hit y ys t) ∙ e) in
+      rw (before-hit y ys t)
+      (record { low = omega arith; there = q; good = sym (ap f q) ∙ t; earlier = λ j l. absurd (omega arith) })))
+      (λ (t : f y ≡ false). (
+      let w = first-place ys x (sym (first-miss y ys t) ∙ e) in
+      rw (before-miss y ys t)
+      (record {
+        low = omega (arith, w .low);
+        there = w .there;
+        good = w .good;
+        earlier = λ j l. after t w j l;
+      })))
+      (test (f y))
+    where
+      after :
+          f y ≡ false → FirstAt f ys (before f ys) x → (j : ℕ) → j < suc (before f ys)
+          → f (getD (y ∷ ys) j 0) ≡ false
+      after t w zero l = t
+      after t w (suc j) l = w .earlier j (omega arith)
+
+  -- Where fewer stand before it than the list has, that entry is the first that passes; else none passes.
+  pub first-there : (xs : List ℕ) → before f xs < length xs → first f xs ≡ some (getD xs (before f xs) 0)
+  first-there [] l = absurd (omega arith)
+  first-there (y ∷ ys) l = ⊎-elim
+      (λ (t : f y ≡ true). (rw (before-hit y ys t) (first-hit y ys t)))
+      (λ (t : f y ≡ false). (
+      let k : before f ys < length ys = omega (arith, before-miss y ys t) in
+      rw (before-miss y ys t) (first-miss y ys t ∙ first-there ys k)))
+      (test (f y))
+
+  pub first-past : (xs : List ℕ) → length xs ≤ before f xs → first f xs ≡ none
+  unfolding first
+  first-past [] l = refl
+  first-past (y ∷ ys) l = ⊎-elim
+      (λ (t : f y ≡ true). absurd (omega (arith, before-hit y ys t)))
+      (λ (t : f y ≡ false). (
+      let k : length ys ≤ before f ys = omega (arith, before-miss y ys t) in
+      first-miss y ys t ∙ first-past ys k))
+      (test (f y))
+
+pub first-in : (f : ℕ → Bool) (xs : List ℕ) (i x : ℕ) → FirstAt f xs i x → x ∈ xs
+first-in f xs i x w = subst (λ (y : ℕ). y ∈ xs) (w .there) (entry-in xs i (w .low))
+  where
+    entry-in : (xs : List ℕ) (i : ℕ) → i < length xs → getD xs i 0 ∈ xs
+    entry-in [] i l = absurd (omega arith)
+    entry-in (y ∷ ys) zero l = List·Memᴰ·head refl
+    entry-in (y ∷ ys) (suc i) l = List·Memᴰ·tail (entry-in ys i (omega arith))
 
 -- Lists that agree entry for entry are equal.
 pub agree-eq : (xs ys : List ℕ) → agree xs ys ≡ true → xs ≡ ys

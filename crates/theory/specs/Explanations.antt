@@ -9,13 +9,15 @@ use Rattle.theory.specs.Lists.{_∈_, Sorted, Steps}
 use Rattle.theory.specs.Rules.{Rule, Program, Held, entries}
 use Rattle.theory.specs.Models.{AtomSet}
 use Rattle.theory.specs.Derivations.{Depth}
-use Rattle.theory.specs.Labels.{Supporting, spoiler}
+use Rattle.theory.specs.Labels.{Supporting, Spoiler, spoiler}
 
 -- The support of an in atom h is the set of all entries x of its supporting rule;
--- of an out atom, the set of the spoilers of its rules.
+-- of an out atom, the set of the atoms of its rules' spoilers.
 pub data Support (P : Program) (M : AtomSet) (h x : ℕ) : Type 0 where
   entry : (s : ℕ) (r : Rule) → M h ≡ true → Supporting P M h s → Held P s r → x ∈ entries r → Support P M h x
-  spoils : (s : ℕ) (r : Rule) → M h ≡ false → Held P s r → r .head ≡ h → spoiler M r ≡ some x → Support P M h x
+  spoils :
+      (s : ℕ) (r : Rule) (z : Spoiler) → M h ≡ false → Held P s r → r .head ≡ h → spoiler M r ≡ some z → z .atom ≡ x
+      → Support P M h x
 
 -- An atom h is affected by a if a is in the support of h.
 abbrev pub Affected : Program → AtomSet → ℕ → ℕ → Type 0

@@ -1,9 +1,10 @@
 -- Supporting rules, labels and spoilers. Assumes nothing.
 use Prim.Native.Nat.{ℕ, _<_}
 use mathlib.Core.Path.{_≡_}
-use mathlib.Core.Bool.{true, false, not}
+use mathlib.Core.Bool.{Bool, true, false, not}
+use mathlib.Core.List.{List}
 use mathlib.Core.Option.{Option, none, some}
-use Rattle.theory.specs.Lists.{_∈_, first}
+use Rattle.theory.specs.Lists.{_∈_, first, before, FirstAt}
 use Rattle.theory.specs.Rules.{Rule, Program, Held, Occurs}
 use Rattle.theory.specs.Models.{AtomSet, valid}
 use Rattle.theory.specs.Derivations.{Depth}
@@ -41,7 +42,36 @@ pub data Labelled (P : Program) (M : AtomSet) (a : ℕ) : Label → Type 0 where
   is-out : Occurs P a → M a ≡ false → Labelled P M a out
   is-in : {d s : ℕ} → M a ≡ true → Depth P M a d → Supporting P M a s → Labelled P M a (in-at d s)
 
+-- On which side of a rule an entry stands: in the positive list or in the negative.
+pub data Side : Type 0 where
+  positive : Side
+  negative : Side
+
+-- An entry that spoils a rule: its list, its place in that list, from 0, and its atom. A rule may hold an atom in both
+-- lists.
+pub record Spoiler : Type 0 where
+  pub side : Side
+  pub place : ℕ
+  pub atom : ℕ
+
+-- The first entry of the list on a side that passes the test, if one does.
+unfoldable pub first-on : Side → (ℕ → Bool) → List ℕ → Option Spoiler
+first-on d f xs =
+    elim (first f xs) [ some x ↦ some (record { side = d; place = before f xs; atom = x }) | none ↦ none ]
+
 -- The spoiler of a rule not valid in M is its first spoiling entry, the positive list read first, then the negative,
 -- each in the order given. A positive entry spoils if out, a negative one if in.
-unfoldable pub spoiler : AtomSet → Rule → Option ℕ
-spoiler M r = elim (first (λ x. not (M x)) (r .positives)) [ some x ↦ some x | none ↦ first M (r .negatives) ]
+unfoldable pub spoiler : AtomSet → Rule → Option Spoiler
+spoiler M r = elim (first-on positive (λ x. not (M x)) (r .positives)) [
+  | some s ↦ some s
+  | none ↦ first-on negative M (r .negatives)
+]
+
+-- A spoiler really spoils the rule, and no entry before it does. The rule needs a positive entry that is out, or it is
+-- blocked by a negative entry that is in, where every positive entry is in. The entry stands at its place of its list,
+-- and none at an earlier place spoils.
+pub data Spoils (M : AtomSet) (r : Rule) : Spoiler → Type 0 where
+  needs : {i x : ℕ} → FirstAt (λ y. not (M y)) (r .positives) i x
+      → Spoils M r (record { side = positive; place = i; atom = x })
+  blocked : {i x : ℕ} → ((y : ℕ) → y ∈ r .positives → M y ≡ true) → FirstAt M (r .negatives) i x
+      → Spoils M r (record { side = negative; place = i; atom = x })

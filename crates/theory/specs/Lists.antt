@@ -1,10 +1,12 @@
 -- The words about lists of numbers that the definitions use. Assumes nothing.
-use Prim.Native.Nat.{ℕ, _<_}
+use Prim.Native.Nat.{ℕ, zero, suc, _<_}
+use mathlib.Core.Path.{_≡_}
 use mathlib.Core.Bool.{Bool, true, false, not, _&&_, _||_}
 use mathlib.Core.List.{List, [], _∷_, List·Memᴰ}
 use mathlib.Core.Logic.{_↔_}
 use mathlib.Core.Option.{Option, none, some}
 use lib.Dec.{eqb}
+use lib.ListN.{length, getD}
 
 infix 50 _∈_
 -- x stands in the list xs.
@@ -24,6 +26,18 @@ any f (x ∷ xs) = f x || any f xs
 unfoldable pub first : (ℕ → Bool) → List ℕ → Option ℕ
 first f [] = none
 first f (x ∷ xs) = elim (f x) [ true ↦ some x | false ↦ first f xs ]
+
+-- How many entries stand before the first that passes the test: its place, from 0.
+unfoldable pub before : (ℕ → Bool) → List ℕ → ℕ
+before f [] = zero
+before f (x ∷ xs) = elim (f x) [ true ↦ zero | false ↦ suc (before f xs) ]
+
+-- At place i of xs, from 0, stands x; it passes the test, and no entry at an earlier place does.
+pub record FirstAt (f : ℕ → Bool) (xs : List ℕ) (i x : ℕ) : Type 0 where
+  pub low : i < length xs
+  pub there : getD xs i 0 ≡ x
+  pub good : f x ≡ true
+  pub earlier : (j : ℕ) → j < i → f (getD xs j 0) ≡ false
 
 -- No number stands in the list twice.
 unfoldable pub distinct : List ℕ → Bool

@@ -1,11 +1,12 @@
 //! Spoilers, supports, repercussions, justifications, consequences and reasons.
 
-use crate::notation::table;
-use oracle::calls::{self, Spoiler};
+use crate::notation::{add, table};
+use oracle::calls::{self, Validity};
 use oracle::generate::programs::small;
 use oracle::labels::{Label, Labelled};
 use oracle::random::Random;
 use oracle::relations::{consequences, justifications, reason, repercussions, spoiler, support};
+use oracle::relations::{Side, Spoiler};
 use oracle::rules::Rule;
 use oracle::table::RawTable;
 
@@ -23,38 +24,96 @@ fn listed(call: Listing, table: &RawTable, atom: u32) -> Vec<u32> {
     buffer
 }
 
+/// What stops the rule in a slot, in words: `needs 7 at 0`, `blocked by 7 at 0`.
+fn stopper(table: &RawTable, slot: u32) -> String {
+    match calls::spoiler(table, slot).expect("a held slot") {
+        Validity::Valid => "valid".to_string(),
+        Validity::Spoiled(Spoiler { side, place, atom }) => match side {
+            Side::Positive => format!("needs {atom} at {place}"),
+            Side::Negative => format!("blocked by {atom} at {place}"),
+        },
+    }
+}
+
 #[test]
 fn the_spoiler_is_the_first_spoiling_entry_positives_read_first() {
     let table = table(&["1 <", "2 <", "9 < 1 7 6 !2", "8 < 1 !5 !2 !1", "7 < 1 !6"]);
-    let spoilers: Vec<Spoiler> = (0..5)
-        .map(|slot| calls::spoiler(&table, slot).unwrap())
-        .collect();
+    let stoppers: Vec<String> = (0..5).map(|slot| stopper(&table, slot)).collect();
     assert_eq!(
-        spoilers,
+        stoppers,
         [
-            Spoiler::Valid,
-            Spoiler::Valid,
-            Spoiler::Atom(6),
-            Spoiler::Atom(2),
-            Spoiler::Valid
+            "valid",
+            "valid",
+            "needs 6 at 2",
+            "blocked by 2 at 1",
+            "valid"
         ]
     );
 }
 
 #[test]
+fn an_atom_in_both_lists_spoils_on_the_side_that_its_label_says() {
+    let mut table = table(&["1 <", "9 < 1 7 !6 !5 !7"]);
+    assert_eq!(stopper(&table, 1), "needs 7 at 1");
+    assert_eq!(add(&mut table, "7 <"), Ok(2));
+    assert_eq!(stopper(&table, 1), "blocked by 7 at 2");
+    assert_eq!(add(&mut table, "6 <"), Ok(3));
+    assert_eq!(stopper(&table, 1), "blocked by 6 at 0");
+    assert_eq!(calls::remove(&mut table, 0), Ok(()));
+    assert_eq!(stopper(&table, 1), "needs 1 at 0");
+}
+
+#[test]
+fn the_last_place_of_either_list() {
+    let facts = ["1 <", "2 <", "3 <", "4 <", "5 <", "6 <", "7 <"];
+    let needs = table(&[&facts[..], &["9 < 1 2 3 4 5 6 7 8"]].concat());
+    assert_eq!(stopper(&needs, 7), "needs 8 at 7");
+    let blocked = table(&["1 <", "9 < !8 !7 !6 !5 !4 !3 !2 !1"]);
+    assert_eq!(stopper(&blocked, 1), "blocked by 1 at 7");
+}
+
+#[test]
+fn supports_and_repercussions_go_by_the_atom_on_whichever_side_it_spoils() {
+    let mut table = table(&["9 < 7 !7", "9 < 5 7", "8 < 9", "5 <"]);
+    assert_eq!(stopper(&table, 0), "needs 7 at 0");
+    assert_eq!(stopper(&table, 1), "needs 7 at 1");
+    let spoiling = |table: &RawTable| {
+        let labelled = Labelled::of(oracle::sound::sound_rules(table).unwrap());
+        support(&labelled, 9).ascending().collect::<Vec<u32>>()
+    };
+    assert_eq!(spoiling(&table), [7]);
+    assert_eq!(listed(calls::repercussions, &table, 7), [8, 9]);
+    assert_eq!(calls::remove(&mut table, 1), Ok(()));
+    assert_eq!(add(&mut table, "7 <"), Ok(1));
+    assert_eq!(stopper(&table, 0), "blocked by 7 at 0");
+    assert_eq!(spoiling(&table), [7]);
+    assert_eq!(listed(calls::repercussions, &table, 7), [8, 9]);
+}
+
+/// Every entry that spoils, the positive list first.
+fn spoiling(labelled: &Labelled, rule: &Rule) -> Vec<Spoiler> {
+    let sides = [
+        (Side::Positive, &rule.positives),
+        (Side::Negative, &rule.negatives),
+    ];
+    let entries = sides.into_iter().flat_map(|(side, list)| {
+        (0..)
+            .zip(list)
+            .map(move |(place, &atom)| Spoiler { side, place, atom })
+    });
+    entries
+        .filter(|entry| labelled.is_in(entry.atom) == (entry.side == Side::Negative))
+        .collect()
+}
+
+#[test]
 fn a_rule_has_a_spoiler_exactly_if_it_is_not_valid_and_the_spoiler_spoils() {
     let mut random = Random::seeded(41);
-    let mut seen = [0, 0];
+    let mut seen = [0; 4];
     for _ in 0..1_000 {
         let labelled = Labelled::of(small(&mut random, 8, 12, 16));
         for rule in labelled.program.iter().flatten() {
-            let spoiling: Vec<u32> = rule
-                .positives
-                .iter()
-                .filter(|&&atom| !labelled.is_in(atom))
-                .chain(rule.negatives.iter().filter(|&&atom| labelled.is_in(atom)))
-                .copied()
-                .collect();
+            let spoiling = spoiling(&labelled, rule);
             assert_eq!(
                 spoiler(&labelled, rule),
                 spoiling.first().copied(),
@@ -64,12 +123,17 @@ fn a_rule_has_a_spoiler_exactly_if_it_is_not_valid_and_the_spoiler_spoils() {
                 !spoiling.is_empty() || labelled.is_in(rule.head),
                 "{rule:?} in {labelled:?}"
             );
-            seen[usize::from(spoiling.is_empty())] += 1;
+            seen[match spoiling.first() {
+                None => 0,
+                Some(s) if s.place > 0 => 1,
+                Some(s) if s.side == Side::Positive => 2,
+                Some(_) => 3,
+            }] += 1;
         }
     }
     assert!(
-        seen.iter().all(|&count| count > 500),
-        "both answers occur: {seen:?}"
+        seen.iter().all(|&count| count > 100),
+        "valid, later places and both sides occur: {seen:?}"
     );
 }
 

@@ -1,7 +1,7 @@
 //! Lists of calls, held against the plain book.
 
 use oracle::book::Book;
-use oracle::calls::{self, Answer, Call, Spoiler};
+use oracle::calls::{self, Answer, Call, Validity};
 use oracle::generate::calls::call;
 use oracle::labels::Labelled;
 use oracle::model::admissible_models;
@@ -38,7 +38,7 @@ fn assert_table_is_the_books(table: &RawTable, book: &Book) {
     for (slot, page) in (0..).zip(book.pages()) {
         let answer = match page {
             None => Err(Refusal::SlotFree),
-            Some(rule) => Ok(spoiler(&defined, rule).map_or(Spoiler::Valid, Spoiler::Atom)),
+            Some(rule) => Ok(spoiler(&defined, rule).map_or(Validity::Valid, Validity::Spoiled)),
         };
         assert_eq!(calls::spoiler(table, slot), answer);
     }

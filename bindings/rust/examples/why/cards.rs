@@ -1,7 +1,7 @@
 //! A reason as cards: what each says, how it looks, and what hangs below it.
 
 use crate::sheet::Names;
-use yeqontur::{Because, Label, Stop, Stopped, Table, Why};
+use yeqontur::{Because, Label, Side, Stopped, Table, Why};
 
 /// How a card looks.
 #[derive(Clone, Copy, PartialEq, Eq, Debug)]
@@ -146,15 +146,15 @@ impl Words<'_> {
 
     /// A stopped rule: its entries with their labels, the one that stops it marked.
     fn rule(&self, stopped: &Stopped) -> Card {
-        let Stopped { rule, stop, by } = stopped;
-        let (link, list) = match stop {
-            Stop::Needs => (Link::Needs, &rule.positives),
-            Stop::BlockedBy => (Link::BlockedBy, &rule.negatives),
+        let Stopped { rule, by, .. } = stopped;
+        let link = match stopped.side {
+            Side::Positive => Link::Needs,
+            Side::Negative => Link::BlockedBy,
         };
         let mut lines = vec![line(format!("the rule in slot {} asks for", rule.slot))];
-        for (not, entries) in [("", &rule.positives), ("not ", &rule.negatives)] {
-            lines.extend(entries.iter().map(|&atom| {
-                let stops = atom == by.atom && std::ptr::eq(entries, list);
+        for (not, side) in [("", Side::Positive), ("not ", Side::Negative)] {
+            lines.extend((0..).zip(rule.list(side)).map(|(place, &atom)| {
+                let stops = (side, place) == (stopped.side, stopped.place);
                 Line {
                     text: self.entry(not, atom),
                     bold: stops,

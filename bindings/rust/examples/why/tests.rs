@@ -34,6 +34,25 @@ fn needs_and_blocked_by_differ_in_line_and_word() {
     }
 }
 
+/// The lines marked as what stops a rule, in the first rule below an out atom.
+fn marked(sheet: &str, atom: u32) -> Vec<(String, Option<Link>)> {
+    let table = sheet::table(sheet).expect("a sheet");
+    let why = table.why(atom).expect("an atom");
+    let drawing = Drawing::new(&why, &table, &sheet::names("").expect("no names"));
+    let (_, _, rule) = &drawing.card.below[0];
+    let marked = rule.lines.iter().filter(|line| line.bold);
+    marked.map(|l| (l.text.clone(), l.stops)).collect()
+}
+
+#[test]
+fn of_an_atom_in_both_lists_the_entry_that_stops_is_marked() {
+    let rule = "A 3 :\nA 1 : 3 7 ! 5 7\n";
+    let needs = ("atom 7 (out)".to_string(), Some(Link::Needs));
+    assert_eq!(marked(rule, 1), [needs]);
+    let blocked = ("not atom 7 (in)".to_string(), Some(Link::BlockedBy));
+    assert_eq!(marked(&format!("{rule}A 7 :\n"), 1), [blocked]);
+}
+
 #[test]
 fn names_and_sheets_that_cannot_be_read_are_told() {
     assert!(picture("A 1 :", "1", "1 <a> & b")

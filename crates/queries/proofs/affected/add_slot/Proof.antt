@@ -56,6 +56,12 @@ enum-known-found c = search needs
 add-edge-requires : tie.Need-add-edge-requires
 add-edge-requires c κs = search needs
 
+enum-known-found-2 : tie.Need-enum-known-found-2
+enum-known-found-2 c = search needs
+
+add-edge-requires-2 : tie.Need-add-edge-requires-2
+add-edge-requires-2 c κs = search needs
+
 returns-4 : tie.Need-returns-4
 returns-4 c =
     let found = c .before .before in
@@ -77,7 +83,20 @@ returns-5 c =
     let is-held = slot-held rule (held .if1 .left) in
     let is-out = sym (out-set .before .has .ensures) ∙ out-set .if2 .left in
     let named = sym (found .spoiler .ensures) ∙ ap spoilerOf (entry .found .given .1) in
-    grown-one _ _ _ _ (c .add-edge .ensures) (spoils (ruleOf rule) is-held is-out refl named)
+    grown-one _ _ _ _ (c .add-edge .ensures) (spoils (ruleOf rule) _ is-held is-out refl named refl)
+    (gives-one _ _ _ _ (ruleOf rule) is-held is-out _ named)
+
+returns-6 : tie.Need-returns-6
+returns-6 c =
+    let entry = c .before .before .before .before in
+    let found = entry .before .before in
+    let out-set = found .before in
+    let held = out-set .before .before .before in
+    let rule = held .before .before .args .rule in
+    let is-held = slot-held rule (held .if1 .left) in
+    let is-out = sym (out-set .before .has .ensures) ∙ out-set .if2 .left in
+    let named = sym (found .spoiler .ensures) ∙ ap spoilerOf (entry .found2 .given .1) in
+    grown-one _ _ _ _ (c .add-edge2 .ensures) (spoils (ruleOf rule) _ is-held is-out refl named refl)
     (gives-one _ _ _ _ (ruleOf rule) is-held is-out _ named)
 
 pub add-slot-spec : {M : Type 1} → statement M
@@ -94,5 +113,8 @@ add-slot-spec =
     enum-told
     enum-known-found
     add-edge-requires
+    enum-known-found-2
+    add-edge-requires-2
     returns-4
-    returns-5)
+    returns-5
+    returns-6)

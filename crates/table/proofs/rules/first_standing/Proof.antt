@@ -1,24 +1,24 @@
 -- `table::rules::first_standing` meets its contract. Assumes nothing.
--- The loop keeps: what is left of the part has the same first entry as the whole of it.
-use Prim.Native.Nat.{_-_}
+-- The loop keeps: the first entry of what is left of the part stands where the first of the whole of it does.
+use Prim.Native.Nat.{_+_, _-_}
 use native.Mathlib.Omega.{arith}
 use mathlib.Core.Path.{_≡_, refl, sym, _∙_}
 use lib.ListN.{length, length-map}
 use lib.Seq.{slice}
 use borrow.Author.Needs.{needs}
-use Rattle.theory.specs.Lists.{first}
+use Rattle.theory.specs.Lists.{before}
 use Rattle.theory.specs.Tables.{document}
 use Rattle.table.specs.Sets.{member, standing}
 use Rattle.table.specs.Rules.{numbers}
 use Rattle.table.proofs.Members.{stands, stands-not}
-use Rattle.table.proofs.Entries.{first-over, first-next, first-stop}
+use Rattle.table.proofs.Entries.{before-over, before-next, before-stop}
 use Rattle.table.proofs.rules.first_standing.Statement.{statement}
 use Rattle.table.proofs.rules.first_standing.Tie as tie
 
 abbrev Inv-loop : tie.InvT-loop
 Inv-loop from to flags wanted rule j₀ j =
-    first (standing wanted (member flags)) (numbers (slice j to (rule .entries)))
-    ≡ first (standing wanted (member flags)) (numbers (slice j₀ to (rule .entries)))
+    j + before (standing wanted (member flags)) (numbers (slice j to (rule .entries)))
+    ≡ j₀ + before (standing wanted (member flags)) (numbers (slice j₀ to (rule .entries)))
 
 abbrev μ-loop : tie.MeasureT-loop
 μ-loop from to flags wanted rule j₀ j = to - j
@@ -43,7 +43,7 @@ returns : tie.Need-returns Inv-loop μ-loop
 returns c =
     let l = c .before .before .before .before in
     let k = long (l .before) in
-    sym (first-stop _ (l .before .args .t1 .entries) (l .loop .j) _
+    sym (before-stop _ (l .before .args .t1 .entries) (l .loop .j) _
     (c .before .before .before .loop-test .taken) (omega arith)
     (stands _ _ _ _ (c .before .has .ensures) (c .if1 .taken)))
     ∙ l .loop .inv
@@ -58,13 +58,13 @@ loop-again : tie.Need-loop-again Inv-loop μ-loop
 loop-again c =
     let l = c .before .before .before .before in
     let k = long (l .before) in
-    sym (first-next _ (l .before .args .t1 .entries) (l .loop .j) _
+    sym (before-next _ (l .before .args .t1 .entries) (l .loop .j) _
     (c .before .before .before .loop-test .taken) (omega arith)
     (stands-not _ _ _ _ (c .before .has .ensures) (c .if1 .left)))
     ∙ l .loop .inv
 
 returns-2 : tie.Need-returns-2 Inv-loop μ-loop
-returns-2 c = sym (first-over _ _ _ _ (c .loop-test .left)) ∙ c .before .loop .inv
+returns-2 c = sym (before-over _ _ _ _ (c .loop-test .left)) ∙ c .before .loop .inv
 
 pub first-standing-spec : {M : Type 1} → statement M
 first-standing-spec =

@@ -1,10 +1,10 @@
 -- `table::rules::spoiler` meets its contract. Assumes nothing.
--- The positive part is read first, and the negative part only where it names no entry.
+-- The positive part is read first, and the negative part only where the walk went past the positive part.
 use mathlib.Core.Path.{_≡_}
 use lib.ListN.{length, length-map}
 use borrow.Author.Needs.{needs}
 use Rattle.theory.specs.Tables.{document}
-use Rattle.table.proofs.Entries.{spoiler-found, spoiler-else}
+use Rattle.table.proofs.Entries.{spoiler-needs, spoiler-blocked, spoiler-nothing}
 use Rattle.table.proofs.rules.spoiler.Statement.{statement}
 use Rattle.table.proofs.rules.spoiler.Tie as tie
 
@@ -17,35 +17,59 @@ negative-end-requires c κs = search needs
 first-standing-requires : tie.Need-first-standing-requires
 first-standing-requires c κs = search needs
 
-enum-known-found : tie.Need-enum-known-found
-enum-known-found c = search needs
+mul-a : tie.Need-mul-a
+mul-a c = search needs
 
-enum-told : tie.Need-enum-told
-enum-told c = search needs
+element-copy-out-a : tie.Need-element-copy-out-a
+element-copy-out-a c = search needs
 
-first-standing-requires-2 : tie.Need-first-standing-requires-2
-first-standing-requires-2 c κs = search needs
+cast-t16 : tie.Need-cast-t16
+cast-t16 c = search needs
 
 -- what owning the rule tells of its entries
-long : (s : tie.Start) → length (s .args .rule .entries) ≡ document .entries
+long : (s : tie.Start) → length (s .args .t1 .entries) ≡ document .entries
 long s = simp length-map at (s .good .0 .1 .1 .1 .1 .1 .1 .0 .1 .0 .1)
 
 returns : tie.Need-returns
 returns c =
-    let f = c .before .before .before in
+    let f = c .before .before in
     let s = f .before .before .before in
-    spoiler-found (s .args .rule) (document .entries) (long s)
+    spoiler-needs (s .args .t1) (document .entries) (long s)
     _ (f .before .before .positive-end .ensures) _ (f .before .negative-end .ensures)
-    _ _ _ (c .before .found .given .1) (f .first-standing .ensures)
+    _ _ (f .first-standing .ensures) (c .before .if1 .taken)
+
+first-standing-requires-2 : tie.Need-first-standing-requires-2
+first-standing-requires-2 c κs = search needs
+
+mul-a-2 : tie.Need-mul-a-2
+mul-a-2 c = search needs
+
+element-copy-out-a-2 : tie.Need-element-copy-out-a-2
+element-copy-out-a-2 c = search needs
+
+sub-t17 : tie.Need-sub-t17
+sub-t17 c = search needs
+
+cast-t21 : tie.Need-cast-t21
+cast-t21 c = search needs
 
 returns-2 : tie.Need-returns-2
 returns-2 c =
-    let f = c .before .before .before in
+    let g = c .before .before in
+    let f = g .before .before in
     let s = f .before .before .before in
-    spoiler-else (s .args .rule) (document .entries) (long s)
+    spoiler-blocked (s .args .t1) (document .entries) (long s)
     _ (f .before .before .positive-end .ensures) _ (f .before .negative-end .ensures)
-    _ _ (c .first-standing2 .result) (c .before .enum-told .given .1)
-    (f .first-standing .ensures) (c .first-standing2 .ensures)
+    _ _ (f .first-standing .ensures) (g .before .if1 .left) _ (g .first-standing2 .ensures) (c .before .if2 .taken)
+
+returns-3 : tie.Need-returns-3
+returns-3 c =
+    let g = c .before in
+    let f = g .before .before in
+    let s = f .before .before .before in
+    spoiler-nothing (s .args .t1) (document .entries) (long s)
+    _ (f .before .before .positive-end .ensures) _ (f .before .negative-end .ensures)
+    _ _ (f .first-standing .ensures) (g .before .if1 .left) _ (g .first-standing2 .ensures) (c .if2 .left)
 
 pub spoiler-spec : {M : Type 1} → statement M
 spoiler-spec =
@@ -54,8 +78,14 @@ spoiler-spec =
     positive-end-requires
     negative-end-requires
     first-standing-requires
-    enum-known-found
-    enum-told
-    first-standing-requires-2
+    mul-a
+    element-copy-out-a
+    cast-t16
     returns
-    returns-2)
+    first-standing-requires-2
+    mul-a-2
+    element-copy-out-a-2
+    sub-t17
+    cast-t21
+    returns-2
+    returns-3)
