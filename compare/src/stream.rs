@@ -10,6 +10,10 @@ use std::thread;
 /// The most memory that the program may take, in kilobytes.
 const MEMORY: u64 = 8192;
 
+/// Memory is read while so many listings are still to come: more than a pipe and the program's buffer hold, so that the
+/// program is still there.
+const LAST: usize = 1000;
+
 /// Rules that fill the table: a chain in which every atom is in.
 fn full_table() -> String {
     let rule = |atom: u32| match atom {
@@ -56,12 +60,10 @@ pub fn compare(program: &str) -> usize {
         scope.spawn(|| write_pieces(to, input.as_bytes(), &[65536]));
         let mut first = vec![0; answers.len()];
         same = from.read_exact(&mut first).is_ok() && first == answers;
-        same &= blocks(
-            (&mut from).take(block.len() as u64 * (listings as u64 - 1)),
-            &block,
-        ) == Some(listings - 1);
+        let most = (listings - LAST) * block.len();
+        same &= blocks((&mut from).take(most as u64), &block) == Some(listings - LAST);
         memory = peak(process);
-        same &= blocks(&mut from, &block) == Some(1);
+        same &= blocks(&mut from, &block) == Some(LAST);
     });
     child.wait().expect("its end");
     let failed = usize::from(!same) + usize::from(memory == 0 || memory > MEMORY);
