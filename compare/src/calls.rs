@@ -74,10 +74,13 @@ fn stopper(Spoiler { side, place, atom }: Spoiler) -> Vec<u32> {
     vec![spoiled, atom, place]
 }
 
-fn told(refused: u32, needed: usize, values: Vec<u32>) -> Told {
+/// What the numbers of an answer tell. A refusal says nothing else: with another number beside it, it is told as values,
+/// which no refusal equals.
+fn told(refused: u32, values: Vec<u32>) -> Told {
     match refused {
         0 => Told::Values(values),
-        number => Told::Refused { number, needed },
+        number if values.iter().all(|&value| value == 0) => Told::Refused { number, needed: 0 },
+        _ => Told::Values(values),
     }
 }
 
@@ -85,7 +88,13 @@ fn told(refused: u32, needed: usize, values: Vec<u32>) -> Told {
 fn proved(call: &Call, table: &mut raw::Table, buffer: &mut [u32]) -> Told {
     let mut list = |which, atom| {
         let answer = raw::list(which, table, atom, buffer);
-        told(answer.refused, answer.count, vec![answer.count as u32])
+        match answer.refused {
+            0 => Told::Values(vec![answer.count as u32]),
+            number => Told::Refused {
+                number,
+                needed: answer.count,
+            },
+        }
     };
     match call {
         Call::Justifications { atom } => return list(raw::List::Justifications, *atom),
@@ -102,21 +111,21 @@ fn proved(call: &Call, table: &mut raw::Table, buffer: &mut [u32]) -> Told {
         } => {
             let change = raw::add(table, *head, positives, negatives);
             *table = change.table;
-            told(change.refused, 0, vec![change.slot])
+            told(change.refused, vec![change.slot])
         }
         Call::Remove { slot } => {
             let change = raw::remove(table, *slot);
             *table = change.table;
-            told(change.refused, 0, vec![])
+            told(change.refused, vec![])
         }
         Call::Label { atom } => {
             let label = raw::label(table, *atom);
-            told(label.refused, 0, vec![label.state, label.depth, label.slot])
+            told(label.refused, vec![label.state, label.depth, label.slot])
         }
         Call::Spoiler { slot } => {
             let spoiler = raw::spoiler(table, *slot);
             let values = vec![spoiler.spoiled, spoiler.atom, spoiler.place];
-            told(spoiler.refused, 0, values)
+            told(spoiler.refused, values)
         }
         _ => unreachable!("lists are answered above"),
     }

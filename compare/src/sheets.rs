@@ -18,9 +18,9 @@ const PIECES: [&[usize]; 5] = [
 /// Short sheets may come byte by byte; long ones would take too long.
 fn pieces(random: &mut Random, length: usize) -> &'static [usize] {
     if length > 20_000 {
-        return PIECES[random.below(3) as usize];
+        return PIECES[random.below(3)];
     }
-    PIECES[random.below(5) as usize]
+    PIECES[random.below(5)]
 }
 
 /// Runs `count` sheets through the program. One whose output differs is kept as a file. Answers how many differ.
