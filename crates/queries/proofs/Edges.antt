@@ -260,6 +260,12 @@ module _ (M : AtomSet) (s : ℕ → ℕ) (i : ℕ) (o : Option Rule) where
         let one : w .0 ≡ z = Option·some-injective (w .0) z (sym (w .1) ∙ e) in
         (sym (w .2) ∙ ap (λ (y : Spoiler). y .atom) one, w .3)
 
+    pub spoiler-edge :
+        (from to from′ to′ : List ℕ) (n n′ : ℕ) → M (q .head) ≡ false → (z : Spoiler) → spoiler M q ≡ some z
+        → AddedEdge (z .atom) (q .head) from to n from′ to′ n′ → Grown (Gives M s i o) from to n from′ to′ n′
+    spoiler-edge from to from′ to′ n n′ t z e A =
+        grown-one (Gives M s i o) from to n A (edges.spoils q z held t refl e refl) (gives-one t z e)
+
 -- The slots below i make x affect h.
 pub record Given (P : Program) (M : AtomSet) (s : ℕ → ℕ) (i x h : ℕ) : Type 0 where
   pub slot : ℕ

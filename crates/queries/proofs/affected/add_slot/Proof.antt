@@ -1,10 +1,9 @@
 -- `queries::affected::add_slot` meets its contract. Assumes nothing.
-use mathlib.Core.Path.{refl, sym, _∙_, ap}
+use mathlib.Core.Path.{sym, _∙_, ap}
 use Rattle.table.specs.Rules.{ruleOf, spoilerOf}
 use Rattle.table.proofs.Programs.{slot-free, slot-held}
-use Rattle.queries.specs.Edges.{spoils}
-use Rattle.queries.proofs.Edges.{grown-none, grown-one, grown-same, gives-free, gives-other, gives-entries}
-use Rattle.queries.proofs.Edges.{entries-give, gives-nothing, gives-one}
+use Rattle.queries.proofs.Edges.{grown-none, grown-same, gives-free, gives-other, gives-entries}
+use Rattle.queries.proofs.Edges.{entries-give, gives-nothing, spoiler-edge}
 use borrow.Author.Needs.{needs}
 use Rattle.queries.proofs.affected.add_slot.Statement.{statement}
 use Rattle.queries.proofs.affected.add_slot.Tie as tie
@@ -80,11 +79,9 @@ returns-5 c =
     let out-set = found .before in
     let held = out-set .before .before .before in
     let rule = held .before .before .args .rule in
-    let is-held = slot-held rule (held .if1 .left) in
-    let is-out = sym (out-set .before .has .ensures) ∙ out-set .if2 .left in
-    let named = sym (found .spoiler .ensures) ∙ ap spoilerOf (entry .found .given .1) in
-    grown-one _ _ _ _ (c .add-edge .ensures) (spoils (ruleOf rule) _ is-held is-out refl named refl)
-    (gives-one _ _ _ _ (ruleOf rule) is-held is-out _ named)
+    spoiler-edge _ _ _ _ (ruleOf rule) (slot-held rule (held .if1 .left)) _ _ _ _ _ _
+    (sym (out-set .before .has .ensures) ∙ out-set .if2 .left) _
+    (sym (found .spoiler .ensures) ∙ ap spoilerOf (entry .found .given .1)) (c .add-edge .ensures)
 
 returns-6 : tie.Need-returns-6
 returns-6 c =
@@ -93,11 +90,9 @@ returns-6 c =
     let out-set = found .before in
     let held = out-set .before .before .before in
     let rule = held .before .before .args .rule in
-    let is-held = slot-held rule (held .if1 .left) in
-    let is-out = sym (out-set .before .has .ensures) ∙ out-set .if2 .left in
-    let named = sym (found .spoiler .ensures) ∙ ap spoilerOf (entry .found2 .given .1) in
-    grown-one _ _ _ _ (c .add-edge2 .ensures) (spoils (ruleOf rule) _ is-held is-out refl named refl)
-    (gives-one _ _ _ _ (ruleOf rule) is-held is-out _ named)
+    spoiler-edge _ _ _ _ (ruleOf rule) (slot-held rule (held .if1 .left)) _ _ _ _ _ _
+    (sym (out-set .before .has .ensures) ∙ out-set .if2 .left) _
+    (sym (found .spoiler .ensures) ∙ ap spoilerOf (entry .found2 .given .1)) (c .add-edge2 .ensures)
 
 pub add-slot-spec : {M : Type 1} → statement M
 add-slot-spec =
