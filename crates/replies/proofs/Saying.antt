@@ -29,7 +29,7 @@ use Rattle.printing.specs.Printed.{refusalLine}
 use Rattle.replies.specs.Replies as prints
 use Rattle.replies.specs.Replies.{ROOM, lent, tellReason, Says, Prints, Replies}
 use Rattle.printing.specs.Written.{Wrote}
-use Rattle.replies.specs.Parts.{Judged, positives, negatives, Obeys, Answers}
+use Rattle.replies.specs.Parts.{Judged, positives, negatives, Obeys, RepliesRead}
 
 pub drop-replicate : (k n : ℕ) → drop k (replicate {A = ℕ} n 0) ≡ replicate (n - k) 0
 drop-replicate zero n = let e : n - 0 ≡ n = omega arith in rw e
@@ -112,6 +112,6 @@ told p x e = ap (λ (y : Reading). lineOf y (positives p) (negatives p)) e
 
 pub commanded :
     (p : Parsed) (c : Command) (t : Table) (n : ℕ) (r : Reply) → p .reading ≡ reading-of.Command c
-    → Obeys t n (commandOf c (positives p) (negatives p)) r → Answers t n p r
+    → Obeys t n (commandOf c (positives p) (negatives p)) r → RepliesRead t n p r
 commanded p c t n r e obeys line d =
     subst (λ (y : Reading). Judged y (Replies t n line r)) (sym e) (obeys line (d ∙ told p (reading-of.Command c) e))

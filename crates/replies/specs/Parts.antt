@@ -32,5 +32,5 @@ Judged reading-of.NoCommand P = P
 Judged (reading-of.Command c) P = P
 
 -- The reply to every line that was read so, if it was neither blank nor too long.
-abbrev pub Answers : Table → ℕ → Parsed → Reply → Type 0
-Answers t n p r = (line : List ℕ) → reading line ≡ readingOf p → Judged (p .reading) (Replies t n line r)
+abbrev pub RepliesRead : Table → ℕ → Parsed → Reply → Type 0
+RepliesRead t n p r = (line : List ℕ) → reading line ≡ readingOf p → Judged (p .reading) (Replies t n line r)

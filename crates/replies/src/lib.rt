@@ -27,7 +27,7 @@ ghost use Rattle.lines.specs.Commands as sheet;
 ghost use Rattle.lines.specs.Readings.{ENTRIES, commandOf};
 ghost use Rattle.printing.specs.Printed.{named, refusalLine};
 ghost use Rattle.replies.specs.Replies.{Says, Replies};
-ghost use Rattle.replies.specs.Parts.{Obeys, Answers, positives, negatives};
+ghost use Rattle.replies.specs.Parts.{Obeys, RepliesRead, positives, negatives};
 
 // The table after a line, and the bytes that the line prints: the first `count` of them. All that follow are 0.
 pub struct Reply {
@@ -171,7 +171,7 @@ fn obeyed(table: Table, number: u32, command: Command, parsed: Parsed) -> Reply
 // is touched.
 fn answered(table: Table, number: u32, parsed: Parsed) -> Reply
     requires { ⌜ parsed .positives + parsed .negatives ≤ ENTRIES ⌝ }
-    ensures { λ r. ⌜ Answers table number parsed r ⌝ }
+    ensures { λ r. ⌜ RepliesRead table number parsed r ⌝ }
 {
     let reading = parsed.reading;
     let Reading::Command(command) = reading else {
