@@ -11,7 +11,8 @@ use borrow.Author.Tests.{eqb-true, eqb-false}
 use Rattle.table.specs.declared.Table.{Table}
 use Rattle.lines.specs.Places.{leading}
 use Rattle.replies.specs.Replies.{Prints}
-use Rattle.feed.specs.Sheets.{NEWLINE, State, longer, ended, Reads, stop, byte, newline, lineEnd}
+use Rattle.lines.specs.Texts.{NEWLINE}
+use Rattle.feed.specs.Sheets.{State, longer, ended, Reads, stop, byte, newline, lineEnd}
 
 -- Bytes behind bytes.
 pub reads-then :

@@ -8,15 +8,13 @@ use lib.Dec.{eqb}
 use lib.ListN.{length, take, drop}
 use Rattle.table.specs.declared.Table.{Table}
 use Rattle.table.specs.Clean.{emptyTable}
+use Rattle.lines.specs.Texts.{NEWLINE}
 use Rattle.lines.specs.Places.{leading, lineAfter}
 use Rattle.replies.specs.declared.Reply.{Reply}
 use Rattle.feed.specs.declared.Sheet.{Sheet}
 use Rattle.feed.specs.declared.Fed.{Fed}
 use Rattle.replies.specs.Replies.{Prints, Replies, ROOM}
 use Rattle.printing.specs.Written.{Wrote}
-
-abbrev pub NEWLINE : ℕ
-NEWLINE = 10
 
 -- Where the reading of a sheet stands: the table after its whole lines, and the number and the bytes so far of the line
 -- at hand.

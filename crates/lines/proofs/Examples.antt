@@ -1,20 +1,15 @@
 -- Lines and what they are, in one list with one claim over it. Assumes nothing.
 use Prim.Native.Nat.{ℕ, zero, suc}
-use Prim.Native.Char.{code}
 use Prim.Native.String as text
 use mathlib.Core.Path.{_≡_, refl}
 use mathlib.Core.List.{List, [], _∷_, _++_, map}
 use lib.ListN.{replicate}
+use Rattle.lines.specs.Texts.{bytes}
 use Rattle.lines.specs.Tokens.{onto, pieces, filled, tokens}
 use Rattle.lines.specs.Numerals.{digits, valueFrom, needless, spelledFrom, numeral, decimalIn, decimal}
 use Rattle.lines.specs.Commands.{add, remove, why, labels, one, numerals, before, after}
 use Rattle.lines.specs.Commands.{addition, only, listing, form, command}
 use Rattle.lines.specs.Readings.{spaces, blank, Line, is-blank, too-long, no-command, is, reading}
-
--- The bytes of a text in ASCII.
-bytes : text.String → List ℕ
-bytes text.[] = []
-bytes (text._∷_ c s) = code c ∷ bytes s
 
 record Example : Type 0 where
   line : List ℕ

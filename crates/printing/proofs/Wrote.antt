@@ -15,7 +15,8 @@ use Rattle.lines.specs.Buffers as buffers
 use Rattle.lines.specs.Numerals.{decimal}
 use Rattle.lines.proofs.Buffers.{put-fits, put-length, put-put, next-fits}
 use Rattle.lines.proofs.Decimals.{decimal-length}
-use Rattle.printing.specs.Printed.{bytes, newline, field, fields, inLine, labelLine, labelLines}
+use Rattle.lines.specs.Texts.{bytes}
+use Rattle.printing.specs.Printed.{newline, field, fields, inLine, labelLine, labelLines}
 use Rattle.printing.specs.Written.{Wrote}
 use Rattle.printing.proofs.Sizes.{Small}
 

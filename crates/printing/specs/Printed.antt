@@ -2,18 +2,13 @@
 -- with its newline. Assumes nothing.
 use Prim.Native.Nat.{ℕ, zero, suc}
 use Prim.Native.Char.{code}
-use Prim.Native.String as text
 use mathlib.Core.List.{List, [], _∷_, _++_}
 use Rattle.theory.specs.Labels.{Label, absent, out, in-at}
+use Rattle.lines.specs.Texts.{bytes, NEWLINE}
 use Rattle.lines.specs.Numerals.{decimal}
 
--- The bytes of a text in ASCII.
-unfoldable pub bytes : text.String → List ℕ
-bytes text.[] = []
-bytes (text._∷_ c s) = code c ∷ bytes s
-
 abbrev pub newline : List ℕ
-newline = 10 ∷ []
+newline = NEWLINE ∷ []
 
 -- A number behind another field.
 unfoldable pub field : ℕ → List ℕ

@@ -21,7 +21,8 @@ use Rattle.calls.specs.Contracts.{held, AddEnds, RemoveEnds, ReasonEnds}
 use Rattle.lines.specs.Commands as sheet
 use Rattle.lines.specs.Readings.{is-blank, too-long, no-command, is, reading}
 use Rattle.replies.specs.declared.Reply.{Reply}
-use Rattle.printing.specs.Printed.{bytes, named, whyLine, labelLines, refusalLine}
+use Rattle.lines.specs.Texts.{bytes}
+use Rattle.printing.specs.Printed.{named, whyLine, labelLines, refusalLine}
 
 -- The line that tells the answer of a call, on line n of the sheet.
 abbrev pub tellAdd : ℕ → AddAnswer → List ℕ

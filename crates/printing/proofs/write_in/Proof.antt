@@ -1,7 +1,8 @@
 -- `printing::write_in` meets its contract. Assumes nothing.
 use native.Mathlib.Omega.{arith}
 use borrow.Author.Needs.{needs}
-use Rattle.printing.specs.Printed.{bytes, inLine}
+use Rattle.lines.specs.Texts.{bytes}
+use Rattle.printing.specs.Printed.{inLine}
 use Rattle.printing.proofs.Wrote.{wrote-field, wrote-then}
 use Rattle.printing.proofs.write_in.Statement.{statement}
 use Rattle.printing.proofs.write_in.Tie as tie

@@ -2,7 +2,8 @@
 use native.Mathlib.Omega.{arith}
 use borrow.Author.Needs.{needs}
 use Rattle.table.proofs.Programs.{label-absent, label-out, label-kept}
-use Rattle.printing.specs.Printed.{bytes, labelLine}
+use Rattle.lines.specs.Texts.{bytes}
+use Rattle.printing.specs.Printed.{labelLine}
 use Rattle.printing.proofs.Wrote.{wrote-nothing, wrote-atom, wrote-then, wrote-in}
 use Rattle.printing.proofs.write_label.Statement.{statement}
 use Rattle.printing.proofs.write_label.Tie as tie

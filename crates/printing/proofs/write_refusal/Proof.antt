@@ -1,7 +1,8 @@
 -- `printing::write_refusal` meets its contract. Assumes nothing.
 use native.Mathlib.Omega.{arith}
 use borrow.Author.Needs.{needs}
-use Rattle.printing.specs.Printed.{bytes, refusalLine}
+use Rattle.lines.specs.Texts.{bytes}
+use Rattle.printing.specs.Printed.{refusalLine}
 use Rattle.printing.proofs.Wrote.{wrote-field, wrote-then}
 use Rattle.printing.proofs.write_refusal.Statement.{statement}
 use Rattle.printing.proofs.write_refusal.Tie as tie

@@ -1,7 +1,8 @@
 -- `printing::write_why` meets its contract. Assumes nothing.
 use native.Mathlib.Omega.{arith}
 use borrow.Author.Needs.{needs}
-use Rattle.printing.specs.Printed.{bytes, whyLine}
+use Rattle.lines.specs.Texts.{bytes}
+use Rattle.printing.specs.Printed.{whyLine}
 use Rattle.printing.proofs.Wrote.{fields-length, wrote-then}
 use Rattle.printing.proofs.write_why.Statement.{statement}
 use Rattle.printing.proofs.write_why.Tie as tie

@@ -2,7 +2,8 @@
 use native.Mathlib.Omega.{arith}
 use lib.ListN.{length-map}
 use mathlib.Core.Path.{sym, _∙_, ap}
-use Rattle.printing.specs.Printed.{bytes, refusalLine}
+use Rattle.lines.specs.Texts.{bytes}
+use Rattle.printing.specs.Printed.{refusalLine}
 use Rattle.replies.specs.Replies as prints
 use Rattle.replies.specs.Replies.{tellAdd}
 use Rattle.replies.proofs.Saying.{replied}

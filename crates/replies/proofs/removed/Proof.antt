@@ -1,6 +1,7 @@
 -- `replies::removed` meets its contract. Assumes nothing.
 use mathlib.Core.Path.{sym, _∙_, ap}
-use Rattle.printing.specs.Printed.{bytes, refusalLine}
+use Rattle.lines.specs.Texts.{bytes}
+use Rattle.printing.specs.Printed.{refusalLine}
 use Rattle.replies.specs.Replies as prints
 use Rattle.replies.specs.Replies.{tellRemove}
 use Rattle.replies.proofs.Saying.{replied}
