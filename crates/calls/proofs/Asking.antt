@@ -8,7 +8,7 @@ use mathlib.Core.Option.{none, some, Option·none-ne-some}
 use lib.Dec.{ltb}
 use Rattle.theory.specs.Models.{AtomSet}
 use Rattle.theory.specs.Questions.{Question, first-no, asks, atom-questions}
-use Rattle.theory.specs.Tables.{document}
+use Rattle.theory.specs.Limits.{document}
 use Rattle.theory.proofs.Lists.{test, ltb-lt, not-true, not-false}
 use Rattle.theory.proofs.Questions.{first-no-yes, first-no-here, first-no-none}
 use Rattle.table.specs.declared.Atom.{Atom}

@@ -16,7 +16,7 @@ use Rattle.theory.specs.Labels.{Labelled, spoiler}
 use Rattle.theory.specs.Labels as theory-labels
 use Rattle.theory.specs.Explanations.{Reason}
 use Rattle.theory.specs.Questions.{Question, first-no, add-questions, slot-questions, atom-questions, reason-questions}
-use Rattle.theory.specs.Tables.{document}
+use Rattle.theory.specs.Limits.{document}
 use Rattle.theory.proofs.Lists.{every-at, not-true, clash, eqb-of}
 use Rattle.theory.proofs.Rules.{held-unique}
 use Rattle.theory.proofs.Strata.{acyclic-strata, rules-below, model-unique}

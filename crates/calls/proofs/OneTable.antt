@@ -13,7 +13,7 @@ use Rattle.theory.specs.Models.{AtomSet, Admissible}
 use Rattle.theory.specs.Dependencies.{NegativeCycle}
 use Rattle.theory.specs.Labels.{absent, out, in-at, Labelled}
 use Rattle.theory.specs.Labels as theory-labels
-use Rattle.theory.specs.Tables.{document}
+use Rattle.theory.specs.Limits.{document}
 use Rattle.theory.proofs.Lists.{le-or-lt}
 use Rattle.theory.proofs.Strata.{acyclic-strata, rules-below, model-unique}
 use Rattle.theory.proofs.Labels.{label-unique, label-moves}

@@ -3,7 +3,7 @@ use Prim.Native.Nat.{ℕ}
 use mathlib.Core.Path.{_≡_}
 use mathlib.Core.Option.{none, some}
 use Rattle.theory.specs.Questions.{first-no, atom-questions}
-use Rattle.theory.specs.Tables.{document}
+use Rattle.theory.specs.Limits.{document}
 use Rattle.table.specs.declared.Table.{Table}
 use Rattle.table.specs.Sound.{Sound}
 use Rattle.calls.specs.declared.Refusal.{Refusal}

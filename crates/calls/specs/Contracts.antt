@@ -14,7 +14,7 @@ use Rattle.theory.specs.Labels as theory-labels
 use Rattle.theory.specs.Explanations.{Justification, Consequence, Repercussion, Reason}
 use Rattle.theory.specs.Questions.{Question, first-no, add-questions, slot-questions, atom-questions}
 use Rattle.theory.specs.Questions.{reason-questions, lowest-free}
-use Rattle.theory.specs.Tables.{document}
+use Rattle.theory.specs.Limits.{document}
 use Rattle.table.specs.declared.Slot.{Slot}
 use Rattle.table.specs.declared.Table.{Table}
 use Rattle.table.specs.Rules.{programOf, pastRule}

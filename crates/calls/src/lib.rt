@@ -1,10 +1,10 @@
 // The calls on a table: what they answer, what they hand back, and the questions that a call on an atom asks first.
 // Arguments are bare numbers; no call asks anything of its caller.
+use questions::head_fits;
 use sound::sound;
 use table::Atom;
 use table::Slot;
 use table::Table;
-use table::questions::head_fits;
 ghost use mathlib.Core.Path.{_≡_};
 ghost use Rattle.calls.specs.Answers.{numberOf};
 ghost use Rattle.calls.specs.Asking.{AskEnds};

@@ -14,7 +14,7 @@ use Rattle.theory.specs.Rules as theory
 use Rattle.theory.specs.Dependencies.{NegativeCycle}
 use Rattle.theory.specs.Questions.{Question, asks, first-no, rule-questions, add-questions}
 use Rattle.theory.specs.Questions.{lowest-free, is-some, put-in, stratified}
-use Rattle.theory.specs.Tables.{document}
+use Rattle.theory.specs.Limits.{document}
 use Rattle.theory.proofs.Lists.{clash, test, and-l, and-r, every-at, leb-le, ltb-lt}
 use Rattle.theory.proofs.Rules.{any-rule-of, same-refl}
 use Rattle.theory.proofs.Cycles.{cycle-found, stratified-iff}

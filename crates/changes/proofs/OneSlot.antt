@@ -14,7 +14,7 @@ use Rattle.theory.specs.Rules as theory
 use Rattle.theory.specs.Models.{AtomSet}
 use Rattle.theory.specs.Dependencies.{DependencyPath, Depends, here, positive, negative, NegativeCycle}
 use Rattle.theory.specs.Questions.{first-no, rule-questions}
-use Rattle.theory.specs.Tables.{document}
+use Rattle.theory.specs.Limits.{document}
 use Rattle.theory.proofs.Lists.{test, clash, eqb-eq, eqb-of}
 use Rattle.theory.proofs.Rules.{same-eq}
 use Rattle.theory.proofs.Questions.{other-set}

@@ -11,7 +11,7 @@ use Rattle.theory.specs.Rules.{Held, Bounded}
 use Rattle.theory.specs.Rules as theory
 use Rattle.theory.specs.Dependencies.{NegativeCycle}
 use Rattle.theory.specs.Questions.{asks, first-no, rule-questions, slot-questions, is-some}
-use Rattle.theory.specs.Tables.{document}
+use Rattle.theory.specs.Limits.{document}
 use Rattle.theory.proofs.Lists.{unless, lt-ltb, ltb-lt}
 use Rattle.theory.proofs.Questions.{first-no-yes, first-no-here}
 use Rattle.table.specs.declared.Table.{Table}

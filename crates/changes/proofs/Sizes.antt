@@ -8,7 +8,7 @@ use denote.Laws.{Is}
 use denote.RattleType.{Denots}
 use denote.Struct.Declared.{row}
 use denote.Struct.Declared as declared
-use Rattle.theory.specs.Tables.{document}
+use Rattle.theory.specs.Limits.{document}
 use Rattle.table.specs.declared.Rule.{Rule}
 use Rattle.table.specs.declared.Table.{Table}
 use Rattle.table.specs.Rules.{pastRule}

@@ -8,7 +8,7 @@ use mathlib.Core.Option.{Option, none, some}
 use lib.ListN.{length, getD}
 use Rattle.theory.specs.Rules.{Program, Held, passes, any-rule}
 use Rattle.theory.specs.Rules as theory
-use Rattle.theory.specs.Tables.{document}
+use Rattle.theory.specs.Limits.{document}
 use Rattle.theory.proofs.Lists.{clash, unless}
 use Rattle.theory.proofs.Rules.{any-rule-at, any-rule-of}
 use Rattle.theory.proofs.Questions.{held-below, lowest-free-of, lowest-free-none}

@@ -8,7 +8,7 @@ use lib.ListN.{length, getD}
 use Rattle.theory.specs.Rules.{Program}
 use Rattle.theory.specs.Rules as theory
 use Rattle.theory.specs.Questions.{lowest-free}
-use Rattle.theory.specs.Tables.{document}
+use Rattle.theory.specs.Limits.{document}
 use Rattle.table.specs.declared.Atom.{Atom}
 use Rattle.table.specs.declared.Rule.{Rule}
 use Rattle.table.specs.Rules.{slotOf, noAtom}

@@ -1,10 +1,10 @@
 // Depths level by level, supporting slots, and which atoms occur.
+use rule::negative_end;
+use rule::positive_end;
+use rule::valid;
 use table::Atom;
 use table::Rule;
 use table::Table;
-use table::rules::negative_end;
-use table::rules::positive_end;
-use table::rules::valid;
 use table::sets::has;
 use table::sets::mark;
 use table::sets::number_of;
@@ -13,7 +13,7 @@ ghost use mathlib.Core.Path.{_≡_};
 ghost use Rattle.theory.specs.Lists.{every};
 ghost use Rattle.theory.specs.Rules.{Bounded, entries};
 ghost use Rattle.theory.specs.Models.{Admissible};
-ghost use Rattle.theory.specs.Tables.{document};
+ghost use Rattle.theory.specs.Limits.{document};
 ghost use Rattle.table.specs.Sets.{member, number};
 ghost use Rattle.table.specs.Rules.{programOf, slotOf, ruleOf};
 ghost use Rattle.depths.specs.Numbers.{DepthsOf, SupportsOf, OccurringIn};

@@ -6,10 +6,10 @@ use Rattle.theory.specs.Book.{Call, Answer}
 use Rattle.table.specs.declared.Table.{Table}
 use Rattle.history.specs.Claim.{Step, Trace, stop, call, adds, removes, History}
 use Rattle.history.proofs.Sequence.{history}
-use Rattle.replies.specs.Replies as prints
-use Rattle.replies.specs.Replies.{Prints}
-use Rattle.feed.specs.Sheets as sheet
-use Rattle.feed.specs.Sheets.{State, start, Reads}
+use Rattle.sheets.specs.Lines as prints
+use Rattle.sheets.specs.Lines.{Prints}
+use Rattle.sheets.specs.Sheets as sheet
+use Rattle.sheets.specs.Sheets.{State, start, Reads}
 
 -- A list of calls that leads from one table to another.
 pub record Called (t u : Table) : Type 0 where

@@ -17,7 +17,8 @@ use Rattle.printing.specs.Written.{Wrote}
 use Rattle.printing.proofs.Wrote.{wrote-put, wrote-then, wrote-nothing, wrote-length}
 use Rattle.feed.specs.declared.Sheet.{Sheet}
 use Rattle.feed.specs.declared.Fed.{Fed}
-use Rattle.feed.specs.Sheets.{KEPT, State, longer, ended, stop, StandsFor, Keeps, RepliesAt, ofLine, lineEnd}
+use Rattle.sheets.specs.Sheets.{State, longer, ended, stop}
+use Rattle.feed.specs.Sheets.{KEPT, StandsFor, Keeps, RepliesAt, ofLine, lineEnd}
 use Rattle.feed.specs.Sheets.{FeedsFrom, Feeds}
 use Rattle.feed.proofs.Reading.{reads-then, reads-part, reads-line}
 

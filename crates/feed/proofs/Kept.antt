@@ -15,12 +15,14 @@ use Rattle.table.specs.declared.Table.{Table}
 use Rattle.lines.specs.Readings.{reading}
 use Rattle.lines.proofs.Cut.{reading-cut}
 use Rattle.replies.specs.declared.Reply.{Reply}
-use Rattle.replies.specs.Replies as prints
-use Rattle.replies.specs.Replies.{ROOM, Prints, Says, Replies}
+use Rattle.sheets.specs.Lines as prints
+use Rattle.sheets.specs.Lines.{Prints}
+use Rattle.replies.specs.Replies.{ROOM, Says, Replies}
 use Rattle.feed.specs.declared.Sheet.{Sheet}
 use Rattle.replies.proofs.Reply as reply-type
 use Rattle.feed.proofs.Sheet as sheet-type
-use Rattle.feed.specs.Sheets.{KEPT, State, longer, StandsFor, RepliesAt, Keeps}
+use Rattle.sheets.specs.Sheets.{State, longer}
+use Rattle.feed.specs.Sheets.{KEPT, StandsFor, RepliesAt, Keeps}
 
 -- What a line prints depends on its reading alone.
 prints-same :

@@ -10,9 +10,10 @@ use lib.Seq.{take-suc, append-snoc}
 use borrow.Author.Tests.{eqb-true, eqb-false}
 use Rattle.table.specs.declared.Table.{Table}
 use Rattle.lines.specs.Places.{leading}
-use Rattle.replies.specs.Replies.{Prints}
+use Rattle.sheets.specs.Lines.{Prints}
 use Rattle.lines.specs.Texts.{NEWLINE}
-use Rattle.feed.specs.Sheets.{State, longer, ended, Reads, stop, byte, newline, lineEnd}
+use Rattle.sheets.specs.Sheets.{State, longer, ended, Reads, stop, byte, newline}
+use Rattle.feed.specs.Sheets.{lineEnd}
 
 -- Bytes behind bytes.
 pub reads-then :

@@ -6,11 +6,11 @@ use mathlib.Core.Path.{_≡_, refl, sym, _∙_, ap, ap₂, subst}
 use mathlib.Core.List.{List, [], _∷_, _++_}
 use lib.ListN.{take}
 use Rattle.replies.specs.declared.Reply.{Reply}
-use Rattle.replies.specs.Replies.{Prints}
+use Rattle.sheets.specs.Lines.{Prints}
 use Rattle.printing.proofs.Wrote.{wrote-start}
-use Rattle.replies.proofs.Unique.{prints-unique}
+use Rattle.sheets.proofs.Unique.{prints-unique}
 use Rattle.feed.specs.declared.Sheet.{Sheet}
-use Rattle.feed.specs.Sheets.{State, start, longer, ended, Reads, stop, byte, newline, SheetPrints}
+use Rattle.sheets.specs.Sheets.{State, start, longer, ended, Reads, stop, byte, newline, SheetPrints}
 use Rattle.feed.specs.Sheets.{StandsFor, RepliesAt, Pieces, none, piece}
 use Rattle.feed.proofs.Reading.{reads-then}
 use Rattle.feed.proofs.Feeding.{said}

@@ -1,58 +1,18 @@
--- A sheet, read byte by byte (document 01, "The sheet program"), and the code's sheet that comes in pieces. Assumes
--- nothing.
+-- The code's sheet that comes in pieces. Assumes nothing.
 use Prim.Native.Nat.{ℕ, _-_, _≤_}
 use mathlib.Core.Path.{_≡_}
 use mathlib.Core.Bool.{Bool, not}
-use mathlib.Core.List.{List, [], _∷_, _++_}
+use mathlib.Core.List.{List, [], _++_}
 use lib.Dec.{eqb}
 use lib.ListN.{length, take, drop}
-use Rattle.table.specs.declared.Table.{Table}
-use Rattle.table.specs.Clean.{emptyTable}
 use Rattle.lines.specs.Texts.{NEWLINE}
-use Rattle.lines.specs.Places.{leading, lineAfter}
+use Rattle.lines.specs.Places.{leading}
+use Rattle.sheets.specs.Sheets.{State, longer, Reads}
 use Rattle.replies.specs.declared.Reply.{Reply}
 use Rattle.feed.specs.declared.Sheet.{Sheet}
 use Rattle.feed.specs.declared.Fed.{Fed}
-use Rattle.replies.specs.Replies.{Prints, Replies, ROOM}
+use Rattle.replies.specs.Replies.{Replies, ROOM}
 use Rattle.printing.specs.Written.{Wrote}
-
--- Where the reading of a sheet stands: the table after its whole lines, and the number and the bytes so far of the line
--- at hand.
-pub record State : Type 0 where
-  pub table : Table
-  pub number : ℕ
-  pub line : List ℕ
-
--- The start: the empty table, and no byte of line 1.
-abbrev pub start : State
-start = record { table = emptyTable; number = 1; line = [] }
-
--- More bytes of the line at hand; the line at hand ended, with the table after it.
-abbrev pub longer : State → List ℕ → State
-longer s bs = record { table = s .table; number = s .number; line = s .line ++ bs }
-
-abbrev pub ended : State → Table → State
-ended s u = record { table = u; number = lineAfter (s .number); line = [] }
-
--- These bytes of a sheet, what they print, and where the reading stands after them. A newline ends a line.
-pub data Reads : State → List ℕ → List ℕ → State → Type 0 where
-  stop : {s : State} → Reads s [] [] s
-  byte :
-      {s v : State} {b : ℕ} {bs out : List ℕ} → (b ≡ NEWLINE → ⊥) → Reads (longer s (b ∷ [])) bs out v
-      → Reads s (b ∷ bs) out v
-  newline :
-      {s v : State} {u : Table} {bs printed out : List ℕ} → Prints (s .table) (s .number) (s .line) printed u
-      → Reads (ended s u) bs out v → Reads s (NEWLINE ∷ bs) (printed ++ out) v
-
--- All that a sheet prints: what its bytes print, and then its last line, which may lack the newline.
-pub record SheetPrints (input out : List ℕ) : Type 0 where
-  pub printed : List ℕ
-  pub last : List ℕ
-  pub before-last : State
-  pub after : Table
-  pub reads : Reads start input printed before-last
-  pub prints : Prints (before-last .table) (before-last .number) (before-last .line) last after
-  pub whole : out ≡ printed ++ last
 
 -- How many bytes of a line the code keeps: one more than a line may have.
 abbrev pub KEPT : ℕ

@@ -8,7 +8,8 @@ ghost use mathlib.Core.Path.{_≡_};
 ghost use Prim.Native.Nat.{_+_, _≤_, _<_};
 ghost use lib.ListN.{length, drop};
 ghost use Rattle.replies.specs.Replies.{ROOM};
-ghost use Rattle.feed.specs.Sheets.{KEPT, lineEnd, StandsFor, start, Keeps, RepliesAt, Feeds};
+ghost use Rattle.sheets.specs.Sheets.{start};
+ghost use Rattle.feed.specs.Sheets.{KEPT, lineEnd, StandsFor, Keeps, RepliesAt, Feeds};
 
 // A sheet as far as it was read: the table after its whole lines, and the line at hand: the place where its next byte
 // goes, and its bytes up to there. Of a line that is too long, as many bytes are kept as show that.

@@ -16,7 +16,7 @@ use Rattle.theory.specs.Dependencies.{NegativeCycle}
 use Rattle.theory.specs.Labels.{Label, absent, out, in-at, Labelled, is-absent, is-out, is-in}
 use Rattle.theory.specs.Questions.{Question, asks, first-no, add-questions, stratified, lowest-free, put-in}
 use Rattle.theory.specs.Questions.{is-in-label}
-use Rattle.theory.specs.Tables.{document}
+use Rattle.theory.specs.Limits.{document}
 use Rattle.theory.proofs.Lists.{test, clash, every-at, or-cases, not-true, eqb-of, unless}
 use Rattle.theory.proofs.Cycles.{stratified-iff, found-cycle, cycle-found}
 use Rattle.theory.proofs.Questions.{first-no-yes, first-no-here, first-no-take, first-no-at}

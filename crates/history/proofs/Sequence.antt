@@ -20,7 +20,7 @@ use Rattle.theory.specs.Questions.{asks, is-some}
 use Rattle.theory.specs.Book.{Call, add, remove, Answer, refused, slot, accepted, empty, answer, after, answers}
 use Rattle.theory.specs.Book.{after-all}
 use Rattle.theory.specs.Book.{refusal, granted, changed, slot-answer}
-use Rattle.theory.specs.Tables.{document}
+use Rattle.theory.specs.Limits.{document}
 use Rattle.theory.proofs.Lists.{test, clash, same-test, lt-ltb, le-or-lt}
 use Rattle.theory.proofs.Rules.{held-unique, valid-positive}
 use Rattle.theory.proofs.Questions.{first-no-yes, held-below}

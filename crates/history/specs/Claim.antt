@@ -15,7 +15,7 @@ use Rattle.theory.specs.Derivations.{Derivation}
 use Rattle.theory.specs.Labels.{Label, out, in-at, Labelled, Shallower, Spoiler, spoiler, Spoils}
 use Rattle.theory.specs.Questions.{is-in-label, lowest-free, put-in}
 use Rattle.theory.specs.Book.{Call, add, remove, Answer, empty, answers, after-all}
-use Rattle.theory.specs.Tables.{document}
+use Rattle.theory.specs.Limits.{document}
 use Rattle.table.specs.declared.Table.{Table}
 use Rattle.table.specs.Labels.{labelAt}
 use Rattle.table.specs.Sound.{Sound}

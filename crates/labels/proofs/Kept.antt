@@ -11,7 +11,7 @@ use Rattle.theory.specs.Rules.{Program, Bounded, Occurs}
 use Rattle.theory.specs.Models.{AtomSet, Admissible}
 use Rattle.theory.specs.Dependencies.{NegativeCycle}
 use Rattle.theory.specs.Labels.{Labelled, is-absent, is-out, is-in}
-use Rattle.theory.specs.Tables.{document}
+use Rattle.theory.specs.Limits.{document}
 use Rattle.theory.proofs.Lists.{le-or-lt, clash}
 use Rattle.table.specs.declared.Label.{Label}
 use Rattle.table.specs.Labels.{labelOf, absentLabel}

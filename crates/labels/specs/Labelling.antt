@@ -8,7 +8,7 @@ use Rattle.theory.specs.Rules.{Program}
 use Rattle.theory.specs.Models.{AtomSet, Admissible}
 use Rattle.theory.specs.Dependencies.{NegativeCycle}
 use Rattle.theory.specs.Labels.{Labelled}
-use Rattle.theory.specs.Tables.{document}
+use Rattle.theory.specs.Limits.{document}
 use Rattle.table.specs.declared.Label.{Label}
 use Rattle.table.specs.Labels.{labelAt, absentLabel}
 use Rattle.table.specs.Clean.{CleanLabel}

@@ -11,7 +11,7 @@ use table::Table;
 ghost use mathlib.Core.Path.{_≡_};
 ghost use Prim.Native.Nat.{ℕ, _<_};
 ghost use Rattle.theory.specs.Rules.{Bounded};
-ghost use Rattle.theory.specs.Tables.{document};
+ghost use Rattle.theory.specs.Limits.{document};
 ghost use Rattle.table.specs.Rules.{programOf};
 ghost use Rattle.table.specs.Labels.{absentLabel};
 ghost use Rattle.table.specs.Sets.{member, number};
@@ -34,7 +34,7 @@ fn label_for(is_in: bool, occurs: bool, depth: u16, slot: u16) -> Label
             slot: Slot(slot),
         };
     }
-    let state: u8 = if occurs { 1 } else { 0 };
+    let state: u16 = if occurs { 1 } else { 0 };
     Label {
         state: state,
         depth: 0,

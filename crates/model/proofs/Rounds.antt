@@ -10,7 +10,7 @@ use lib.ListN.{length, getD, replicate, length-replicate}
 use Rattle.theory.specs.Rules.{Program, Bounded}
 use Rattle.theory.specs.Models.{AtomSet, Admissible}
 use Rattle.theory.specs.Questions as questions
-use Rattle.theory.specs.Tables.{document}
+use Rattle.theory.specs.Limits.{document}
 use Rattle.theory.proofs.Lists.{count-length}
 use Rattle.theory.proofs.Strata.{Strata}
 use Rattle.theory.proofs.Fill.{Filled, begin, done}

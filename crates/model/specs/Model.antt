@@ -1,7 +1,7 @@
 -- What is asked of the numbers given for the atoms. Assumes nothing.
 use Prim.Native.Nat.{ℕ}
 use Rattle.theory.specs.Rules.{Program, Bounded}
-use Rattle.theory.specs.Tables.{document}
+use Rattle.theory.specs.Limits.{document}
 use Rattle.theory.proofs.Strata.{Strata}
 
 -- The numbers ℓ are strata of the program, all of whose atoms are below the limit.

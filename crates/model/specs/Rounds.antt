@@ -8,7 +8,7 @@ use lib.Dec.{eqb}
 use lib.ListN.{length}
 use Rattle.theory.specs.Rules.{Program}
 use Rattle.theory.specs.Models.{AtomSet}
-use Rattle.theory.specs.Tables.{document}
+use Rattle.theory.specs.Limits.{document}
 use Rattle.theory.proofs.Fill.{Filled}
 use Rattle.theory.proofs.Rounds.{fill}
 use Rattle.table.specs.Sets.{member}

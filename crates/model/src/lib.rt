@@ -1,8 +1,8 @@
 // The in atoms of a table's rules, found by rounds over the slots, lowest stratum first.
+use rule::valid;
 use table::Atom;
 use table::Rule;
 use table::Table;
-use table::rules::valid;
 use table::sets::has;
 use table::sets::mark;
 use table::sets::number_of;

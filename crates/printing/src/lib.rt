@@ -5,7 +5,7 @@ use table::Label;
 use table::Table;
 ghost use Prim.Native.Nat.{_+_, _*_, _≤_, _<_};
 ghost use lib.ListN.{length};
-ghost use Rattle.theory.specs.Tables.{document};
+ghost use Rattle.theory.specs.Limits.{document};
 ghost use Rattle.table.specs.Labels.{labelOf, labelAt};
 ghost use Rattle.printing.specs.Printed.{field, fields, named, refusalLine};
 ghost use Rattle.printing.specs.Printed.{whyLine, inLine, labelLine, labelLines};

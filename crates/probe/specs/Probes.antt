@@ -5,7 +5,7 @@ use mathlib.Core.Logic.{_↔_}
 use lib.ListN.{getD}
 use Rattle.theory.specs.Models.{AtomSet}
 use Rattle.theory.specs.Dependencies.{NegativeCycle}
-use Rattle.theory.specs.Tables.{document}
+use Rattle.theory.specs.Limits.{document}
 use Rattle.table.specs.declared.Table.{Table}
 use Rattle.table.specs.Rules.{programOf, pastRule}
 use Rattle.table.specs.Clean.{WellFormed}

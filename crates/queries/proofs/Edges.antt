@@ -17,7 +17,7 @@ use Rattle.theory.specs.Models.{AtomSet}
 use Rattle.theory.specs.Labels.{Supporting, Spoiler, spoiler}
 use Rattle.theory.specs.Explanations.{Affected, Repercussion}
 use Rattle.theory.specs.Explanations as explained
-use Rattle.theory.specs.Tables.{document}
+use Rattle.theory.specs.Limits.{document}
 use Rattle.theory.proofs.Lists.{le-or-lt, clash}
 use Rattle.theory.proofs.Rules.{held-unique}
 use Rattle.theory.proofs.Questions.{held-below}

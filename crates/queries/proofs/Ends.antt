@@ -15,7 +15,7 @@ use Rattle.theory.specs.Models.{AtomSet, Admissible}
 use Rattle.theory.specs.Labels.{absent, out, in-at, Labelled, is-in, Supporting, spoiler}
 use Rattle.theory.specs.Labels as theory-labels
 use Rattle.theory.specs.Questions.{Question, first-no, asks, atom-questions, slot-questions, is-in-label, is-some}
-use Rattle.theory.specs.Tables.{document}
+use Rattle.theory.specs.Limits.{document}
 use Rattle.theory.proofs.Lists.{ltb-lt, lt-ltb, unless}
 use Rattle.theory.proofs.Questions.{first-no-yes, first-no-here}
 use Rattle.theory.proofs.Certificate.{Certified, certified-admissible, certified-labels, kept-in}

@@ -10,7 +10,7 @@ use Rattle.theory.specs.Lists.{_∈_}
 use Rattle.theory.specs.Rules.{Rule, entries}
 use Rattle.theory.specs.Models.{AtomSet}
 use Rattle.theory.specs.Labels.{Spoiler, spoiler}
-use Rattle.theory.specs.Tables.{document}
+use Rattle.theory.specs.Limits.{document}
 
 -- One of the first n edges leads from x to h.
 pub record Stands (from to : List ℕ) (n x h : ℕ) : Type 0 where

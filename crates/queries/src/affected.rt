@@ -1,11 +1,11 @@
 // The steps from an atom to those that it affects, as edges, and what they lead to.
 use reach::reach;
+use rule::negative_end;
+use rule::spoiler;
 use table::Atom;
 use table::Rule;
 use table::Spoiler;
 use table::Table;
-use table::rules::negative_end;
-use table::rules::spoiler;
 use table::sets::has;
 use table::sets::number_of;
 ghost use mathlib.Core.Path.{_≡_};
@@ -14,7 +14,7 @@ ghost use Prim.Native.Nat.{ℕ, _+_, _*_, _≤_, _<_};
 ghost use Rattle.theory.specs.Rules.{Bounded};
 ghost use Rattle.theory.specs.Labels.{Supporting};
 ghost use Rattle.theory.specs.Explanations.{Repercussion};
-ghost use Rattle.theory.specs.Tables.{document};
+ghost use Rattle.theory.specs.Limits.{document};
 ghost use Rattle.table.specs.Sets.{member, number};
 ghost use Rattle.table.specs.Rules.{slotOf, ruleOf, programOf};
 ghost use Rattle.queries.specs.Places.{Flags};

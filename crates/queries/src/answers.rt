@@ -1,11 +1,11 @@
 // One kept label, one spoiler, told as an answer.
 use calls::LabelAnswer;
 use calls::SpoilerAnswer;
+use rule::spoiler;
 use table::Label;
 use table::Rule;
 use table::Spoiler;
 use table::Table;
-use table::rules::spoiler;
 ghost use mathlib.Core.Path.{_≡_};
 ghost use Rattle.theory.specs.Labels.{spoiler};
 ghost use Rattle.table.specs.Sets.{member};

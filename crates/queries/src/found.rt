@@ -1,15 +1,15 @@
 // The sets of justifications and of consequences of an atom.
+use rule::negative_end;
 use table::Atom;
 use table::Rule;
 use table::Table;
-use table::rules::negative_end;
 use table::sets::mark;
 ghost use mathlib.Core.Path.{_≡_};
 ghost use lib.Dec.{eqb};
 ghost use Rattle.theory.specs.Lists.{any};
 ghost use Rattle.theory.specs.Rules.{passes, entries, Bounded};
 ghost use Rattle.theory.specs.Explanations.{Justification, Consequence};
-ghost use Rattle.theory.specs.Tables.{document};
+ghost use Rattle.theory.specs.Limits.{document};
 ghost use Rattle.table.specs.Rules.{slotOf, programOf};
 ghost use Rattle.queries.specs.Places.{Flags, mark-if};
 

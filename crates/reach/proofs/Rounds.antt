@@ -12,7 +12,7 @@ use lib.Seq.{getD-set-other}
 use Rattle.theory.specs.Lists.{Steps, one}
 use Rattle.theory.proofs.Lists.{eqb-eq, eqb-of, eqb-not, or-cases, or-l, or-r, or-false-l, or-false-r}
 use Rattle.theory.proofs.Lists.{clash, le-or-lt, test}
-use Rattle.theory.specs.Tables.{document}
+use Rattle.theory.specs.Limits.{document}
 use Rattle.table.specs.Sets.{member}
 use Rattle.reach.specs.Edges.{Edge, Reached}
 use Rattle.reach.specs.Rounds.{source, Marks, Rests, Followed, missing, one-if, Sound, Closed, Round}

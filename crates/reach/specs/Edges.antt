@@ -7,7 +7,7 @@ use mathlib.Core.List.{List}
 use lib.ListN.{length, getD}
 use Rattle.theory.specs.Lists.{Steps}
 use Rattle.theory.specs.Models.{AtomSet}
-use Rattle.theory.specs.Tables.{document}
+use Rattle.theory.specs.Limits.{document}
 
 -- An edge leads from a to c: some index below `count` has a in the list `from` and c in the list `to`. An index past
 -- the end of either list is no edge, and neither is one with an end past the atoms.

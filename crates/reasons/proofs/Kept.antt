@@ -10,7 +10,7 @@ use lib.ListN.{length, getD, set, take, replicate, length-map, length-take, leng
 use lib.ListN.{List·getD-map, List·getD-eq-default}
 use lib.Seq.{getD-take, getD-set-same, getD-set-other}
 use Rattle.theory.specs.Lists.{_∈_}
-use Rattle.theory.specs.Tables.{document}
+use Rattle.theory.specs.Limits.{document}
 use Rattle.theory.proofs.Lists.{le-or-lt}
 use Rattle.table.specs.declared.Atom.{Atom}
 use Rattle.table.specs.declared.Rule.{Rule}

@@ -16,7 +16,7 @@ use Rattle.theory.specs.Derivations.{Depth}
 use Rattle.theory.specs.Labels.{Supporting, Labelled, is-absent, is-out, is-in}
 use Rattle.theory.specs.Explanations.{Gathered, asked, onward, Before, SlotsOf, Reason}
 use Rattle.theory.specs.Questions.{Question, first-no, reason-questions, is-in-label}
-use Rattle.theory.specs.Tables.{document}
+use Rattle.theory.specs.Limits.{document}
 use Rattle.theory.proofs.Lists.{clash, le-or-lt, lt-ltb}
 use Rattle.theory.proofs.Rules.{held-unique, valid-positive}
 use Rattle.theory.proofs.Derivations.{last}

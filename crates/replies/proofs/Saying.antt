@@ -26,8 +26,9 @@ use Rattle.lines.proofs.Reading as T
 use types.Run.{OneOf}
 use denote.Enum.Declared.{tagOf}
 use Rattle.printing.specs.Printed.{refusalLine}
-use Rattle.replies.specs.Replies as prints
-use Rattle.replies.specs.Replies.{ROOM, lent, tellReason, Says, Prints, Replies}
+use Rattle.sheets.specs.Lines as prints
+use Rattle.sheets.specs.Lines.{lent, tellReason, Prints}
+use Rattle.replies.specs.Replies.{ROOM, Says, Replies}
 use Rattle.printing.specs.Written.{Wrote}
 use Rattle.replies.specs.Parts.{Judged, positives, negatives, Obeys, RepliesRead}
 

@@ -15,7 +15,7 @@ use Rattle.theory.proofs.Certificate.{level}
 use Rattle.table.specs.declared.Rule as table
 use Rattle.table.specs.Sets.{member}
 use Rattle.table.specs.Rules.{slotOf, programOf, pastRule}
-use Rattle.table.proofs.Cleanness.{is-not}
+use Rattle.questions.proofs.Cleanness.{is-not}
 use Rattle.sound.specs.Certificate.{Agrees, Backs, Compared, Backed, Supported}
 use Rattle.sound.proofs.Passes.{equal?, slot-at, head-at}
 

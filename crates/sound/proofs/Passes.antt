@@ -13,7 +13,7 @@ use Rattle.theory.proofs.Lists.{not-true, not-false, clash, le-or-lt}
 use Rattle.table.specs.declared.Rule.{Rule}
 use Rattle.table.specs.Sets.{member}
 use Rattle.table.specs.Rules.{ruleOf, held-in, slotOf, programOf, pastRule}
-use Rattle.table.proofs.Cleanness.{is-not}
+use Rattle.questions.proofs.Cleanness.{is-not}
 
 -- Two numbers are equal or not.
 pub equal? : (a b : ℕ) → (a ≡ b) ⊎ (a ≡ b → ⊥)

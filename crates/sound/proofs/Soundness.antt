@@ -12,8 +12,9 @@ use Rattle.theory.specs.Lists.{_∈_, every}
 use Rattle.theory.specs.Rules.{Rule, Program, Held, Occurs, Bounded, entries}
 use Rattle.theory.specs.Dependencies.{NegativeCycle}
 use Rattle.theory.specs.Labels.{Label, absent, out, in-at, Labelled, is-absent}
-use Rattle.theory.specs.Questions.{Limits, Question, first-no, rule-questions, is-in-label}
-use Rattle.theory.specs.Tables.{document}
+use Rattle.theory.specs.Limits.{Limits}
+use Rattle.theory.specs.Questions.{Question, first-no, rule-questions, is-in-label}
+use Rattle.theory.specs.Limits.{document}
 use Rattle.theory.proofs.Lists.{test, ltb-lt, every-at, le-or-lt}
 use Rattle.theory.proofs.Certificate.{Certified, certified-admissible, certified-labels, labels-certified}
 use Rattle.theory.proofs.Certificate.{kept-in, kept-depth, depth-in}

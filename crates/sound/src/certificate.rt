@@ -1,10 +1,10 @@
 // The kept labels as a certificate: each slot is compared with what is kept of the atoms of its rule.
+use rule::positive_end;
+use rule::valid;
 use table::Atom;
 use table::Label;
 use table::Rule;
 use table::Table;
-use table::rules::positive_end;
-use table::rules::valid;
 use table::sets::has;
 use table::sets::mark;
 use table::sets::number_of;

@@ -9,7 +9,7 @@ ghost use mathlib.Core.Bool.{true};
 ghost use mathlib.Core.Logic.{_↔_};
 ghost use Rattle.theory.specs.Rules.{Bounded};
 ghost use Rattle.theory.specs.Dependencies.{NegativeCycle};
-ghost use Rattle.theory.specs.Tables.{document};
+ghost use Rattle.theory.specs.Limits.{document};
 ghost use Rattle.table.specs.Rules.{programOf};
 ghost use Rattle.table.specs.Labels.{labelAt};
 ghost use Rattle.table.specs.Sound.{Sound};

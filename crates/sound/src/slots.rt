@@ -1,10 +1,10 @@
 // Slots and labels by themselves: each well formed, and no two rules the same.
+use questions::clean::clean_label;
+use questions::clean::well_formed;
+use rule::same;
 use table::Label;
 use table::Rule;
 use table::Table;
-use table::clean::clean_label;
-use table::clean::well_formed;
-use table::rules::same;
 use table::sets::number_of;
 use table::sets::set_number;
 ghost use mathlib.Core.Path.{_≡_};
@@ -13,7 +13,7 @@ ghost use mathlib.Core.Logic.{_↔_};
 ghost use Prim.Native.Nat.{ℕ, _<_};
 ghost use lib.ListN.{getD};
 ghost use Rattle.theory.specs.Rules.{Bounded};
-ghost use Rattle.theory.specs.Tables.{document};
+ghost use Rattle.theory.specs.Limits.{document};
 ghost use Rattle.table.specs.Sets.{number};
 ghost use Rattle.table.specs.Rules.{slotOf, programOf, pastRule};
 ghost use Rattle.table.specs.Labels.{absentLabel};

@@ -1,16 +1,16 @@
 // The strata of a table's rules: for each atom the most negative steps on a path of dependencies from it.
+use rule::negative_end;
+use rule::positive_end;
 use table::Atom;
 use table::Rule;
 use table::Table;
-use table::rules::negative_end;
-use table::rules::positive_end;
 use table::sets::number_of;
 use table::sets::set_number;
 ghost use mathlib.Core.Path.{_≡_};
 ghost use Prim.Native.Nat.{_≤_, max};
 ghost use lib.Seq.{slice};
 ghost use Rattle.theory.specs.Rules.{Bounded};
-ghost use Rattle.theory.specs.Tables.{document};
+ghost use Rattle.theory.specs.Limits.{document};
 ghost use Rattle.table.specs.Sets.{number};
 ghost use Rattle.table.specs.Rules.{numbers, slotOf, programOf};
 ghost use Rattle.strata.specs.Answer.{StrataOf};

@@ -10,9 +10,9 @@ use Rattle.theory.specs.Rules as theory
 use Rattle.theory.specs.Models.{start, Admissible}
 use Rattle.theory.specs.Dependencies.{DependencyPath, here, positive, negative, NegativeCycle}
 use Rattle.theory.specs.Labels.{is-absent, absent}
-use Rattle.theory.specs.Questions.{Limits}
+use Rattle.theory.specs.Limits.{Limits}
 use Rattle.theory.specs.Sound.{SoundLabels}
-use Rattle.theory.specs.Tables.{document}
+use Rattle.theory.specs.Limits.{document}
 use Rattle.table.specs.Rules.{programOf, noAtom, pastRule}
 use Rattle.table.specs.Labels.{labelOf, labelAt, absentLabel}
 use Rattle.table.specs.Clean.{freeRule, emptyTable, CleanRule, CleanLabel, Clean}

@@ -2,9 +2,6 @@
 pub mod Members
 pub mod Entries
 pub mod Programs
-pub mod Sameness
 pub mod Walks
-pub mod Refusals
-pub mod Cleanness
 pub mod Empty
 pub mod Arrays

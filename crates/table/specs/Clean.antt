@@ -5,7 +5,7 @@ use mathlib.Core.Option.{none, some}
 use lib.ListN.{getD, replicate}
 use Rattle.theory.specs.Rules as theory
 use Rattle.theory.specs.Questions.{first-no, rule-questions}
-use Rattle.theory.specs.Tables.{document}
+use Rattle.theory.specs.Limits.{document}
 use Rattle.table.specs.declared.Rule.{Rule}
 use Rattle.table.specs.declared.Label.{Label}
 use Rattle.table.specs.declared.Table.{Table}

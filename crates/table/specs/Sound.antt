@@ -1,6 +1,6 @@
 -- Question 15: is the table handed in sound? Assumes nothing.
 use Rattle.theory.specs.Sound.{SoundLabels}
-use Rattle.theory.specs.Tables.{document}
+use Rattle.theory.specs.Limits.{document}
 use Rattle.table.specs.declared.Table.{Table}
 use Rattle.table.specs.Rules.{programOf}
 use Rattle.table.specs.Labels.{labelAt}

@@ -1,11 +1,9 @@
-// The table: its types, its limits and the empty table. The functions on one set, one rule and one slot are in modules.
+// The table: its types, its limits and the empty table.
 ghost use mathlib.Core.Path.{_≡_};
-ghost use Rattle.table.specs.Clean.{emptyTable};
+ghost use Rattle.table.specs.Clean.{freeRule, emptyTable};
+ghost use Rattle.table.specs.Labels.{absentLabel};
 
-pub mod sets; // sets.rt: sets and numbers of atoms, kept in arrays
-pub mod rules; // rules.rt: one rule: valid, spoiler, the same
-pub mod questions; // questions.rt: questions 1 to 4
-pub mod clean; // clean.rt: what holds nothing stands as in the empty table
+pub mod sets; // sets.rt: sets, numbers and slots of atoms, kept in arrays
 
 // The number of an atom, and the number of a slot. One passed where the other is meant does not build:
 // "error[mismatched-types]: expected `Atom`, found `Slot`".
@@ -16,9 +14,10 @@ pub struct Atom(pub u16);
 pub struct Slot(pub u16);
 
 // A slot: free (state 0) or with one rule (state 1). The entries are the positive list, then the negative list.
+// All fields lie side by side with no padding, here and in a label: two tables with equal fields are equal bytes.
 #[repr(C)]
 pub struct Rule {
-    pub state: u8,
+    pub state: u16,
     pub head: Atom,
     pub positives: u8,
     pub negatives: u8,
@@ -28,7 +27,7 @@ pub struct Rule {
 // What is kept of an atom: absent (state 0), out (1), or in (2) with depth and supporting slot.
 #[repr(C)]
 pub struct Label {
-    pub state: u8,
+    pub state: u16,
     pub depth: u16,
     pub slot: Slot,
 }
@@ -47,6 +46,34 @@ pub enum Spoiler {
     Negative(u8, Atom),
 }
 
+impl Rule {
+    // A slot that holds no rule.
+    pub fn free() -> Rule
+        ensures { λ r. ⌜ r ≡ freeRule ⌝ }
+    {
+        Rule {
+            state: 0,
+            head: Atom(0),
+            positives: 0,
+            negatives: 0,
+            entries: [Atom(0); Table::ENTRIES],
+        }
+    }
+}
+
+impl Label {
+    // The label of an atom that does not occur.
+    pub fn absent() -> Label
+        ensures { λ r. ⌜ r ≡ absentLabel ⌝ }
+    {
+        Label {
+            state: 0,
+            depth: 0,
+            slot: Slot(0),
+        }
+    }
+}
+
 impl Table {
     // The limits: slots, atoms, and entries in both lists of a rule together.
     pub const SLOTS: usize = 256;
@@ -59,21 +86,9 @@ impl Table {
     pub fn empty() -> Table
         ensures { λ r. ⌜ r ≡ emptyTable ⌝ }
     {
-        let free = Rule {
-            state: 0,
-            head: Atom(0),
-            positives: 0,
-            negatives: 0,
-            entries: [Atom(0); Table::ENTRIES],
-        };
-        let absent = Label {
-            state: 0,
-            depth: 0,
-            slot: Slot(0),
-        };
         Table {
-            rules: [free; Table::SLOTS],
-            labels: [absent; Table::ATOMS],
+            rules: [Rule::free(); Table::SLOTS],
+            labels: [Label::absent(); Table::ATOMS],
         }
     }
 }

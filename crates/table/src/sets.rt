@@ -1,9 +1,11 @@
-// Sets of atoms and numbers of atoms, kept in arrays. These and the leaves on one rule take an atom's number apart.
-// An atom past the end is in no set, has the number 0, and is not written.
+// Sets of atoms, and numbers and slots of atoms, kept in arrays that can be lent. Only these leaves, and those on one
+// rule, take an atom or a slot apart. An atom past the end is in no set, has the number 0, and is not written.
 use super::Atom;
+use super::Slot;
 use super::Table;
 ghost use mathlib.Core.Path.{_≡_};
 ghost use mathlib.Core.Bool.{true};
+ghost use Prim.Native.Nat.{max};
 ghost use lib.ListN.{set};
 ghost use Rattle.table.specs.Sets.{member, number};
 
@@ -45,4 +47,25 @@ pub fn set_number(numbers: &mut [u16; Table::ATOMS], a: Atom, v: u16)
     if i < s.len() {
         s[i] = v;
     }
+}
+
+// The slot kept for the atom.
+pub fn slot_of(slots: &[u16; Table::ATOMS], a: Atom) -> Slot
+    ensures { λ r. ⌜ r .0 ≡ number (now (slots .entry)) (a .0) ⌝ }
+{
+    Slot(number_of(slots, a))
+}
+
+// The slot kept for the atom becomes `s`.
+pub fn set_slot(slots: &mut [u16; Table::ATOMS], a: Atom, s: Slot)
+    ensures { λ _. ⌜ now (slots .exit) ≡ set (now (slots .entry)) (a .0) (s .0) ⌝ }
+{
+    set_number(slots, a, s.0);
+}
+
+// The greater of two numbers.
+pub fn larger(x: usize, y: usize) -> usize
+    ensures { λ r. ⌜ r ≡ max x y ⌝ }
+{
+    if x < y { y } else { x }
 }

@@ -15,7 +15,8 @@ use Rattle.theory.specs.Models.{AtomSet, valid}
 use Rattle.theory.specs.Labels.{absent, in-at, Label, Labelled, out}
 use Rattle.theory.specs.Questions.{first-no, lowest-free, reaches, rules, stratified}
 use Rattle.theory.specs.Book.{accepted, after, after-all, answer, Answer, answers, empty, refused, slot}
-use Rattle.theory.specs.Tables.{document, Each, Example, Line, Shows, tables}
+use Rattle.theory.specs.Limits.{document}
+use Rattle.theory.specs.Tables.{Each, Example, Line, Shows, tables}
 use Rattle.theory.proofs.Lists.{and-l, and-of, and-r, clash, eqb-eq, eqb-of, every-at, le-or-lt, leb-le, mem}
 use Rattle.theory.proofs.Lists.{mem-in, not-true, or-cases, test}
 use Rattle.theory.proofs.Rules.{any-rule-of, occurs-at, occurs-test}

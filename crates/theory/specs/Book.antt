@@ -4,7 +4,8 @@ use mathlib.Core.List.{List, [], _∷_}
 use mathlib.Core.Option.{Option, none, some}
 use lib.ListN.{set, replicate}
 use Rattle.theory.specs.Rules.{Rule, Program}
-use Rattle.theory.specs.Questions.{Limits, first-no, add-questions, slot-questions, lowest-free, put-in}
+use Rattle.theory.specs.Limits.{Limits}
+use Rattle.theory.specs.Questions.{first-no, add-questions, slot-questions, lowest-free, put-in}
 
 -- The calls that change a table.
 pub data Call : Type 0 where

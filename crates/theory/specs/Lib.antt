@@ -1,5 +1,6 @@
 -- The definitions, in the order of document 01. A reader of any contract believes these.
 pub mod Lists
+pub mod Limits
 pub mod Rules
 pub mod Models
 pub mod Dependencies

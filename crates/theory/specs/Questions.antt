@@ -1,4 +1,4 @@
--- The limits, and the questions that the calls ask, by number. Assumes nothing.
+-- The questions that the calls ask, by number. Assumes nothing.
 use Prim.Native.Nat.{ℕ, zero, suc, _+_}
 use mathlib.Core.Bool.{Bool, true, false, not, _&&_, _||_}
 use mathlib.Core.List.{List, [], _∷_, _++_}
@@ -6,14 +6,9 @@ use mathlib.Core.Option.{Option, none, some}
 use lib.Dec.{eqb, leb, ltb}
 use lib.ListN.{length, getD, set}
 use Rattle.theory.specs.Lists.{every, any, distinct}
+use Rattle.theory.specs.Limits.{Limits}
 use Rattle.theory.specs.Rules.{Rule, Program, entries, any-rule, same}
 use Rattle.theory.specs.Labels.{Label, absent, out, in-at}
-
--- The limits of a table: atoms and slots are numbered from 0 to below these; a rule has at most so many entries.
-pub record Limits : Type 0 where
-  pub atoms : ℕ
-  pub slots : ℕ
-  pub entries : ℕ
 
 -- A question with its number and answer. The first that is answered no is the refusal.
 pub record Question : Type 0 where

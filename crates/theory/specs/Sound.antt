@@ -8,7 +8,8 @@ use Rattle.theory.specs.Rules.{Rule, Program, Held, same}
 use Rattle.theory.specs.Models.{AtomSet, Admissible}
 use Rattle.theory.specs.Dependencies.{NegativeCycle}
 use Rattle.theory.specs.Labels.{Label, Labelled}
-use Rattle.theory.specs.Questions.{Limits, first-no, rule-questions}
+use Rattle.theory.specs.Limits.{Limits}
+use Rattle.theory.specs.Questions.{first-no, rule-questions}
 
 -- Sound: each held rule passes 1 to 4, no two are the same, there is no loop through a negation, and every kept label,
 -- depth and supporting slot is the one defined. (A table adds: all that holds nothing stands as in the empty table.)

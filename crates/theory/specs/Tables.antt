@@ -6,12 +6,8 @@ use Rattle.theory.specs.Lists.{_∈_}
 use Rattle.theory.specs.Rules.{Rule, Program}
 use Rattle.theory.specs.Models.{AtomSet, Admissible}
 use Rattle.theory.specs.Labels.{Label, absent, out, in-at, Labelled}
-use Rattle.theory.specs.Questions.{Limits}
+use Rattle.theory.specs.Limits.{document}
 use Rattle.theory.specs.Book.{Call, add, remove, Answer, refused, slot, accepted, empty, answers, after-all}
-
--- Document 01's limits.
-abbrev pub document : Limits
-document = record { atoms = 256; slots = 256; entries = 8 }
 
 -- An atom and its label.
 pub record Line : Type 0 where

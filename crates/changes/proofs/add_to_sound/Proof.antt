@@ -6,10 +6,10 @@ use mathlib.Core.Option.{none}
 use Rattle.theory.specs.Rules.{any-rule, same}
 use Rattle.theory.specs.Rules as theory
 use Rattle.theory.specs.Questions.{first-no, rule-questions, lowest-free}
-use Rattle.theory.specs.Tables.{document}
+use Rattle.theory.specs.Limits.{document}
 use Rattle.theory.proofs.Lists.{not-true, not-false}
 use Rattle.table.specs.Questions.{ruleFrom}
-use Rattle.table.proofs.Refusals.{none-refused}
+use Rattle.questions.proofs.Refusals.{none-refused}
 use Rattle.calls.specs.Contracts.{held}
 use Rattle.changes.proofs.Adding.{same-told, refused-early, refused-same, refused-full, refused-cycle}
 use Rattle.changes.proofs.Adding.{bounded-put, taken, handed-back}

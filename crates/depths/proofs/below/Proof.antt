@@ -10,7 +10,7 @@ use Rattle.table.specs.Rules.{numbers, ruleOf, noAtom}
 use Rattle.table.proofs.Entries.{every-over, every-next, every-stop, positives-are}
 use Rattle.depths.specs.Passes.{within}
 use Rattle.depths.proofs.Slots.{within-of, within-none, within-high}
-use Rattle.theory.specs.Tables.{document}
+use Rattle.theory.specs.Limits.{document}
 use borrow.Author.Needs.{needs}
 use Rattle.depths.proofs.below.Statement.{statement}
 use Rattle.depths.proofs.below.Tie as tie

@@ -1,7 +1,7 @@
 -- `queries::repercussions` meets its contract. Assumes nothing.
 use mathlib.Core.Path.{_≡_}
 use lib.ListN.{length, length-map}
-use Rattle.theory.specs.Tables.{document}
+use Rattle.theory.specs.Limits.{document}
 use Rattle.theory.specs.Explanations.{Repercussion}
 use Rattle.calls.specs.Contracts.{held}
 use Rattle.calls.proofs.Asking.{ask-passed, list-refused}

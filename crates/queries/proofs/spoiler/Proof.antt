@@ -1,7 +1,7 @@
 -- `queries::spoiler` meets its contract. Assumes nothing.
 use mathlib.Core.Path.{_≡_}
 use lib.ListN.{length, length-map}
-use Rattle.theory.specs.Tables.{document}
+use Rattle.theory.specs.Limits.{document}
 use Rattle.sound.proofs.Passes.{refused, granted}
 use Rattle.calls.specs.Contracts as contract
 use Rattle.calls.specs.declared.Refusal.the-variants.{SlotNumber, Free}

@@ -2,7 +2,7 @@
 -- set is closed. The measure: the atoms that are missing, and the last round. Assumes nothing.
 use Prim.Native.Nat.{_+_}
 use borrow.Author.Needs.{needs}
-use Rattle.theory.specs.Tables.{document}
+use Rattle.theory.specs.Limits.{document}
 use Rattle.reach.specs.Rounds.{missing, one-if}
 use Rattle.reach.proofs.Rounds.{Rounds, rounds-start, rounds-next, rounds-fewer, rounds-over}
 use Rattle.reach.proofs.reach.Statement.{statement}

@@ -2,7 +2,7 @@
 use native.Mathlib.Omega.{arith}
 use mathlib.Core.Path.{_≡_, sym, ap, _∙_}
 use lib.ListN.{length, length-map}
-use Rattle.theory.specs.Tables.{document}
+use Rattle.theory.specs.Limits.{document}
 use Rattle.reasons.proofs.Kept.{positives-none, positives-in, positives-length}
 use borrow.Author.Needs.{needs}
 use Rattle.reasons.proofs.entry_count.Statement.{statement}

@@ -4,7 +4,7 @@ use Prim.Native.Nat.{_-_}
 use native.Mathlib.Omega.{arith}
 use mathlib.Core.Path.{_≡_, refl}
 use lib.ListN.{length}
-use Rattle.theory.specs.Tables.{document}
+use Rattle.theory.specs.Limits.{document}
 use Rattle.reasons.specs.Kept.{depthAt, slotAt}
 use Rattle.reasons.proofs.Kept.{Copying, copying-start, copying-next, copying-end, past-depth, past-slot}
 use borrow.Author.Needs.{needs}

@@ -1,7 +1,7 @@
 -- `reasons::listed` meets its contract: what was gathered, counted and written is the reason. Assumes nothing.
 use mathlib.Core.Path.{_≡_}
 use lib.ListN.{length, length-map}
-use Rattle.theory.specs.Tables.{document}
+use Rattle.theory.specs.Limits.{document}
 use Rattle.reasons.proofs.Reasons.{slotted, ends-short, ends-written}
 use borrow.Author.Needs.{needs}
 use Rattle.reasons.proofs.listed.Statement.{statement}

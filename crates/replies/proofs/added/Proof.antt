@@ -4,8 +4,8 @@ use lib.ListN.{length-map}
 use mathlib.Core.Path.{sym, _∙_, ap}
 use Rattle.lines.specs.Texts.{bytes}
 use Rattle.printing.specs.Printed.{refusalLine}
-use Rattle.replies.specs.Replies as prints
-use Rattle.replies.specs.Replies.{tellAdd}
+use Rattle.sheets.specs.Lines as prints
+use Rattle.sheets.specs.Lines.{tellAdd}
 use Rattle.replies.proofs.Saying.{replied}
 use borrow.Author.Needs.{needs}
 use Rattle.replies.proofs.added.Statement.{statement}

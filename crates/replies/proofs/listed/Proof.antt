@@ -3,7 +3,7 @@ use mathlib.Core.Path.{refl, ap}
 use Rattle.sound.proofs.Passes.{granted}
 use Rattle.sound.proofs.Passes.{refused as not-sound}
 use Rattle.printing.specs.Printed.{refusalLine}
-use Rattle.replies.specs.Replies as prints
+use Rattle.sheets.specs.Lines as prints
 use Rattle.replies.proofs.Saying.{says, replied}
 use borrow.Author.Needs.{needs}
 use Rattle.replies.proofs.listed.Statement.{statement}

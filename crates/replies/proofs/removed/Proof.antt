@@ -2,8 +2,8 @@
 use mathlib.Core.Path.{sym, _∙_, ap}
 use Rattle.lines.specs.Texts.{bytes}
 use Rattle.printing.specs.Printed.{refusalLine}
-use Rattle.replies.specs.Replies as prints
-use Rattle.replies.specs.Replies.{tellRemove}
+use Rattle.sheets.specs.Lines as prints
+use Rattle.sheets.specs.Lines.{tellRemove}
 use Rattle.replies.proofs.Saying.{replied}
 use borrow.Author.Needs.{needs}
 use Rattle.replies.proofs.removed.Statement.{statement}

@@ -1,6 +1,6 @@
 -- `replies::reply_to` meets its contract. Assumes nothing.
 use mathlib.Core.Path.{refl, sym, _∙_}
-use Rattle.replies.specs.Replies as prints
+use Rattle.sheets.specs.Lines as prints
 use Rattle.replies.proofs.Saying.{replied, judged, told}
 use borrow.Author.Needs.{needs}
 use Rattle.replies.proofs.reply_to.Statement.{statement}

@@ -4,7 +4,7 @@ use native.Mathlib.Omega.{arith}
 use mathlib.Core.Path.{_≡_}
 use lib.ListN.{length}
 use borrow.Author.Count.{below-more}
-use Rattle.theory.specs.Tables.{document}
+use Rattle.theory.specs.Limits.{document}
 use Rattle.sound.proofs.Occurrence.{KeptAt, compared-differ, compared-alike, occurrence-not, occurrence-all}
 use lib.ListN.{getD}
 use Rattle.table.specs.Labels.{absentLabel}

@@ -2,10 +2,10 @@
 use Prim.Native.Nat.{ℕ, _<_}
 use mathlib.Core.Path.{_≡_}
 use lib.ListN.{length, length-map, getD}
-use Rattle.theory.specs.Tables.{document}
+use Rattle.theory.specs.Limits.{document}
 use Rattle.table.specs.Rules.{pastRule}
 use Rattle.table.specs.Clean.{WellFormed}
-use Rattle.table.proofs.Cleanness.{is-not}
+use Rattle.questions.proofs.Cleanness.{is-not}
 use Rattle.sound.proofs.Passes.{refused, granted}
 use Rattle.sound.proofs.Soundness.{sound-well-formed, sound-kept, sound-occurrence, sound-of}
 use Rattle.sound.proofs.Soundness.{well-formed-bounded}

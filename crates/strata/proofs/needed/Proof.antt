@@ -1,7 +1,7 @@
 -- `strata::needed` meets its contract. Assumes nothing.
 use lib.ListN.{length-map}
 use borrow.Author.Needs.{needs}
-use Rattle.theory.specs.Tables.{document}
+use Rattle.theory.specs.Limits.{document}
 use Rattle.strata.proofs.Numbers.{needed-held}
 use Rattle.strata.proofs.needed.Statement.{statement}
 use Rattle.strata.proofs.needed.Tie as tie
@@ -9,8 +9,8 @@ use Rattle.strata.proofs.needed.Reads as reads
 use Rattle.strata.proofs.needed.Lts as lts
 use Rattle.strata.proofs.greatest.Reads as greatest-reads
 use Rattle.strata.proofs.larger.Reads as larger-reads
-use Rattle.table.proofs.rules.negative_end.Reads as negative-end-reads
-use Rattle.table.proofs.rules.positive_end.Reads as positive-end-reads
+use Rattle.rule.proofs.negative_end.Reads as negative-end-reads
+use Rattle.rule.proofs.positive_end.Reads as positive-end-reads
 
 returns : tie.Need-returns
 returns c = search needs

@@ -4,7 +4,7 @@ use native.Mathlib.Omega.{arith}
 use mathlib.Core.Path.{_≡_, refl, _∙_}
 use lib.ListN.{length}
 use borrow.Author.Needs.{needs}
-use Rattle.theory.specs.Tables.{document}
+use Rattle.theory.specs.Limits.{document}
 use Rattle.theory.proofs.Lists.{not-true, not-false}
 use Rattle.table.specs.Sets.{number}
 use Rattle.table.specs.Rules.{programOf}

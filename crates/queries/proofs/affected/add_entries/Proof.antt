@@ -4,7 +4,7 @@ use Prim.Native.Nat.{_-_, _≤_}
 use native.Mathlib.Omega.{arith}
 use mathlib.Core.Path.{_≡_, _∙_}
 use lib.ListN.{length, length-map}
-use Rattle.theory.specs.Tables.{document}
+use Rattle.theory.specs.Limits.{document}
 use Rattle.table.specs.Rules.{ruleOf}
 use Rattle.table.proofs.Entries.{entries-are}
 use Rattle.queries.proofs.Edges.{Entering, entering-start, entering-next, entering-over}

@@ -4,7 +4,7 @@ use Prim.Native.Nat.{_-_, _≤_, _*_}
 use native.Mathlib.Omega.{arith}
 use mathlib.Core.Path.{_≡_}
 use lib.ListN.{length}
-use Rattle.theory.specs.Tables.{document}
+use Rattle.theory.specs.Limits.{document}
 use Rattle.table.specs.Sets.{member, number}
 use Rattle.table.specs.Rules.{programOf}
 use Rattle.table.proofs.Programs.{program-at, program-length}

@@ -7,7 +7,7 @@ use lib.Dec.{eqb}
 use lib.ListN.{length, length-map}
 use lib.Seq.{slice}
 use Rattle.theory.specs.Lists.{any}
-use Rattle.theory.specs.Tables.{document}
+use Rattle.theory.specs.Limits.{document}
 use Rattle.theory.proofs.Lists.{eqb-of, eqb-not}
 use Rattle.table.specs.Rules.{numbers}
 use Rattle.table.proofs.Entries.{entries-are}

@@ -6,7 +6,7 @@ use mathlib.Core.Path.{_≡_, sym}
 use lib.Dec.{eqb}
 use lib.ListN.{length}
 use Rattle.theory.specs.Rules.{passes}
-use Rattle.theory.specs.Tables.{document}
+use Rattle.theory.specs.Limits.{document}
 use Rattle.table.specs.Rules.{slotOf, pastRule}
 use Rattle.queries.proofs.Copies.{Copied, copied-start, copied-next, copied-all}
 use Rattle.queries.proofs.Passes.{justified}

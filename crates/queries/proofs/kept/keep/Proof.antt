@@ -5,7 +5,7 @@ use native.Mathlib.Omega.{arith}
 use mathlib.Core.Path.{_≡_, sym}
 use lib.ListN.{length}
 use Rattle.theory.specs.Questions.{is-in-label}
-use Rattle.theory.specs.Tables.{document}
+use Rattle.theory.specs.Limits.{document}
 use Rattle.table.specs.Labels.{labelOf, absentLabel}
 use Rattle.sound.specs.Certificate.{slot-in}
 use Rattle.queries.proofs.Copies.{Copied, copied-start, copied-next, copied-all}

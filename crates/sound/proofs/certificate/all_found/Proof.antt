@@ -3,12 +3,12 @@ use Prim.Native.Nat.{ℕ, _<_, _-_}
 use native.Mathlib.Omega.{arith}
 use mathlib.Core.Path.{_≡_}
 use mathlib.Core.Bool.{true}
-use Rattle.theory.specs.Tables.{document}
+use Rattle.theory.specs.Limits.{document}
 use Rattle.table.specs.Sets.{member}
 use borrow.Author.Count.{below-more}
 use mathlib.Core.Path.{refl}
 use lib.ListN.{length}
-use Rattle.table.proofs.Cleanness.{is-not}
+use Rattle.questions.proofs.Cleanness.{is-not}
 use Rattle.sound.proofs.Passes.{without, with, member-below}
 use borrow.Author.Needs.{needs}
 use Rattle.sound.proofs.certificate.all_found.Statement.{statement}

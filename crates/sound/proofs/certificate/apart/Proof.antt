@@ -2,7 +2,7 @@
 use Prim.Native.Nat.{_-_}
 use native.Mathlib.Omega.{arith}
 use Rattle.theory.specs.Questions.{is-in-label}
-use Rattle.theory.specs.Tables.{document}
+use Rattle.theory.specs.Limits.{document}
 use Rattle.theory.proofs.Certificate.{depth-in}
 use Rattle.table.specs.Labels.{labelOf}
 use Rattle.sound.specs.Certificate.{slot-in}

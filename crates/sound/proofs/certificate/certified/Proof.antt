@@ -1,7 +1,7 @@
 -- `sound::certificate::certified` meets its contract. Assumes nothing.
 use Prim.Native.Nat.{_-_}
 use native.Mathlib.Omega.{arith}
-use Rattle.theory.specs.Tables.{document}
+use Rattle.theory.specs.Limits.{document}
 use Rattle.table.specs.Sets.{member, number}
 use Rattle.table.specs.Rules.{programOf}
 use Rattle.sound.proofs.Agreement.{Checked, checked-start, checked-all, slot-fails, slot-passes}

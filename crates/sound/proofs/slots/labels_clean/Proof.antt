@@ -2,7 +2,7 @@
 use Prim.Native.Nat.{ℕ, _<_, _-_}
 use native.Mathlib.Omega.{arith}
 use lib.ListN.{getD}
-use Rattle.theory.specs.Tables.{document}
+use Rattle.theory.specs.Limits.{document}
 use Rattle.table.specs.Labels.{absentLabel}
 use Rattle.table.specs.Clean.{CleanLabel}
 use Rattle.sound.proofs.Passes.{stops, ends, refused, granted}

@@ -3,9 +3,9 @@ use Prim.Native.Nat.{_-_, _≤_}
 use native.Mathlib.Omega.{arith}
 use mathlib.Core.Path.{_≡_, refl, sym, _∙_}
 use lib.ListN.{length, length-map, getD}
-use Rattle.theory.specs.Tables.{document}
+use Rattle.theory.specs.Limits.{document}
 use Rattle.table.specs.Rules.{slotOf, programOf, pastRule}
-use Rattle.table.proofs.Cleanness.{is-not}
+use Rattle.questions.proofs.Cleanness.{is-not}
 use Rattle.sound.proofs.Passes.{slot-at, slot-rule, all-one}
 use Rattle.sound.proofs.Links.{Linked, Following, links-start, links-step, links-all}
 use Rattle.sound.proofs.Links.{follow-from, follow-falls, follow-next, follow-same}

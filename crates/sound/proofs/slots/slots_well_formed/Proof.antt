@@ -2,7 +2,7 @@
 use Prim.Native.Nat.{ℕ, _<_, _-_}
 use native.Mathlib.Omega.{arith}
 use lib.ListN.{getD}
-use Rattle.theory.specs.Tables.{document}
+use Rattle.theory.specs.Limits.{document}
 use Rattle.table.specs.Rules.{pastRule}
 use Rattle.table.specs.Clean.{WellFormed}
 use Rattle.sound.proofs.Passes.{stops, ends, refused, granted}

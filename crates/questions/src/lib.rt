@@ -1,0 +1,96 @@
+// Questions 1 to 4, of the bare arguments of an addition, and of what a slot holds.
+use table::Table;
+ghost use mathlib.Core.Path.{_≡_};
+ghost use Prim.Native.Nat.{_+_};
+ghost use lib.Dec.{eqb, leb, ltb};
+ghost use lib.ListN.{length, drop};
+ghost use Rattle.theory.specs.Lists.{every, any, distinct};
+ghost use Rattle.theory.specs.Questions.{first-no, rule-questions};
+ghost use Rattle.theory.specs.Limits.{document};
+ghost use Rattle.table.specs.Questions.{ruleFrom, refusalNumber};
+
+pub mod clean; // clean.rt: what holds nothing stands as in the empty table; well-formed slots
+
+// 1: Is the head below the number of atoms?
+pub fn head_fits(head: u32) -> bool
+    ensures { λ r. ⌜ r ≡ ltb head (document .atoms) ⌝ }
+{
+    (head as usize) < Table::ATOMS
+}
+
+// 2: Do both lists together have at most as many entries as a rule has room for?
+pub fn few_entries(positives: &[u32], negatives: &[u32]) -> bool
+    ensures { λ r. ⌜ r ≡ leb (length (now (positives .entry)) + length (now (negatives .entry))) (document .entries) ⌝ }
+{
+    positives.len() + negatives.len() <= Table::ENTRIES
+}
+
+// 3, of one list: Is every entry below the number of atoms? An entry is tested as a head is.
+pub fn entries_fit(list: &[u32]) -> bool
+    ensures { λ r. ⌜ r ≡ every (λ x. ltb x (document .atoms)) (now (list .entry)) ⌝ }
+{
+    let mut i: usize = 0;
+    while i < list.len() {
+        let x = list[i];
+        if !head_fits(x) {
+            return false;
+        }
+        i += 1;
+    }
+    true
+}
+
+// Does a number stand in the list from a place on?
+fn stands_from(list: &[u32], from: usize, x: u32) -> bool
+    ensures { λ r. ⌜ r ≡ any (eqb x) (drop from (now (list .entry))) ⌝ }
+{
+    let mut i = from;
+    while i < list.len() {
+        if x == list[i] {
+            return true;
+        }
+        i += 1;
+    }
+    false
+}
+
+// 4, of one list: Is it without a repeated atom?
+pub fn no_repeat(list: &[u32]) -> bool
+    ensures { λ r. ⌜ r ≡ distinct (now (list .entry)) ⌝ }
+{
+    let mut i: usize = 0;
+    while i < list.len() {
+        let x = list[i];
+        if stands_from(list, i + 1, x) {
+            return false;
+        }
+        i += 1;
+    }
+    true
+}
+
+// The first of questions 1 to 4 that is answered no, by its number; 0 where all are answered yes.
+pub fn first_no(head: u32, positives: &[u32], negatives: &[u32]) -> u32
+    ensures { λ r. ⌜ r ≡ refusalNumber (first-no
+        (rule-questions document (ruleFrom head (now (positives .entry)) (now (negatives .entry))))) ⌝ }
+{
+    if !head_fits(head) {
+        return 1;
+    }
+    if !few_entries(positives, negatives) {
+        return 2;
+    }
+    if !entries_fit(positives) {
+        return 3;
+    }
+    if !entries_fit(negatives) {
+        return 3;
+    }
+    if !no_repeat(positives) {
+        return 4;
+    }
+    if !no_repeat(negatives) {
+        return 4;
+    }
+    0
+}

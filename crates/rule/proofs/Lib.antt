@@ -1,0 +1,2 @@
+-- Laws about sameness, for the proofs of the functions.
+pub mod Sameness

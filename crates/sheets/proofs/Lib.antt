@@ -1,0 +1,2 @@
+-- Laws about the lines of a sheet and about whole sheets.
+pub mod Unique

@@ -1,0 +1,3 @@
+-- What a sheet does: its lines, and the whole of it. A reader of the sheet program believes these.
+pub mod Lines
+pub mod Sheets

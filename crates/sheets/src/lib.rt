@@ -1,0 +1,4 @@
+// What a sheet does has no code of its own: its definitions are in specs/, the laws about them in proofs/.
+pub fn holds() -> bool {
+    true
+}
