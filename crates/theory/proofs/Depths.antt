@@ -11,12 +11,12 @@ use mathlib.Core.List.{List, [], _∷_, List·Memᴰ, List·Memᴰ·head, List·
 use mathlib.Core.List.{List·Memᴰ·not-nil}
 use lib.Dec.{eqb}
 use lib.ListN.{length}
-use Rattle.theory.specs.Lists.{_∈_, every}
+use Rattle.theory.specs.Lists.{_∈_, every, Sorted}
 use Rattle.theory.specs.Rules.{any-rule, Held, Program, Rule}
 use Rattle.theory.specs.Models.{AtomSet, Closed, Founded, next, Ordered, start, valid}
 use Rattle.theory.specs.Derivations.{by, Depth, Derivation}
-use Rattle.theory.proofs.Lists.{and-l, and-of, and-r, clash, count, count-length, count-lt, eqb-eq, eqb-of}
-use Rattle.theory.proofs.Lists.{every-at, every-of, in-mem, le-or-lt, mem, mem-in, test, unless}
+use Rattle.theory.proofs.Lists.{and-l, and-of, and-r, clash, eqb-eq, eqb-of, every-at, every-of, le-or-lt}
+use Rattle.theory.proofs.Lists.{sorted-within, test, unless}
 use Rattle.theory.proofs.Rules.{any-rule-at, any-rule-of}
 use Rattle.theory.proofs.Derivations.{entry, gather, last}
 
@@ -197,19 +197,11 @@ module _ (P : Program) (M : AtomSet) (d : ℕ → ℕ)
   pub settled-depth : (a : ℕ) → Derivation P M a (d a) → Depth P M a (d a)
   settled-depth a D = record { reached = D; least = λ h E. settled h a h (omega arith) E }
 
--- An order within a list is no longer than the list: each atom stands in the order once.
-order-short :
-    (P : Program) (M : AtomSet) (ys : List ℕ) (xs : List ℕ) → Ordered P M xs → ((x : ℕ) → x ∈ xs → x ∈ ys)
-    → length xs ≤ count (λ y. mem y xs) ys
-order-short P M ys [] start f = omega arith
-order-short P M ys (a ∷ xs) (next o fresh s r held e v earlier) f =
-    let i = order-short P M ys xs o (λ x m. f x (List·Memᴰ·tail m)) in
-    omega (
-      arith,
-      count-lt (λ y. mem y xs) (λ y. mem y (a ∷ xs)) ys
-          (λ y m t. in-mem y (a ∷ xs) (List·Memᴰ·tail (mem-in y xs t))) a (f a (List·Memᴰ·head refl))
-          (unless _ (λ t. fresh (mem-in a xs t))) (in-mem a (a ∷ xs) (List·Memᴰ·head refl)),
-    )
+-- Each atom stands in an order once.
+order-once : (P : Program) (M : AtomSet) (xs : List ℕ) → Ordered P M xs → Sorted (λ x y. x ≡ y → ⊥) xs
+order-once P M [] start = tt
+order-once P M (a ∷ xs) (next o fresh s r held e v earlier) =
+    ((λ y m q. fresh (subst (λ (z : ℕ). z ∈ xs) (sym q) m)), order-once P M xs o)
 
 -- A depth is at most the number of in atoms, which any list that holds exactly them has at least as entries.
 pub depth-count :
@@ -217,5 +209,6 @@ pub depth-count :
     → M a ≡ true → Depth P M a d → d ≤ length ys
 depth-count P M F ys all a d t D =
     let w = in-depth P M F a t in
-    let l = order-short P M ys (F .order) (F .ordered) (λ x m. all x (F .exactly x .1 m)) in
-    omega (arith, depth-unique D (w .1), w .2, count-length (λ y. mem y (F .order)) ys)
+    let l = sorted-within (λ x y. x ≡ y → ⊥) (λ x f. f refl) ys (F .order) (order-once P M (F .order) (F .ordered))
+    (λ x m. all x (F .exactly x .1 m)) in
+    omega (arith, depth-unique D (w .1), w .2, l)

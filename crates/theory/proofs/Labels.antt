@@ -9,7 +9,7 @@ use mathlib.Core.List.{List, [], _∷_, List·Memᴰ·head, Memᴰ·append-left,
 use lib.Dec.{eqb}
 use lib.ListN.{getD}
 use mathlib.Core.Option.{Option, none, some, Option·some-injective, Option·none-ne-some}
-use Rattle.theory.specs.Lists.{_∈_, before, every, first}
+use Rattle.theory.specs.Lists.{_∈_, before, every, first, FirstAt}
 use Rattle.theory.specs.Rules.{entries, Occurs, passes, Program, Rule}
 use Rattle.theory.specs.Models.{AtomSet, Founded, valid}
 use Rattle.theory.specs.Derivations.{Depth}
@@ -17,7 +17,7 @@ use Rattle.theory.specs.Labels.{absent, in-at, is-absent, is-in, is-out,
 use Rattle.theory.specs.Labels.{Supporting, Supports, Side, positive, negative, Spoiler, first-on, spoiler}
 use Rattle.theory.specs.Labels.{Spoils, needs, blocked}
 use Rattle.theory.proofs.Lists.{and-l, and-of, and-r, clash, eqb-eq, eqb-of, every-at, every-of, le-or-lt}
-use Rattle.theory.proofs.Lists.{before-hit, first-hit, first-in, first-miss, first-none, first-place, least}
+use Rattle.theory.proofs.Lists.{first-exists, first-in, first-none, first-of, first-of-none, first-place, least}
 use Rattle.theory.proofs.Lists.{not-false, not-true, test}
 use Rattle.theory.proofs.Rules.{occurs-at, occurs-of, occurs-test, rules-at, valid-negative, valid-of}
 use Rattle.theory.proofs.Rules.{valid-positive}
@@ -154,6 +154,12 @@ module _ (d : Side) (f : ℕ → Bool) (xs : List ℕ) where
   unfolding first-on
   first-on-none e = rw (e, first-on)
 
+  pub first-on-at :
+      (i x : ℕ) → FirstAt f xs i x → first-on d f xs ≡ some (record { side = d; place = i; atom = x })
+  first-on-at i x w =
+      let e = first-of f xs i x w in
+      first-on-some x (e .0) ∙ ap (λ k. some (record { side = d; place = k; atom = x })) (e .1)
+
 -- The positive list is read first: a spoiling positive entry comes before any negative one.
 pub spoiler-positive :
     (M : AtomSet) (r : Rule) (s : Spoiler) → first-on positive (λ y. not (M y)) (r .positives) ≡ some s
@@ -200,29 +206,36 @@ spoils M r s e = go (read M r)
     go (nothing p n h) = absurd (Option·none-ne-some s (sym h ∙ e))
     go (found z h w) = subst (Spoils M r) (Option·some-injective z s (sym h ∙ e)) w
 
--- An atom alone in both lists: if it is out the rule needs it, if it is in the rule is blocked by it.
+-- What spoils a rule so, is its spoiler: there is one at most.
+pub spoils-spoiler : (M : AtomSet) (r : Rule) (s : Spoiler) → Spoils M r s → spoiler M r ≡ some s
+spoils-spoiler M r s (needs {i} {x} w) =
+    spoiler-positive M r s (first-on-at positive (λ y. not (M y)) (r .positives) i x w)
+spoils-spoiler M r s (blocked {i} {x} p w) =
+    spoiler-negative M r
+    (first-on-none positive (λ y. not (M y)) (r .positives)
+    (first-of-none (λ y. not (M y)) (r .positives) (λ y m. ap not (p y m))))
+    ∙ first-on-at negative M (r .negatives) i x w
 
-alone :
-    (d : Side) (f : ℕ → Bool) (x : ℕ) → f x ≡ true
-    → first-on d f (x ∷ []) ≡ some (record { side = d; place = 0; atom = x })
-alone d f x t =
-    first-on-some d f (x ∷ []) x (first-hit f x [] t)
-    ∙ ap (λ i. some (record { side = d; place = i; atom = x })) (before-hit f x [] t)
+-- An atom in both lists of a rule. If it is out, the rule needs a positive entry: the first that is out, which is this
+-- atom unless another comes before it. If it is in, and so is every other positive entry, the rule is blocked by a
+-- negative one: the first that is in, which is this atom unless another comes before it.
 
 pub both-needed :
-    (M : AtomSet) (h x : ℕ) → M x ≡ false
-    → spoiler M (record { head = h; positives = x ∷ []; negatives = x ∷ [] })
-    ≡ some (record { side = positive; place = 0; atom = x })
-both-needed M h x t = spoiler-positive M _ _ (alone positive (λ y. not (M y)) x (ap not t))
+    (M : AtomSet) (r : Rule) (x : ℕ) → x ∈ r .positives → x ∈ r .negatives → M x ≡ false
+    → (i y : ℕ) × FirstAt (λ z. not (M z)) (r .positives) i y
+    × (spoiler M r ≡ some (record { side = positive; place = i; atom = y }))
+both-needed M r x m n t =
+    let w = first-exists (λ z. not (M z)) (r .positives) x m (ap not t) in
+    (w .0, w .1, w .2, spoils-spoiler M r _ (needs (w .2)))
 
 pub both-blocked :
-    (M : AtomSet) (h x : ℕ) → M x ≡ true
-    → spoiler M (record { head = h; positives = x ∷ []; negatives = x ∷ [] })
-    ≡ some (record { side = negative; place = 0; atom = x })
-unfolding first
-both-blocked M h x t =
-    let in-all = first-miss (λ y. not (M y)) x [] (ap not t) in
-    spoiler-negative M _ (first-on-none positive (λ y. not (M y)) (x ∷ []) in-all) ∙ alone negative M x t
+    (M : AtomSet) (r : Rule) (x : ℕ) → x ∈ r .positives → x ∈ r .negatives → M x ≡ true
+    → ((y : ℕ) → y ∈ r .positives → M y ≡ true)
+    → (i y : ℕ) × FirstAt M (r .negatives) i y
+    × (spoiler M r ≡ some (record { side = negative; place = i; atom = y }))
+both-blocked M r x m n t all =
+    let w = first-exists M (r .negatives) x n t in
+    (w .0, w .1, w .2, spoils-spoiler M r _ (blocked all (w .2)))
 
 -- The spoiler's atom is an entry of the rule.
 pub spoiler-entry : (M : AtomSet) (r : Rule) (s : Spoiler) → Spoils M r s → s .atom ∈ entries r

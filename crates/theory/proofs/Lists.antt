@@ -8,10 +8,10 @@ use mathlib.Core.Logic.{_⊎_, inl, inr, ⊎-elim, _↔_}
 use mathlib.Core.Bool.{Bool, true, false, not, _&&_, _||_, true≢false}
 use mathlib.Core.List.{List, [], _∷_, List·Memᴰ, List·Memᴰ·head, List·Memᴰ·tail, List·Memᴰ·cases-cons}
 use mathlib.Core.List.{List·Memᴰ·not-nil}
-use mathlib.Core.Option.{none, some, Option·some-injective, Option·none-ne-some}
+use mathlib.Core.Option.{Option, none, some, Option·some-injective, Option·none-ne-some}
 use lib.Dec.{T, eqb, leb, ltb, eqb→eq, eqb-refl, leb→le, ltb→lt, le→leb, lt→ltb}
 use lib.ListN.{length, getD}
-use Rattle.theory.specs.Lists.{_∈_, agree, any, before, every, first, FirstAt}
+use Rattle.theory.specs.Lists.{_∈_, agree, any, before, every, first, FirstAt, Sorted}
 
 -- Tests.
 
@@ -229,6 +229,38 @@ first-in f xs i x w = subst (λ (y : ℕ). y ∈ xs) (w .there) (entry-in xs i (
     entry-in (y ∷ ys) zero l = List·Memᴰ·head refl
     entry-in (y ∷ ys) (suc i) l = List·Memᴰ·tail (entry-in ys i (omega arith))
 
+-- Where an entry passes, some place is the first; where none passes, there is none; and the first is what it is.
+
+pub first-of-none : (f : ℕ → Bool) (xs : List ℕ) → ((x : ℕ) → x ∈ xs → f x ≡ false) → first f xs ≡ none
+unfolding first
+first-of-none f [] never = refl
+first-of-none f (y ∷ ys) never =
+    first-miss f y ys (never y (List·Memᴰ·head refl)) ∙ first-of-none f ys (λ x m. never x (List·Memᴰ·tail m))
+
+pub first-exists :
+    (f : ℕ → Bool) (xs : List ℕ) (x : ℕ) → x ∈ xs → f x ≡ true → (i y : ℕ) × FirstAt f xs i y
+first-exists f xs x m t = go (first f xs) refl
+  where
+    go : (o : Option ℕ) → first f xs ≡ o → (i y : ℕ) × FirstAt f xs i y
+    go none e = absurd (clash t (first-none f xs e x m))
+    go (some y) e = (before f xs, y, first-place f xs y e)
+
+pub first-of :
+    (f : ℕ → Bool) (xs : List ℕ) (i x : ℕ) → FirstAt f xs i x → (first f xs ≡ some x) × (before f xs ≡ i)
+first-of f [] i x w = absurd (omega (arith, w .low))
+first-of f (y ∷ ys) zero x w =
+    let t : f y ≡ true = ap f (w .there) ∙ w .good in
+    (first-hit f y ys t ∙ ap some (w .there), before-hit f y ys t)
+first-of f (y ∷ ys) (suc i) x w =
+    let t : f y ≡ false = w .earlier 0 (omega arith) in
+    let e = first-of f ys i x (record {
+      low = omega (arith, w .low);
+      there = w .there;
+      good = w .good;
+      earlier = λ j l. w .earlier (suc j) (omega arith);
+    }) in
+    (first-miss f y ys t ∙ e .0, before-miss f y ys t ∙ ap suc (e .1))
+
 -- Lists that agree entry for entry are equal.
 pub agree-eq : (xs ys : List ℕ) → agree xs ys ≡ true → xs ≡ ys
 unfolding agree
@@ -307,6 +339,22 @@ module _ {A : Type 0} where
         count-length (λ y. true) xs,
       )))
       (test (f x))
+
+-- A list in an order in which no number comes before itself is no longer than any list that has its numbers.
+module _ (B : ℕ → ℕ → Type 0) (apart : (x : ℕ) → B x x → ⊥) (ys : List ℕ) where
+  within-count : (xs : List ℕ) → Sorted B xs → ((x : ℕ) → x ∈ xs → x ∈ ys) → length xs ≤ count (λ y. mem y xs) ys
+  within-count [] S f = omega arith
+  within-count (a ∷ xs) S f =
+      let i = within-count xs (S .1) (λ x m. f x (List·Memᴰ·tail m)) in
+      omega (
+        arith,
+        count-lt (λ y. mem y xs) (λ y. mem y (a ∷ xs)) ys
+            (λ y m t. in-mem y (a ∷ xs) (List·Memᴰ·tail (mem-in y xs t))) a (f a (List·Memᴰ·head refl))
+            (unless _ (λ t. apart a (S .0 a (mem-in a xs t)))) (in-mem a (a ∷ xs) (List·Memᴰ·head refl)),
+      )
+
+  pub sorted-within : (xs : List ℕ) → Sorted B xs → ((x : ℕ) → x ∈ xs → x ∈ ys) → length xs ≤ length ys
+  sorted-within xs S f = omega (arith, within-count xs S f, count-length (λ y. mem y xs) ys)
 
 -- The least number that passes, if s passes.
 

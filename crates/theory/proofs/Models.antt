@@ -5,7 +5,7 @@ use mathlib.Core.Path.{_≡_}
 use mathlib.Core.Bool.{Bool, true, false}
 use lib.ListN.{length}
 use Rattle.theory.specs.Rules.{Held, Program, Rule}
-use Rattle.theory.specs.Models.{Admissible, AtomSet}
+use Rattle.theory.specs.Models.{Admissible, AtomSet, OnlyModel}
 use Rattle.theory.specs.Dependencies.{NegativeCycle}
 use Rattle.theory.specs.Questions.{rules}
 use Rattle.theory.proofs.Strata.{acyclic-strata, model-unique, rules-below, rules-below-bound, Strata}
@@ -16,11 +16,6 @@ use Rattle.theory.proofs.Rounds.{fill, fill-done}
 unfoldable pub climb : ℕ → (ℕ → ℕ) → Program → ℕ → ℕ → AtomSet → AtomSet
 climb f ℓ P zero k M = M
 climb f ℓ P (suc j) k M = climb f ℓ P j (suc k) (fill f ℓ P k M .0)
-
--- M is the admissible model of P, and the only one.
-pub record OnlyModel (P : Program) (M : AtomSet) : Type 0 where
-  pub model : Admissible P M
-  pub alone : (N : AtomSet) → Admissible P N → (x : ℕ) → N x ≡ M x
 
 module _ (P : Program) where
   climbs :

@@ -4,13 +4,16 @@ use native.Mathlib.Omega.{arith}
 use mathlib.Core.Path.{_≡_, refl, sym, _∙_, ap}
 use mathlib.Core.Logic.{_⊎_, inl, inr, ⊎-elim}
 use mathlib.Core.Bool.{Bool, true, false}
-use mathlib.Core.List.{List, [], _∷_, map, List·Memᴰ, List·Memᴰ·head, List·Memᴰ·tail}
+use mathlib.Core.List.{List, [], _∷_, map, List·Memᴰ, List·Memᴰ·head, List·Memᴰ·tail, List·Memᴰ·cases-cons}
 use mathlib.Core.Option.{Option, none, some, Option·some-injective, Option·none-ne-some}
 use lib.ListN.{length, getD, set, take, drop}
 use lib.Seq.{getD-set-same, getD-set-other}
-use Rattle.theory.specs.Rules.{Held, Program, Rule}
-use Rattle.theory.specs.Questions.{first-no, lowest-free, Question}
-use Rattle.theory.proofs.Lists.{test}
+use lib.Dec.{ltb}
+use Rattle.theory.specs.Lists.{_∈_}
+use Rattle.theory.specs.Rules.{Bounded, entries, Held, Program, Rule}
+use Rattle.theory.specs.Limits.{Limits}
+use Rattle.theory.specs.Questions.{first-no, lowest-free, Question, rule-questions}
+use Rattle.theory.proofs.Lists.{every-at, ltb-lt, test}
 
 -- A question answered yes is passed over; the first answered no is the refusal.
 
@@ -103,3 +106,17 @@ first-no-at (q ∷ qs) k e = ⊎-elim
     (λ (t : q .yes? ≡ false).
     (q, List·Memᴰ·head refl, Option·some-injective _ k (sym (first-no-here q qs t) ∙ e), t))
     (test (q .yes?))
+
+-- Rules that pass questions 1 and 3 name only atoms below the limit.
+pub passed-bounded :
+    (limits : Limits) (P : Program)
+    → ((s : ℕ) (r : Rule) → Held P s r → first-no (rule-questions limits r) ≡ none) → Bounded P (limits .atoms)
+passed-bounded limits P f s r h x m =
+    let one = first-no-none _ _ (f s r h) in
+    let two = first-no-none _ _ (one .1) in
+    let three = first-no-none _ _ (two .1) in
+    ⊎-elim
+    (λ (e : x ≡ r .head). (let l = ltb-lt (r .head) (limits .atoms) (one .0) in omega arith))
+    (λ (i : x ∈ entries r). ltb-lt x (limits .atoms)
+    (every-at (λ y. ltb y (limits .atoms)) (entries r) (three .0) x i))
+    (List·Memᴰ·cases-cons m)

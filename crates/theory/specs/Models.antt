@@ -36,3 +36,9 @@ Closed P M = (s : ℕ) (r : Rule) → Held P s r → valid M r ≡ true → M (r
 pub record Admissible (P : Program) (M : AtomSet) : Type 0 where
   pub founded : Founded P M
   pub closed : Closed P M
+
+-- M is the one admissible model: it is admissible, and no other set of atoms is. (Without a loop through a negation
+-- there is exactly one: the law `exactly-one-model`.)
+pub record OnlyModel (P : Program) (M : AtomSet) : Type 0 where
+  pub model : Admissible P M
+  pub alone : (N : AtomSet) → Admissible P N → (x : ℕ) → N x ≡ M x
