@@ -3,4 +3,3 @@ pub mod Kept
 pub mod Reading
 pub mod Feeding
 pub mod Whole
-pub mod Books

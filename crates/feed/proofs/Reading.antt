@@ -15,14 +15,6 @@ use Rattle.lines.specs.Texts.{NEWLINE}
 use Rattle.sheets.specs.Sheets.{State, longer, ended, Reads, stop, byte, newline}
 use Rattle.feed.specs.Sheets.{lineEnd}
 
--- Bytes behind bytes.
-pub reads-then :
-    {s u v : State} {xs ys out more : List ℕ} → Reads s xs out u → Reads u ys more v
-    → Reads s (xs ++ ys) (out ++ more) v
-reads-then stop r = r
-reads-then (byte b f) r = byte b (reads-then f r)
-reads-then (newline p f) r = rw append-assoc (newline p (reads-then f r))
-
 -- Bytes of the line at hand, and then others.
 module _ {v : State} {rest out : List ℕ} where
   reads-into :

@@ -1,18 +1,16 @@
--- Pieces don't matter: a sheet that is fed piece by piece prints what the whole sheet prints, and that is one list of
--- bytes. Assumes nothing.
+-- Pieces don't matter: a sheet that is fed piece by piece prints what the whole sheet prints. Assumes nothing.
 use Prim.Native.Nat.{ℕ, _-_}
 use native.Mathlib.Omega.{arith}
 use mathlib.Core.Path.{_≡_, refl, sym, _∙_, ap, ap₂, subst}
 use mathlib.Core.List.{List, [], _∷_, _++_}
 use lib.ListN.{take}
 use Rattle.replies.specs.declared.Reply.{Reply}
-use Rattle.sheets.specs.Lines.{Prints}
 use Rattle.printing.proofs.Wrote.{wrote-start}
-use Rattle.sheets.proofs.Unique.{prints-unique}
+use Rattle.sheets.proofs.Unique.{sheet-prints-unique}
+use Rattle.sheets.proofs.Reading.{reads-then}
 use Rattle.feed.specs.declared.Sheet.{Sheet}
-use Rattle.sheets.specs.Sheets.{State, start, longer, ended, Reads, stop, byte, newline, SheetPrints}
+use Rattle.sheets.specs.Sheets.{State, start, Reads, stop, SheetPrints}
 use Rattle.feed.specs.Sheets.{StandsFor, RepliesAt, Pieces, none, piece}
-use Rattle.feed.proofs.Reading.{reads-then}
 use Rattle.feed.proofs.Feeding.{said}
 
 -- The state after all pieces.
@@ -50,39 +48,6 @@ pieces-print {out = out} f pieces replies =
       prints = reply .prints;
       whole = ap (λ (bs : List ℕ). out ++ bs) (said (reply .says));
     }
-
--- A list that is empty has no first element.
-nothing : {b : ℕ} {bs : List ℕ} → [] ≡ b ∷ bs → ⊥
-nothing e = let z : _≡_ {A = ℕ} 0 1 = cc in omega arith
-
-first-same : {b c : ℕ} {bs cs : List ℕ} → b ∷ bs ≡ c ∷ cs → (b ≡ c) × (bs ≡ cs)
-first-same e = (cc, cc)
-
--- The bytes of a sheet determine what they print and where the reading stands after them.
-reads-same :
-    {s z u v : State} {xs ys out more : List ℕ} → Reads s xs out u → Reads z ys more v → s ≡ z → xs ≡ ys
-    → (out ≡ more) × (u ≡ v)
-reads-same stop stop e f = (refl, e)
-reads-same stop (byte b q) e f = absurd (nothing f)
-reads-same stop (newline p q) e f = absurd (nothing f)
-reads-same (byte b q) stop e f = absurd (nothing (sym f))
-reads-same (byte b q) (byte d r) e f =
-    reads-same q r (ap₂ (λ (x : State) (y : ℕ). longer x (y ∷ [])) e (first-same f .0)) (first-same f .1)
-reads-same (byte b q) (newline p r) e f = absurd (b (first-same f .0))
-reads-same (newline p q) stop e f = absurd (nothing (sym f))
-reads-same (newline p q) (byte b r) e f = absurd (b (sym (first-same f .0)))
-reads-same (newline {u = u} {printed = bs} p q) (newline p′ r) e f =
-    let same = prints-unique (subst (λ (x : State). Prints (x .table) (x .number) (x .line) bs u) e p) p′ in
-    let rest = reads-same q r (ap₂ ended e (same .1)) (first-same f .1) in
-    (ap₂ (λ (x y : List ℕ). x ++ y) (same .0) (rest .0), rest .1)
-
--- A sheet prints one list of bytes.
-pub sheet-prints-unique : {input out more : List ℕ} → SheetPrints input out → SheetPrints input more → out ≡ more
-sheet-prints-unique p q =
-    let same = reads-same (p .reads) (q .reads) refl refl in
-    let moved =
-    subst (λ (x : State). Prints (x .table) (x .number) (x .line) (p .last) (p .after)) (same .1) (p .prints) in
-    p .whole ∙ ap₂ (λ (x y : List ℕ). x ++ y) (same .0) (prints-unique moved (q .prints) .0) ∙ sym (q .whole)
 
 -- However a sheet is cut into pieces, it prints the same.
 pub pieces-same :

@@ -33,23 +33,25 @@ use Rattle.calls.specs.declared.Refusal.the-variants as refusal
 use Rattle.calls.specs.Answers.{numberOf}
 use Rattle.calls.specs.Contracts as contract
 use Rattle.calls.specs.Contracts.{held, AddEnds, RemoveEnds}
-use Rattle.calls.proofs.Determined.{same-model}
 use Rattle.calls.proofs.Refusals.{refusalOf, refusal-number}
 use Rattle.history.specs.Claim.{InModel}
+use Rattle.history.proofs.Sequence.{sound-model}
 
 -- A label says in exactly if the atom is in the model.
-label-in-model :
+pub label-in-model :
     (P : Program) (M : AtomSet) → Admissible P M → (a : ℕ) (l : Label) → Labelled P M a l → is-in-label l ≡ M a
 label-in-model P M A a absent (is-absent f) = sym (unless (M a) (λ t. f (in-occurs P M (A .founded) a t)))
 label-in-model P M A a out (is-out o n) = sym n
 label-in-model P M A a (in-at d s) (is-in t D S) = sym t
 
 sound-in-model : (u : Table) → Sound u → InModel u
-sound-in-model u S M A a l =
-    let e : is-in-label (labelAt (u .labels) a) ≡ M a =
-    label-in-model (held u) (S .labels .model) (S .labels .admissible) a _ (S .labels .labels a l)
-    ∙ ap (λ (N : AtomSet). N a) (same-model u S (S .labels .model) M (S .labels .admissible) A) in
-    ((λ t. sym e ∙ t), (λ t. e ∙ t))
+sound-in-model u S = record {
+  model = S .labels .model;
+  only = sound-model u S;
+  exactly = λ a l. (
+      let e = label-in-model (held u) (S .labels .model) (S .labels .admissible) a _ (S .labels .labels a l) in
+      ((λ t. sym e ∙ t), (λ t. e ∙ t)));
+}
 
 -- Demand 2, of an addition that was accepted and of a removal.
 pub demand-2-add : (t u : Table) (r : Rule) (x : AddAnswer) → AddEnds t r x u → Sound t → InModel u

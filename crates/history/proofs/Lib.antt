@@ -3,3 +3,4 @@ pub mod Sequence
 pub mod Demands
 pub mod Reading
 pub mod Replaying
+pub mod Written

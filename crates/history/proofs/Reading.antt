@@ -24,7 +24,7 @@ use Rattle.history.specs.Encoding.{Placed, rule-at, addition-at, when, p
 use Rattle.table.specs.declared.Table.{Table}
 use Rattle.calls.specs.Contracts.{AddEnds, RemoveEnds}
 use Rattle.history.specs.Claim.{adds, removes}
-use Rattle.history.specs.Steps.{part, callOf, InOrder, NextOf, StepOf}
+use Rattle.history.specs.Steps.{between, callOf, InOrder, NextOf, StepOf}
 
 -- A refusal's number is small.
 number-small : (f : Refusal) → numberOf f ≤ 15
@@ -57,20 +57,20 @@ removed-refused x f n e d =
     ap (λ (k : ℕ). 65536 + k) d ∙ ap (λ (y : RemoveAnswer). encode (bookRemove y)) (sym e)
 
 module _ (ws : List ℕ) (at : ℕ) where
-  short : length ws < at + 2 → placed ws at ≡ none
+  pub short : length ws < at + 2 → placed ws at ≡ none
   unfolding placed
   short l =
       ap (λ (t : Bool). when t (placed-kind ws at (getD ws at 0)))
       (unless (leb (at + 2) (length ws)) (λ t. omega (arith, leb-le (at + 2) (length ws) t)))
 
-  by-kind : at + 2 ≤ length ws → (k : ℕ) → getD ws at 0 ≡ k → placed ws at ≡ placed-kind ws at k
+  pub by-kind : at + 2 ≤ length ws → (k : ℕ) → getD ws at 0 ≡ k → placed ws at ≡ placed-kind ws at k
   unfolding placed
   by-kind l k e =
       ap (λ (t : Bool). when t (placed-kind ws at (getD ws at 0))) (le-leb (at + 2) (length ws) l)
       ∙ ap (placed-kind ws at) e
 
   -- what an addition's counts say of the list's length
-  counts :
+  pub counts :
       (t : Bool) → leb (addition-at ws at .behind) (length ws) ≡ t → at + 2 ≤ length ws → getD ws at 0 ≡ 1
       → placed ws at ≡ when t (some (addition-at ws at))
   counts t u l e = by-kind l 1 e ∙ ap (λ (b : Bool). when b (some (addition-at ws at))) u
@@ -153,12 +153,12 @@ module _ (ws : List ℕ) (at : ℕ) (t : Table) (x : Next) (N : NextOf ws at x) 
 
   pub step-addition :
       (h f m b n : ℕ) (y : AddAnswer) (u : Table) → x ≡ next.Add h f m b
-      → AddEnds t (record { head = h; positives = part ws f m; negatives = part ws m b }) y u
+      → AddEnds t (record { head = h; positives = between ws f m; negatives = between ws m b }) y u
       → n ≡ encode (bookAdd y) → StepOf ws at t (record { more = true; answer = n; at = b; table = u })
   step-addition h f m b n y u e E d = record {
     over = λ q. absurd (true≢false q);
     made = λ q. record {
-      call = add (record { head = h; positives = part ws f m; negatives = part ws m b });
+      call = add (record { head = h; positives = between ws f m; negatives = between ws m b });
       told = bookAdd y;
       stands = sym (N .read) ∙ ap (callOf ws) e;
       step = adds E;

@@ -15,7 +15,7 @@ use Rattle.calls.specs.declared.RemoveAnswer.{RemoveAnswer}
 use Rattle.history.specs.declared.Replayed.{Replayed}
 use Rattle.history.specs.Claim.{Step, Trace, stop, call, History}
 use Rattle.history.specs.Encoding.{Placed, placed, decode, encode}
-use Rattle.history.specs.Steps.{Made, Replays, calls-in}
+use Rattle.history.specs.Steps.{CallMade, Replays, calls-in}
 use Rattle.history.proofs.Sequence.{history}
 
 -- One call more at the end.
@@ -25,11 +25,11 @@ trace-more :
 trace-more stop s = call s stop
 trace-more (call w rest) s = call w (trace-more rest s)
 
-decode-over : (most : ℕ) (ws : List ℕ) (at : ℕ) → placed ws at ≡ none → decode most ws at ≡ []
+pub decode-over : (most : ℕ) (ws : List ℕ) (at : ℕ) → placed ws at ≡ none → decode most ws at ≡ []
 decode-over zero ws at e = unfold decode in refl
 decode-over (suc most) ws at e = unfold decode in (rw (e, decode))
 
-decode-next :
+pub decode-next :
     (most : ℕ) (ws : List ℕ) (at : ℕ) (c : Placed) → placed ws at ≡ some c
     → decode (suc most) ws at ≡ c .call ∷ decode most ws (c .behind)
 unfolding decode
@@ -68,7 +68,7 @@ module _ (ws before : List ℕ) (at count : ℕ) (t : Table) (now : List ℕ) (G
       length-dropped = lib.ListN.length-drop count before
 
   pub going-next :
-      (answer behind : ℕ) (u : Table) → count < length before → Made ws at t answer behind u
+      (answer behind : ℕ) (u : Table) → count < length before → CallMade ws at t answer behind u
       → Going ws before behind (count + 1) u (set now count answer)
   going-next answer behind u l m = record {
     done = G .done ++ (m .call ∷ []);

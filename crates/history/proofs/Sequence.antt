@@ -11,7 +11,7 @@ use lib.Dec.{ltb}
 use lib.ListN.{length, getD, set, replicate}
 use Rattle.theory.specs.Lists.{_∈_, Lists}
 use Rattle.theory.specs.Rules.{Rule, Program, Held}
-use Rattle.theory.specs.Models.{AtomSet, valid, Admissible}
+use Rattle.theory.specs.Models.{AtomSet, valid, Admissible, OnlyModel}
 use Rattle.theory.specs.Dependencies.{NegativeCycle}
 use Rattle.theory.specs.Labels.{Label, absent, out, in-at, Labelled, is-absent, is-out, is-in}
 use Rattle.theory.specs.Labels.{Spoiler, spoiler, Spoils}
@@ -23,10 +23,11 @@ use Rattle.theory.specs.Book.{refusal, granted, changed, slot-answer}
 use Rattle.theory.specs.Limits.{document}
 use Rattle.theory.proofs.Lists.{test, clash, same-test, lt-ltb, le-or-lt}
 use Rattle.theory.proofs.Rules.{held-unique, valid-positive}
-use Rattle.theory.proofs.Questions.{first-no-yes, held-below}
+use Rattle.theory.proofs.Questions.{first-no-yes, held-below, passed-bounded}
 use Rattle.theory.proofs.Strata.{acyclic-strata, rules-below, model-unique}
 use Rattle.theory.proofs.Depths.{depth-count}
-use Rattle.theory.proofs.Labels.{label-unique, label-moves, spoils, spoiler-exists}
+use Rattle.theory.proofs.Labels.{in-occurs, spoils, spoiler-exists}
+use Rattle.theory.proofs.Explanations.{list-below}
 use Rattle.table.specs.declared.Table.{Table}
 use Rattle.table.specs.Rules.{programOf}
 use Rattle.table.specs.Labels.{labelAt}
@@ -42,11 +43,25 @@ use Rattle.calls.proofs.Determined.{same-model, label-determined, spoiler-deter
 use Rattle.history.specs.Claim.{Step, adds, removes, Trace, stop, call, bookAfter, Supported}
 use Rattle.history.specs.Claim.{History, InModel}
 
+-- The rules of a sound table have one admissible model, and its atoms are below the limit.
+
+pub sound-model : (t : Table) (S : Sound t) → OnlyModel (held t) (S .labels .model)
+sound-model t S = record {
+  model = S .labels .admissible;
+  alone = λ N A. model-unique (held t) (rules-below (held t)) (acyclic-strata (held t) (S .labels .acyclic)) N
+      (S .labels .model) A (S .labels .admissible);
+}
+
+pub sound-below : (t : Table) (S : Sound t) (x : ℕ) → S .labels .model x ≡ true → x < document .atoms
+sound-below t S x u =
+    let w = in-occurs (held t) (S .labels .model) (S .labels .admissible .founded) x u in
+    passed-bounded document (held t) (S .labels .passes) (w .slot) (w .rule) (w .held) x (w .there)
+
 -- What a call on a sound table answers and leaves is what the book does, and the table stays sound.
-record Follows (P : Program) (c : Call) (x : Answer) (u : Table) : Type 0 where
-  said : x ≡ answer document P c
-  holds : held u ≡ after document P c
-  still : Sound u
+pub record Follows (P : Program) (c : Call) (x : Answer) (u : Table) : Type 0 where
+  pub said : x ≡ answer document P c
+  pub holds : held u ≡ after document P c
+  pub still : Sound u
 
 answer-no : (P : Program) (c : Call) (k : ℕ) → refusal document P c ≡ some k → answer document P c ≡ refused k
 unfolding answer
@@ -64,7 +79,7 @@ after-yes : (P : Program) (c : Call) → refusal document P c ≡ none → after
 unfolding after
 after-yes P c e = rw (e, after)
 
-step-follows : {t u : Table} {c : Call} {x : Answer} → Sound t → Step t c x u → Follows (held t) c x u
+pub step-follows : {t u : Table} {c : Call} {x : Answer} → Sound t → Step t c x u → Follows (held t) c x u
 step-follows {t} S (adds (contract.unsound n)) = absurd (n S)
 step-follows {t} S (adds {r} (contract.refused f T e)) = record {
   said = sym (answer-no (held t) (add r) _ e);
@@ -89,12 +104,12 @@ step-follows {t} S (removes {s} (contract.accepted u T e Z h U)) = record {
 }
 
 -- The same of a list of calls, by induction on the list.
-record Agrees (P : Program) (cs : List Call) (xs : List Answer) (v : Table) : Type 0 where
-  told : xs ≡ answers document P cs
-  kept : held v ≡ after-all document P cs
-  sound : Sound v
+pub record Agrees (P : Program) (cs : List Call) (xs : List Answer) (v : Table) : Type 0 where
+  pub told : xs ≡ answers document P cs
+  pub kept : held v ≡ after-all document P cs
+  pub sound : Sound v
 
-trace-agrees : {t v : Table} {cs : List Call} {xs : List Answer} → Sound t → Trace t cs xs v → Agrees (held t) cs xs v
+pub trace-agrees : {t v : Table} {cs : List Call} {xs : List Answer} → Sound t → Trace t cs xs v → Agrees (held t) cs xs v
 unfolding answers after-all
 trace-agrees S stop = record { told = refl; kept = refl; sound = S }
 trace-agrees S (call {cs = cs} step rest) =
@@ -108,9 +123,11 @@ trace-agrees S (call {cs = cs} step rest) =
 
 -- An in atom of a sound table shows what the third demand asks.
 in-supported :
-    (P : Program) (M : AtomSet) → Admissible P M → (a d s : ℕ) → Labelled P M a (in-at d s) → Supported P M a d s
-in-supported P M A a d s (is-in t D S) =
+    (P : Program) (M : AtomSet) → Admissible P M → ((x : ℕ) → M x ≡ true → x < document .atoms) → (a d s : ℕ)
+    → Labelled P M a (in-at d s) → Supported P M a d s
+in-supported P M A low a d s (is-in t D S) =
     let w = S .supports in
+    let xs = list-below M (document .atoms) low in
     record {
       rule = w .rule;
       holds = w .held;
@@ -119,7 +136,9 @@ in-supported P M A a d s (is-in t D S) =
       entries = λ x m. (valid-positive M (w .rule) (w .good) x m, w .smaller x m);
       derived = D .reached;
       fewest = D .least;
-      few = λ xs L. depth-count P M (A .founded) xs (λ x i. L .exactly x .1 i) a d t D;
+      in-atoms = xs .0;
+      listed = xs .1;
+      few = depth-count P M (A .founded) (xs .0) (λ x i. xs .1 .exactly x .1 i) a d t D;
     }
 
 -- A rule of an out atom has a spoiler, which really spoils it, and before which no entry does.
@@ -163,6 +182,10 @@ module _ (cs : List Call) (xs : List Answer) (t : Table) (e : held t ≡ bookAft
   unfolding M
   model = subst (λ (Q : Program). Admissible Q (S .labels .model)) e (S .labels .admissible)
 
+  low : (x : ℕ) → M x ≡ true → x < document .atoms
+  unfolding M
+  low = sound-below t S
+
   kept : (a : ℕ) → a < document .atoms → Labelled (bookAfter cs) M a (labelAt (t .labels) a)
   unfolding M
   kept a l = subst (λ (Q : Program). Labelled Q (S .labels .model) a (labelAt (t .labels) a)) e
@@ -201,17 +224,19 @@ module _ (cs : List Call) (xs : List Answer) (t : Table) (e : held t ≡ bookAft
         (subst (λ (Q : Program). NegativeCycle Q → ⊥) e (S .labels .acyclic))) N M A model a;
     labels = kept;
     label-answer = answered-label;
-    supported = λ a d s l q. in-supported (bookAfter cs) M model a d s
+    supported = λ a d s l q. in-supported (bookAfter cs) M model low a d s
         (subst (Labelled (bookAfter cs) M a) q (kept a l));
     spoiler-answer = answered-spoiler;
     spoiled = λ a l q s r h i. out-spoiled (bookAfter cs) M model a s r
         (subst (Labelled (bookAfter cs) M a) q (kept a l)) h i;
   }
 
+pub empty-held : held emptyTable ≡ empty document
+empty-held = free-slots (document .slots)
+
 -- Demand 3.
 pub history : (cs : List Call) (xs : List Answer) (t : Table) → Trace emptyTable cs xs t → History cs xs t
 history cs xs t T =
     let w = trace-agrees empty-sound T in
-    let b : held emptyTable ≡ empty document = free-slots (document .slots) in
-    claim cs xs t (w .kept ∙ ap (λ (Q : Program). after-all document Q cs) b) (w .sound)
-    (w .told ∙ ap (λ (Q : Program). answers document Q cs) b)
+    claim cs xs t (w .kept ∙ ap (λ (Q : Program). after-all document Q cs) empty-held) (w .sound)
+    (w .told ∙ ap (λ (Q : Program). answers document Q cs) empty-held)

@@ -9,7 +9,7 @@ use mathlib.Core.Option.{none, some}
 use lib.ListN.{length}
 use Rattle.theory.specs.Lists.{_∈_, Lists}
 use Rattle.theory.specs.Rules.{Rule, Program, Held}
-use Rattle.theory.specs.Models.{AtomSet, valid, Admissible}
+use Rattle.theory.specs.Models.{AtomSet, valid, Admissible, OnlyModel}
 use Rattle.theory.specs.Dependencies.{NegativeCycle}
 use Rattle.theory.specs.Derivations.{Derivation}
 use Rattle.theory.specs.Labels.{Label, out, in-at, Labelled, Shallower, Spoiler, spoiler, Spoils}
@@ -43,7 +43,7 @@ abbrev pub bookAfter : List Call → Program
 bookAfter cs = after-all document (empty document) cs
 
 -- An in atom, as the third demand asks: its supporting rule is valid with all positive entries in and of smaller depth;
--- some derivation has exactly depth levels and none fewer; depth is at most the number of in atoms.
+-- some derivation has exactly depth levels and none fewer; depth is at most the number of in atoms, which are listed.
 pub record Supported (P : Program) (M : AtomSet) (a depth slot : ℕ) : Type 0 where
   pub rule : Rule
   pub holds : Held P slot rule
@@ -52,7 +52,9 @@ pub record Supported (P : Program) (M : AtomSet) (a depth slot : ℕ) : Type 0 w
   pub entries : (x : ℕ) → x ∈ rule .positives → (M x ≡ true) × Shallower P M x a
   pub derived : Derivation P M a depth
   pub fewest : (h : ℕ) → Derivation P M a h → depth ≤ h
-  pub few : (xs : List ℕ) → Lists xs (λ x. M x ≡ true) → depth ≤ length xs
+  pub in-atoms : List ℕ
+  pub listed : Lists in-atoms (λ x. M x ≡ true)
+  pub few : depth ≤ length in-atoms
 
 -- Demand 3: after the calls cs, with the answers xs, the table is t.
 pub record History (cs : List Call) (xs : List Answer) (t : Table) : Type 0 where
@@ -80,8 +82,9 @@ pub record History (cs : List Call) (xs : List Answer) (t : Table) : Type 0 wher
       (a : ℕ) → a < document .atoms → labelAt (t .labels) a ≡ out → (s : ℕ) (r : Rule) → Held (bookAfter cs) s r
       → r .head ≡ a → (x : Spoiler) × (spoiler model r ≡ some x) × Spoils model r x
 
--- Demand 2, of a table handed back: an atom is in if and only if it is in the admissible model of the rules now held.
-abbrev pub InModel : Table → Type 0
-InModel u =
-    (M : AtomSet) → Admissible (held u) M → (a : ℕ) → a < document .atoms
-    → (is-in-label (labelAt (u .labels) a) ≡ true) ↔ (M a ≡ true)
+-- Demand 2, of a table handed back: the rules now held have one admissible model, and an atom is in if and only if it
+-- is in that model.
+pub record InModel (u : Table) : Type 0 where
+  pub model : AtomSet
+  pub only : OnlyModel (held u) model
+  pub exactly : (a : ℕ) → a < document .atoms → (is-in-label (labelAt (u .labels) a) ≡ true) ↔ (model a ≡ true)

@@ -1,10 +1,11 @@
 -- A list of calls written as numbers, and answers written as numbers. Assumes nothing.
-use Prim.Native.Nat.{ℕ, zero, suc, _+_}
+use Prim.Native.Nat.{ℕ, zero, suc, _+_, _^_, _<_}
 use mathlib.Core.Bool.{Bool, true, false}
-use mathlib.Core.List.{List, [], _∷_, map}
+use mathlib.Core.List.{List, [], _∷_, _++_}
 use mathlib.Core.Option.{Option, none, some}
 use lib.Dec.{leb}
 use lib.ListN.{length, getD, take, drop}
+use Rattle.theory.specs.Lists.{_∈_}
 use Rattle.theory.specs.Rules.{Rule}
 use Rattle.theory.specs.Book.{Call, add, remove, Answer, refused, slot, accepted}
 
@@ -44,6 +45,26 @@ placed ws at = when (leb (at + 2) (length ws)) (placed-kind ws at (getD ws at 0)
 unfoldable pub decode : ℕ → List ℕ → ℕ → List Call
 decode zero ws at = []
 decode (suc most) ws at = elim (placed ws at) [ none ↦ [] | some c ↦ c .call ∷ decode most ws (c .behind) ]
+
+-- The words that are read as a list of calls: each call's, one after another.
+abbrev pub call-words : Call → List ℕ
+call-words (remove s) = 0 ∷ s ∷ []
+call-words (add r) =
+    1 ∷ r .head ∷ length (r .positives) ∷ length (r .negatives) ∷ (r .positives ++ r .negatives)
+
+unfoldable pub written : List Call → List ℕ
+written [] = []
+written (c ∷ cs) = call-words c ++ written cs
+
+-- Numbers of 32 bits; a call whose numbers and whose lists' lengths are such.
+abbrev pub Words : List ℕ → Type 0
+Words xs = (x : ℕ) → x ∈ xs → x < 2 ^ 32
+
+abbrev pub CallFits : Call → Type 0
+CallFits (remove s) = s < 2 ^ 32
+CallFits (add r) =
+    (r .head < 2 ^ 32) × (length (r .positives) < 2 ^ 32) × (length (r .negatives) < 2 ^ 32) × Words (r .positives)
+    × Words (r .negatives)
 
 -- An answer as a number: the slot taken; 65,536 for accepted; 65,536 and its number for a refusal.
 abbrev pub encode : Answer → ℕ

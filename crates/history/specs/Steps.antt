@@ -14,9 +14,9 @@ use Rattle.history.specs.declared.Replayed.{Replayed}
 use Rattle.history.specs.Claim.{Step, History}
 use Rattle.history.specs.Encoding.{Placed, placed, decode, encode}
 
--- The part of a list from f to below t.
-abbrev pub part : List ℕ → ℕ → ℕ → List ℕ
-part ws f t = take (t - f) (drop f ws)
+-- The words from a place to below another.
+abbrev pub between : List ℕ → ℕ → ℕ → List ℕ
+between ws f t = take (t - f) (drop f ws)
 
 -- The call that is read at a place, and the place behind it.
 abbrev pub callOf : List ℕ → Next → Option Placed
@@ -24,7 +24,7 @@ callOf ws next.End = none
 callOf ws (next.Remove s behind) = some (record { call = remove s; behind = behind })
 callOf ws (next.Add head from middle to) =
     some (record {
-      call = add (record { head = head; positives = part ws from middle; negatives = part ws middle to });
+      call = add (record { head = head; positives = between ws from middle; negatives = between ws middle to });
       behind = to;
     })
 
@@ -39,7 +39,7 @@ pub record NextOf (ws : List ℕ) (at : ℕ) (r : Next) : Type 0 where
   pub order : InOrder (length ws) r
 
 -- The call that stands at a place was made: it meets its contract on the table t, and its answer is told as a number.
-pub record Made (ws : List ℕ) (at : ℕ) (t : Table) (answer behind : ℕ) (u : Table) : Type 0 where
+pub record CallMade (ws : List ℕ) (at : ℕ) (t : Table) (answer behind : ℕ) (u : Table) : Type 0 where
   pub call : Call
   pub told : Answer
   pub stands : placed ws at ≡ some (record { call = call; behind = behind })
@@ -49,7 +49,7 @@ pub record Made (ws : List ℕ) (at : ℕ) (t : Table) (answer behind : ℕ) (u 
 -- One step from a place: no call stands there, or it was made.
 pub record StepOf (ws : List ℕ) (at : ℕ) (t : Table) (r : Stepped) : Type 0 where
   pub over : r .more ≡ false → placed ws at ≡ none
-  pub made : r .more ≡ true → Made ws at t (r .answer) (r .at) (r .table)
+  pub made : r .more ≡ true → CallMade ws at t (r .answer) (r .at) (r .table)
 
 -- The calls that the list holds, at most as many as there is room for answers.
 abbrev pub calls-in : List ℕ → List ℕ → List Call

@@ -1,2 +1,4 @@
 -- Laws about the lines of a sheet and about whole sheets.
 pub mod Unique
+pub mod Reading
+pub mod Books

@@ -1,9 +1,10 @@
--- A line determines what it prints and the table after it. Assumes nothing.
+-- A line determines what it prints and the table after it; so do the bytes of a sheet, and a whole sheet. Assumes
+-- nothing.
 use Prim.Native.Nat.{ℕ, zero, suc, _<_}
 use native.Mathlib.Omega.{arith}
 use mathlib.Core.Path.{_≡_, refl, sym, _∙_, ap, ap₂, subst}
 use mathlib.Core.Logic.{_⊎_, inl, inr}
-use mathlib.Core.List.{List, [], _++_}
+use mathlib.Core.List.{List, [], _∷_, _++_}
 use Rattle.theory.specs.Models.{AtomSet, Admissible}
 use Rattle.theory.specs.Labels.{Label, Labelled}
 use Rattle.theory.specs.Limits.{document}
@@ -23,6 +24,7 @@ use Rattle.lines.specs.Readings.{Line, is-blank, too-long, no-command, is, read
 use Rattle.printing.specs.Printed.{labelLine, labelLines, refusalLine}
 use Rattle.sheets.specs.Lines as prints
 use Rattle.sheets.specs.Lines.{lent, tellAdd, tellRemove, tellReason, Prints}
+use Rattle.sheets.specs.Sheets.{State, longer, ended, Reads, stop, byte, newline, SheetPrints}
 
 -- Every label of a sound table, and the lines that list them.
 record Lists (t : Table) (bs : List ℕ) : Type 0 where
@@ -64,7 +66,7 @@ module _ (t : Table) (n : ℕ) (line : List ℕ) where
       on _ _ e
       (inr (record { model = M; label = label; sound = s; admissible = a; labelled = l; lines = refl }), refl)
 
-labels-same :
+pub labels-same :
     (f g : ℕ → Label) (n : ℕ) → ((a : ℕ) → a < n → f a ≡ g a) → labelLines f n ≡ labelLines g n
 unfolding labelLines
 labels-same f g zero same = refl
@@ -103,3 +105,36 @@ pub prints-unique :
     → (bs ≡ cs) × (u ≡ v)
 prints-unique {t} {u} {v} {n} {line} {bs} {cs} p q = ends-same t n (reading line) bs cs u v (ends t n line p)
     (ends t n line q)
+
+-- A list that is empty has no first element.
+nothing : {b : ℕ} {bs : List ℕ} → [] ≡ b ∷ bs → ⊥
+nothing e = let z : _≡_ {A = ℕ} 0 1 = cc in omega arith
+
+first-same : {b c : ℕ} {bs cs : List ℕ} → b ∷ bs ≡ c ∷ cs → (b ≡ c) × (bs ≡ cs)
+first-same e = (cc, cc)
+
+-- The bytes of a sheet determine what they print and where the reading stands after them.
+pub reads-unique :
+    {s z u v : State} {xs ys out more : List ℕ} → Reads s xs out u → Reads z ys more v → s ≡ z → xs ≡ ys
+    → (out ≡ more) × (u ≡ v)
+reads-unique stop stop e f = (refl, e)
+reads-unique stop (byte b q) e f = absurd (nothing f)
+reads-unique stop (newline p q) e f = absurd (nothing f)
+reads-unique (byte b q) stop e f = absurd (nothing (sym f))
+reads-unique (byte b q) (byte d r) e f =
+    reads-unique q r (ap₂ (λ (x : State) (y : ℕ). longer x (y ∷ [])) e (first-same f .0)) (first-same f .1)
+reads-unique (byte b q) (newline p r) e f = absurd (b (first-same f .0))
+reads-unique (newline p q) stop e f = absurd (nothing (sym f))
+reads-unique (newline p q) (byte b r) e f = absurd (b (sym (first-same f .0)))
+reads-unique (newline {u = u} {printed = bs} p q) (newline p′ r) e f =
+    let same = prints-unique (subst (λ (x : State). Prints (x .table) (x .number) (x .line) bs u) e p) p′ in
+    let rest = reads-unique q r (ap₂ ended e (same .1)) (first-same f .1) in
+    (ap₂ (λ (x y : List ℕ). x ++ y) (same .0) (rest .0), rest .1)
+
+-- A sheet prints one list of bytes.
+pub sheet-prints-unique : {input out more : List ℕ} → SheetPrints input out → SheetPrints input more → out ≡ more
+sheet-prints-unique p q =
+    let same = reads-unique (p .reads) (q .reads) refl refl in
+    let moved =
+    subst (λ (x : State). Prints (x .table) (x .number) (x .line) (p .last) (p .after)) (same .1) (p .prints) in
+    p .whole ∙ ap₂ (λ (x y : List ℕ). x ++ y) (same .0) (prints-unique moved (q .prints) .0) ∙ sym (q .whole)
