@@ -2,8 +2,8 @@
 use Prim.Native.Nat.{ℕ, suc, _+_, _^_, _≤_, _<_}
 use native.Mathlib.Omega.{arith}
 use mathlib.Core.List.{List, [], _∷_, _++_, append-assoc}
-use lib.ListN.{length}
-use Rattle.sheets.specs.Sheets.{State, start, Reads, stop, byte, newline, MOST}
+use lib.ListN.{length, length-take}
+use Rattle.sheets.specs.Sheets.{State, start, Reads, stop, byte, newline, MOST, cut}
 
 -- Bytes behind bytes.
 pub reads-then :
@@ -20,10 +20,14 @@ lines-at-most stop = omega arith
 lines-at-most (byte b r) = omega (arith, lines-at-most r)
 lines-at-most (newline p r) = omega (arith, lines-at-most r)
 
--- So in the bytes that a program reads every line's number, also that of the last line, has 32 bits.
+-- So in a sheet of at most so many bytes every line's number, also that of the last line, has 32 bits.
 pub few-lines :
     {v : State} {bs out : List ℕ} → Reads start bs out v → length bs ≤ MOST
     → (v .number ≤ MOST + 1) × (v .number < 2 ^ 32)
 few-lines r l =
     let most = lines-at-most r in
     (omega arith, omega arith)
+
+-- What a program reads of its input is such a sheet.
+pub cut-short : (input : List ℕ) → length (cut input) ≤ MOST
+cut-short input = omega (arith, length-take MOST input)

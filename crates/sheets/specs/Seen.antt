@@ -70,7 +70,7 @@ pagesAfter P line = after-all document P (lineCalls line)
 pub data LinesPrint : Program → ℕ → List (List ℕ) → List ℕ → Type 0 where
   no-line : {P : Program} {n : ℕ} → LinesPrint P n [] []
   one-line :
-      {P : Program} {n : ℕ} {line : List ℕ} {lines : List (List ℕ)} {printed out : List ℕ}
+      {P : Program} {n : ℕ} {line : List ℕ} {lines : List (List ℕ)} {out : List ℕ} (printed : List ℕ)
       → Seen P n (reading line) printed → LinesPrint (pagesAfter P (reading line)) (suc n) lines out
       → LinesPrint P n (line ∷ lines) (printed ++ out)
 
