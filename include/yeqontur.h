@@ -5,7 +5,7 @@
  * refusal. A refused call hands the table back as it came and writes no buffer entry. Nothing is allocated or kept, so
  * any thread may call; a call needs about 100 KB of stack. A list or buffer of length 0 may be NULL.
  *
- * Link target/staticlib/libffi.a (made by `rt staticlib ffi`; x86-64).
+ * Link target/staticlib/libyeqontur.a (made by `rt staticlib yeqontur`; x86-64).
  */
 #ifndef YEQONTUR_H
 #define YEQONTUR_H

@@ -20,9 +20,9 @@ ghost use mathlib.Core.Path.{_≡_};
 ghost use Rattle.table.specs.Clean.{emptyTable};
 ghost use Rattle.table.specs.Questions.{ruleFrom};
 ghost use Rattle.calls.specs.Contracts.{JustificationsEnd, ConsequencesEnd, RepercussionsEnd, ReasonEnds};
-ghost use Rattle.ffi.specs.Crossing.{crossedAdd, crossedRemove, crossedLabel, crossedSpoiler, crossedList};
-ghost use Rattle.ffi.specs.Crossing.{neededBy};
-ghost use Rattle.ffi.specs.Crossing.{AddCrosses, RemoveCrosses, LabelCrosses, SpoilerCrosses, ListCrosses};
+ghost use Rattle.yeqontur.specs.Crossing.{crossedAdd, crossedRemove, crossedLabel, crossedSpoiler, crossedList};
+ghost use Rattle.yeqontur.specs.Crossing.{neededBy};
+ghost use Rattle.yeqontur.specs.Crossing.{AddCrosses, RemoveCrosses, LabelCrosses, SpoilerCrosses, ListCrosses};
 
 // What a call that changes a table answers: the slot that an addition took, and the table handed back.
 #[repr(C)]

@@ -1,8 +1,8 @@
--- `ffi::needed` meets its contract. Assumes nothing.
+-- `yeqontur::needed` meets its contract. Assumes nothing.
 use borrow.Author.Needs.{needs}
-use Rattle.ffi.proofs.Crosses.{none-needed}
-use Rattle.ffi.proofs.needed.Statement.{statement}
-use Rattle.ffi.proofs.needed.Tie as tie
+use Rattle.yeqontur.proofs.Crosses.{none-needed}
+use Rattle.yeqontur.proofs.needed.Statement.{statement}
+use Rattle.yeqontur.proofs.needed.Tie as tie
 
 enum-known-f : tie.Need-enum-known-f
 enum-known-f c = search needs

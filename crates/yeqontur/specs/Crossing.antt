@@ -20,10 +20,10 @@ use Rattle.calls.specs.declared.ListAnswer.{ListAnswer}
 use Rattle.calls.specs.declared.ListAnswer.the-variants as listed
 use Rattle.calls.specs.Answers.{numberOf}
 use Rattle.calls.specs.Contracts.{AddEnds, RemoveEnds, LabelEnds, SpoilerEnds}
-use Rattle.ffi.specs.declared.Change.{Change}
-use Rattle.ffi.specs.declared.AtomLabel.{AtomLabel}
-use Rattle.ffi.specs.declared.RuleSpoiler.{RuleSpoiler}
-use Rattle.ffi.specs.declared.Written.{Written}
+use Rattle.yeqontur.specs.declared.Change.{Change}
+use Rattle.yeqontur.specs.declared.AtomLabel.{AtomLabel}
+use Rattle.yeqontur.specs.declared.RuleSpoiler.{RuleSpoiler}
+use Rattle.yeqontur.specs.declared.Written.{Written}
 
 abbrev pub crossedAdd : AddAnswer → Table → Change
 crossedAdd (added.Taken s) u = record { refused = 0; slot = s .0; table = u }
