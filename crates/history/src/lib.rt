@@ -13,6 +13,7 @@ ghost use Rattle.history.specs.Encoding.{encode};
 ghost use Rattle.history.specs.Steps.{NextOf, StepOf, Replays};
 
 // How many calls were made, and the table that the last handed back.
+#[repr(C)]
 pub struct Replayed {
     pub count: usize,
     pub table: Table,

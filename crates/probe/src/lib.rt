@@ -1,10 +1,13 @@
 // The engine's phases, exported for comparison runs and benchmarks. Not part of the library's interface.
+use history::Replayed;
+use history::replay;
 use labels::labels_of;
 use sound::slots::no_two_same;
 use sound::slots::slots_well_formed;
 use sound::sound;
 use table::Table;
 ghost use mathlib.Core.Path.{_≡_};
+ghost use Rattle.history.specs.Steps.{Replays};
 ghost use Rattle.probe.specs.Probes.{SoundProbe, LabelsProbe};
 
 // The table with the labels that its rules give, or as it came: `refused` is 0, or the number of the question that the
@@ -59,4 +62,13 @@ pub extern "C" fn probe_labels(table: Table) -> Relabelled
             labels: labels,
         },
     }
+}
+
+// The calls of a list of numbers, made one after another from the empty table: how many there were, the table after
+// them, and their answers from the start of the lent buffer.
+#[no_mangle]
+pub extern "C" fn probe_replay(words: &[u32], answers: &mut [u32]) -> Replayed
+    ensures { λ r. ⌜ Replays (now (words .entry)) (now (answers .entry)) r (now (answers .exit)) ⌝ }
+{
+    replay(words, answers)
 }
