@@ -3,7 +3,9 @@
 //!     compare calls SEED COUNT              COUNT random calls on the library
 //!     compare sheets PROGRAM SEED COUNT     COUNT random sheets through the sheet program
 //!     compare stream PROGRAM                1 MiB of `L` lines over a full table, and the memory that it takes
+//!     compare broken PROGRAM..              reads and writes that fail, on each program that reads a sheet
 
+mod broken;
 mod calls;
 mod program;
 mod sheets;
@@ -12,7 +14,7 @@ mod stream;
 use std::process::ExitCode;
 
 const USAGE: &str =
-    "compare calls SEED COUNT | compare sheets PROGRAM SEED COUNT | compare stream PROGRAM";
+    "compare calls SEED COUNT | compare sheets PROGRAM SEED COUNT | compare stream PROGRAM | compare broken PROGRAM..";
 
 /// Runs what the words name and answers how many comparisons failed; `None` if they name nothing.
 fn obey(words: &[&str]) -> Option<usize> {
@@ -24,6 +26,7 @@ fn obey(words: &[&str]) -> Option<usize> {
             count.parse().ok()?,
         )),
         ["stream", program] => Some(stream::compare(program)),
+        ["broken", programs @ ..] if !programs.is_empty() => Some(broken::compare(programs)),
         _ => None,
     }
 }
