@@ -5,7 +5,7 @@
 //!     bench plain-sheet         plain Rust's sheet program
 //!     bench slow-sheet          the slow engine's
 //!     bench compare SEED COUNT  COUNT tables of every kind: verdict and labels against the slow engine
-//!     bench replay SEED COUNT   COUNT lists of calls written as numbers: answers and table against the slow engine's book
+//!     bench replay SEED COUNT   COUNT lists of calls written as numbers: answers and table against the slow book
 
 mod boundary;
 mod calls;
@@ -22,8 +22,8 @@ mod sheet;
 use std::io;
 use std::process::ExitCode;
 
-const USAGE: &str =
-    "bench | bench sheet PROGRAM | bench plain-sheet | bench slow-sheet | bench compare SEED COUNT | bench replay SEED COUNT";
+const USAGE: &str = "bench | bench sheet PROGRAM | bench plain-sheet | bench slow-sheet
+    | bench compare SEED COUNT | bench replay SEED COUNT";
 
 fn code(good: bool) -> ExitCode {
     ExitCode::from(u8::from(!good))
