@@ -1,8 +1,8 @@
--- `yeqontur::crossed_spoiler` meets its contract. Assumes nothing.
+-- `crossing::crossed_spoiler` meets its contract. Assumes nothing.
 use borrow.Author.Needs.{needs}
-use Rattle.yeqontur.proofs.Crosses.{spoiler-told, spoiler-refused}
-use Rattle.yeqontur.proofs.crossed_spoiler.Statement.{statement}
-use Rattle.yeqontur.proofs.crossed_spoiler.Tie as tie
+use Rattle.crossing.proofs.Crosses.{spoiler-told, spoiler-refused}
+use Rattle.crossing.proofs.crossed_spoiler.Statement.{statement}
+use Rattle.crossing.proofs.crossed_spoiler.Tie as tie
 
 enum-told : tie.Need-enum-told
 enum-told c = search needs

@@ -1,8 +1,8 @@
--- `yeqontur::crossed_label` meets its contract. Assumes nothing.
+-- `crossing::crossed_label` meets its contract. Assumes nothing.
 use borrow.Author.Needs.{needs}
-use Rattle.yeqontur.proofs.Crosses.{label-told, label-refused}
-use Rattle.yeqontur.proofs.crossed_label.Statement.{statement}
-use Rattle.yeqontur.proofs.crossed_label.Tie as tie
+use Rattle.crossing.proofs.Crosses.{label-told, label-refused}
+use Rattle.crossing.proofs.crossed_label.Statement.{statement}
+use Rattle.crossing.proofs.crossed_label.Tie as tie
 
 enum-told : tie.Need-enum-told
 enum-told c = search needs

@@ -1,8 +1,8 @@
--- `yeqontur::crossed_remove` meets its contract. Assumes nothing.
+-- `crossing::crossed_remove` meets its contract. Assumes nothing.
 use borrow.Author.Needs.{needs}
-use Rattle.yeqontur.proofs.Crosses.{remove-accepted, remove-refused}
-use Rattle.yeqontur.proofs.crossed_remove.Statement.{statement}
-use Rattle.yeqontur.proofs.crossed_remove.Tie as tie
+use Rattle.crossing.proofs.Crosses.{remove-accepted, remove-refused}
+use Rattle.crossing.proofs.crossed_remove.Statement.{statement}
+use Rattle.crossing.proofs.crossed_remove.Tie as tie
 
 enum-told : tie.Need-enum-told
 enum-told c = search needs

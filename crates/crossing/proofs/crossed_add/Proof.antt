@@ -1,8 +1,8 @@
--- `yeqontur::crossed_add` meets its contract. Assumes nothing.
+-- `crossing::crossed_add` meets its contract. Assumes nothing.
 use borrow.Author.Needs.{needs}
-use Rattle.yeqontur.proofs.Crosses.{add-taken, add-refused}
-use Rattle.yeqontur.proofs.crossed_add.Statement.{statement}
-use Rattle.yeqontur.proofs.crossed_add.Tie as tie
+use Rattle.crossing.proofs.Crosses.{add-taken, add-refused}
+use Rattle.crossing.proofs.crossed_add.Statement.{statement}
+use Rattle.crossing.proofs.crossed_add.Tie as tie
 
 enum-known-answer : tie.Need-enum-known-answer
 enum-known-answer c = search needs

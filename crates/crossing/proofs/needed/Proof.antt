@@ -1,8 +1,8 @@
--- `yeqontur::needed` meets its contract. Assumes nothing.
+-- `crossing::needed` meets its contract. Assumes nothing.
 use borrow.Author.Needs.{needs}
-use Rattle.yeqontur.proofs.Crosses.{none-needed}
-use Rattle.yeqontur.proofs.needed.Statement.{statement}
-use Rattle.yeqontur.proofs.needed.Tie as tie
+use Rattle.crossing.proofs.Crosses.{none-needed}
+use Rattle.crossing.proofs.needed.Statement.{statement}
+use Rattle.crossing.proofs.needed.Tie as tie
 
 enum-known-f : tie.Need-enum-known-f
 enum-known-f c = search needs

@@ -21,11 +21,11 @@ use Rattle.calls.specs.declared.ListAnswer.{ListAnswer}
 use Rattle.calls.specs.declared.ListAnswer.the-variants as listed
 use Rattle.calls.specs.Answers.{numberOf}
 use Rattle.calls.proofs.Refusal.{the-type}
-use Rattle.yeqontur.specs.declared.Change.{Change}
-use Rattle.yeqontur.specs.declared.AtomLabel.{AtomLabel}
-use Rattle.yeqontur.specs.declared.RuleSpoiler.{RuleSpoiler}
-use Rattle.yeqontur.specs.declared.Written.{Written}
-use Rattle.yeqontur.specs.Crossing.{crossedAdd, crossedRemove, crossedLabel, crossedSpoiler, crossedList, neededBy}
+use Rattle.crossing.specs.declared.Change.{Change}
+use Rattle.crossing.specs.declared.AtomLabel.{AtomLabel}
+use Rattle.crossing.specs.declared.RuleSpoiler.{RuleSpoiler}
+use Rattle.crossing.specs.declared.Written.{Written}
+use Rattle.crossing.specs.Numbers.{crossedAdd, crossedRemove, crossedLabel, crossedSpoiler, crossedList, neededBy}
 
 -- A change: the slot k of an accepted call, or the number n of a refusal.
 abbrev change : ℕ → ℕ → Table → Change

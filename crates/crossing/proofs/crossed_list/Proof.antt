@@ -1,8 +1,8 @@
--- `yeqontur::crossed_list` meets its contract. Assumes nothing.
+-- `crossing::crossed_list` meets its contract. Assumes nothing.
 use borrow.Author.Needs.{needs}
-use Rattle.yeqontur.proofs.Crosses.{list-told, list-refused}
-use Rattle.yeqontur.proofs.crossed_list.Statement.{statement}
-use Rattle.yeqontur.proofs.crossed_list.Tie as tie
+use Rattle.crossing.proofs.Crosses.{list-told, list-refused}
+use Rattle.crossing.proofs.crossed_list.Statement.{statement}
+use Rattle.crossing.proofs.crossed_list.Tie as tie
 
 enum-known-answer : tie.Need-enum-known-answer
 enum-known-answer c = search needs
