@@ -1,11 +1,14 @@
 /*
  * Yeqontur: the rule table behind status labels. docs/GUIDE.md is the guide, bindings/c/guide.c a whole program.
  *
- * Every call takes any numbers, lists, buffer lengths and bytes of a table, and answers a result or one numbered
- * refusal. A refused call hands the table back as it came and writes no buffer entry. Nothing is allocated or kept, so
- * any thread may call; a call needs about 100 KB of stack. A list or buffer of length 0 may be NULL.
+ * Every call takes any numbers, lists, lengths and bytes of a table, and answers a result or one numbered refusal. A
+ * refused call hands the table back as it came and writes no buffer entry. A list or buffer of length 0 may be NULL. A
+ * list that makes a rule too long (refusal 2) is not read, whatever its length says.
  *
- * Link target/staticlib/libffi.a (made by `rt staticlib ffi`; x86-64).
+ * Nothing is allocated or kept, so any number of threads may call at once; a thread with 128 KB of stack can make any
+ * call.
+ *
+ * Link target/staticlib/libyeqontur.a (made by `rt staticlib yeqontur`; x86-64).
  */
 #ifndef YEQONTUR_H
 #define YEQONTUR_H
@@ -24,7 +27,7 @@ extern "C" {
 /* A slot: free (state 0) or with one rule (state 1): the head is in if every positive entry is in and no negative one
  * is. The entries are the positive list, then the negative list. To be read; rules are changed by the calls. */
 typedef struct {
-    uint8_t state;
+    uint16_t state;
     uint16_t head;
     uint8_t positives;
     uint8_t negatives;
@@ -33,12 +36,14 @@ typedef struct {
 
 /* What is kept of an atom: absent (state 0), out (1), or in (2) with depth and supporting slot. */
 typedef struct {
-    uint8_t state;
+    uint16_t state;
     uint16_t depth;
     uint16_t slot;
 } yeqontur_kept_label;
 
-/* A table goes in by value and comes back by value. Any bytes are a table; question 15 says whether it is sound. */
+/* A table goes in by value and comes back by value. Any bytes are a table; question 15 says whether it is sound.
+ * Its structs have no padding, so two sound tables with the same rules in the same slots are equal byte for byte
+ * (memcmp): a table can be stored, compared and hashed as the 7,168 bytes that it is. The empty table is all zero. */
 typedef struct {
     yeqontur_rule rules[YEQONTUR_SLOTS];
     yeqontur_kept_label labels[YEQONTUR_ATOMS];
@@ -80,6 +85,7 @@ typedef struct {
     uint32_t place; /* of that entry in the positive (1) or the negative list (2), from 0 */
 } yeqontur_spoiler_answer;
 
+/* To be read by its fields: 4 bytes between these two are padding. */
 typedef struct {
     uint32_t refused;
     size_t count; /* how many entries were written, from the start of the buffer; later ones stay */

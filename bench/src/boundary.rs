@@ -11,9 +11,17 @@ pub struct Labelled {
     pub table: Table,
 }
 
+/// How many calls of a list were made, and the table after them.
+#[repr(C)]
+pub struct Replayed {
+    pub count: usize,
+    pub table: Table,
+}
+
 extern "C" {
     fn probe_sound(table: Table) -> u32;
     fn probe_labels(table: Table) -> Labelled;
+    fn probe_replay(words: *const u32, count: usize, answers: *mut u32, room: usize) -> Replayed;
 }
 
 /// Question 15, answered by the proved engine.
@@ -26,6 +34,20 @@ pub fn sound(table: &Table) -> bool {
 pub fn labels(table: &Table) -> Labelled {
     // SAFETY: as above.
     unsafe { probe_labels(*table) }
+}
+
+/// The calls of a list of numbers, made from the empty table by the proved engine; their answers as numbers.
+pub fn replay(words: &[u32], answers: &mut [u32]) -> Replayed {
+    // SAFETY: each pointer has as many numbers behind it as the length beside it says, and the buffer is lent to this
+    // call alone.
+    unsafe {
+        probe_replay(
+            words.as_ptr(),
+            words.len(),
+            answers.as_mut_ptr(),
+            answers.len(),
+        )
+    }
 }
 
 /// The slow engine's table as the library has it.

@@ -5,6 +5,7 @@
 //!     bench plain-sheet         plain Rust's sheet program
 //!     bench slow-sheet          the slow engine's
 //!     bench compare SEED COUNT  COUNT tables of every kind: verdict and labels against the slow engine
+//!     bench replay SEED COUNT   COUNT lists of calls written as numbers: answers and table against the slow book
 
 mod boundary;
 mod calls;
@@ -14,14 +15,15 @@ mod clock;
 mod compare;
 mod phases;
 mod plain;
+mod replay;
 mod shapes;
 mod sheet;
 
 use std::io;
 use std::process::ExitCode;
 
-const USAGE: &str =
-    "bench | bench sheet PROGRAM | bench plain-sheet | bench slow-sheet | bench compare SEED COUNT";
+const USAGE: &str = "bench | bench sheet PROGRAM | bench plain-sheet | bench slow-sheet
+    | bench compare SEED COUNT | bench replay SEED COUNT";
 
 fn code(good: bool) -> ExitCode {
     ExitCode::from(u8::from(!good))
@@ -47,6 +49,10 @@ fn main() -> ExitCode {
         ["plain-sheet"] => done(plain::sheet::run(io::stdin().lock(), io::stdout().lock())),
         ["slow-sheet"] => done(sheet::slow()),
         ["compare", seed, count] => code(compare::compare(
+            seed.parse().expect("a seed"),
+            count.parse().expect("a count"),
+        )),
+        ["replay", seed, count] => code(replay::compare(
             seed.parse().expect("a seed"),
             count.parse().expect("a count"),
         )),

@@ -32,6 +32,19 @@ fn chain(length: u32, ascending: bool) -> Program {
     program(rules)
 }
 
+/// Each atom if the one before is not in; the fact stands in the highest slot, so that strata rise against the slots.
+fn negations(length: u32) -> Program {
+    let mut rules = vec![rule(0, &[], &[])];
+    rules.extend((1..length).map(|a| rule(a, &[], &[a - 1])));
+    rules.reverse();
+    program(rules)
+}
+
+/// A rule in every slot, all with one head, so that each has to be held against every other to know it is not the same.
+fn one_head() -> Program {
+    program((0..SLOTS as u32).map(|a| rule(255, &[a], &[])).collect())
+}
+
 /// Atom groups of five, each group above the one before by a negation.
 fn strata(count: u32) -> Program {
     let mut rules = Vec::new();
@@ -79,6 +92,8 @@ pub fn all() -> Vec<(&'static str, Table)> {
         ("random, 175 rules", random(1, 175, 3)),
         ("full, 256 rules", random(2, 256, 3)),
         ("dense, 255 rules of 8 entries", random(3, 255, 8)),
+        ("200 negations, descending", negations(200)),
+        ("256 rules of one head", one_head()),
     ];
     shapes
         .into_iter()

@@ -1,37 +1,9 @@
 /* The library from C: the worked sheet of the specification, refusals, buffers and tables of any bytes. */
 #include "yeqontur.h"
 
-#include <stdio.h>
+#include "expect.h"
+
 #include <string.h>
-
-static int passed, failed;
-
-static void expect(int good, const char *what) {
-    if (good) {
-        passed++;
-    } else {
-        failed++;
-        printf("failed: %s\n", what);
-    }
-}
-
-/* Field by field: the padding between fields is nobody's. */
-static int same(const yeqontur_table *a, const yeqontur_table *b) {
-    for (int s = 0; s < YEQONTUR_SLOTS; s++) {
-        const yeqontur_rule *q = &a->rules[s], *r = &b->rules[s];
-        if (q->state != r->state || q->head != r->head || q->positives != r->positives ||
-            q->negatives != r->negatives || memcmp(q->entries, r->entries, sizeof q->entries) != 0) {
-            return 0;
-        }
-    }
-    for (int x = 0; x < YEQONTUR_ATOMS; x++) {
-        const yeqontur_kept_label *k = &a->labels[x], *l = &b->labels[x];
-        if (k->state != l->state || k->depth != l->depth || k->slot != l->slot) {
-            return 0;
-        }
-    }
-    return 1;
-}
 
 static yeqontur_table added(yeqontur_table table, uint32_t head, const uint32_t *p, size_t np, const uint32_t *n,
                             size_t nn, uint32_t slot) {
@@ -90,18 +62,18 @@ int main(void) {
     expect(list.refused == 0 && list.count == 2 && buffer[0] == 1 && buffer[1] == 0, "the reason's slots");
     expect(buffer[2] == 93 && buffer[3] == 94, "later entries of the buffer stay");
     list = yeqontur_reason(table, 4, buffer, 2);
-    expect(list.refused == 11 && list.count == 3 && buffer[0] == 1 && buffer[2] == 93, "a short buffer stays as it was");
+    expect(list.refused == 11 && list.count == 3 && buffer[0] == 1 && buffer[2] == 93,
+           "a short buffer stays as it was");
     expect(yeqontur_reason(table, 3, buffer, 4).refused == 12, "no reason of an atom that is out");
     expect(yeqontur_label(table, 256).refused == 10, "an atom number past the limit");
 
     change = yeqontur_add(table, 3, NULL, 0, &one, 1);
-    expect(change.refused == 7 && same(&change.table, &table),
+    expect(change.refused == 7 && memcmp(&change.table, &table, sizeof table) == 0,
            "a loop through a negation is refused, and the table handed back as it came");
 
     memset(&table, 0xA5, sizeof table);
     expect(yeqontur_label(table, 1).refused == 15, "any bytes are a table, and this one is not sound");
     spoils(table, 1, 15, 0, 0, 0);
 
-    printf("C caller: %d passed, %d failed\n", passed, failed);
-    return failed != 0;
+    return counted("C caller");
 }

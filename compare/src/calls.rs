@@ -74,8 +74,8 @@ fn stopper(Spoiler { side, place, atom }: Spoiler) -> Vec<u32> {
     vec![spoiled, atom, place]
 }
 
-/// What the numbers of an answer tell. A refusal says nothing else: with another number beside it, it is told as values,
-/// which no refusal equals.
+/// What the numbers of an answer tell. A refusal says nothing else: with another number beside it, it is told as
+/// values, which no refusal equals.
 fn told(refused: u32, values: Vec<u32>) -> Told {
     match refused {
         0 => Told::Values(values),

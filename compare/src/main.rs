@@ -2,9 +2,13 @@
 //!
 //!     compare calls SEED COUNT              COUNT random calls on the library
 //!     compare sheets PROGRAM SEED COUNT     COUNT random sheets through the sheet program
-//!     compare stream PROGRAM                1 MiB of `L` lines over a full table, and the memory that it takes
+//!     compare stream PROGRAM                `L` lines over a full table, and the memory that it takes
+//!     compare cut SEED COUNT PROGRAM..      sheets longer than a program reads, COUNT through each
+//!     compare broken PROGRAM..              reads and writes that fail, on each program that reads a sheet
 
+mod broken;
 mod calls;
+mod cut;
 mod program;
 mod sheets;
 mod stream;
@@ -12,7 +16,8 @@ mod stream;
 use std::process::ExitCode;
 
 const USAGE: &str =
-    "compare calls SEED COUNT | compare sheets PROGRAM SEED COUNT | compare stream PROGRAM";
+    "compare calls SEED COUNT | compare sheets PROGRAM SEED COUNT | compare stream PROGRAM
+    | compare cut SEED COUNT PROGRAM.. | compare broken PROGRAM..";
 
 /// Runs what the words name and answers how many comparisons failed; `None` if they name nothing.
 fn obey(words: &[&str]) -> Option<usize> {
@@ -24,6 +29,12 @@ fn obey(words: &[&str]) -> Option<usize> {
             count.parse().ok()?,
         )),
         ["stream", program] => Some(stream::compare(program)),
+        ["cut", seed, count, programs @ ..] => Some(cut::compare(
+            seed.parse().ok()?,
+            count.parse().ok()?,
+            programs,
+        )),
+        ["broken", programs @ ..] if !programs.is_empty() => Some(broken::compare(programs)),
         _ => None,
     }
 }

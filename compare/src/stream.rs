@@ -1,4 +1,5 @@
-//! A sheet of 1 MiB of `L` lines over a full table: gigabytes are printed, and memory stays as it is.
+//! A sheet of `L` lines over a full table, as long as a program reads (`MOST` of crates/sheets/specs/Sheets.antt):
+//! gigabytes are printed, and memory stays as it is.
 
 use crate::program::{start, write_pieces};
 use oracle::limits::INPUT_BYTES;

@@ -1,14 +1,15 @@
-//! Raw tables as bytes: the fields in their order, numbers low byte first.
+//! Raw tables as bytes: the fields in their order, numbers low byte first. A table in the memory of an x86-64 machine
+//! has the same bytes.
 
 use crate::limits::{ATOMS, ENTRIES, SLOTS};
 use crate::table::{RawLabel, RawRule, RawTable};
 
-const RULE_BYTES: usize = 5 + 2 * ENTRIES;
-const LABEL_BYTES: usize = 5;
+const RULE_BYTES: usize = 6 + 2 * ENTRIES;
+const LABEL_BYTES: usize = 6;
 
 impl RawRule {
     fn write(&self, bytes: &mut Vec<u8>) {
-        bytes.push(self.state);
+        bytes.extend(self.state.to_le_bytes());
         bytes.extend(self.head.to_le_bytes());
         bytes.extend([self.positives, self.negatives]);
         bytes.extend(self.entries.iter().flat_map(|entry| entry.to_le_bytes()));
@@ -16,14 +17,14 @@ impl RawRule {
 
     fn read(bytes: &[u8]) -> RawRule {
         let mut entries = [0; ENTRIES];
-        for (entry, pair) in entries.iter_mut().zip(bytes[5..].chunks_exact(2)) {
+        for (entry, pair) in entries.iter_mut().zip(bytes[6..].chunks_exact(2)) {
             *entry = low_byte_first(pair);
         }
         RawRule {
-            state: bytes[0],
-            head: low_byte_first(&bytes[1..3]),
-            positives: bytes[3],
-            negatives: bytes[4],
+            state: low_byte_first(&bytes[..2]),
+            head: low_byte_first(&bytes[2..4]),
+            positives: bytes[4],
+            negatives: bytes[5],
             entries,
         }
     }
@@ -31,16 +32,16 @@ impl RawRule {
 
 impl RawLabel {
     fn write(&self, bytes: &mut Vec<u8>) {
-        bytes.push(self.state);
+        bytes.extend(self.state.to_le_bytes());
         bytes.extend(self.depth.to_le_bytes());
         bytes.extend(self.slot.to_le_bytes());
     }
 
     fn read(bytes: &[u8]) -> RawLabel {
         RawLabel {
-            state: bytes[0],
-            depth: low_byte_first(&bytes[1..3]),
-            slot: low_byte_first(&bytes[3..5]),
+            state: low_byte_first(&bytes[..2]),
+            depth: low_byte_first(&bytes[2..4]),
+            slot: low_byte_first(&bytes[4..]),
         }
     }
 }

@@ -17,6 +17,7 @@ pub mod model;
 pub mod questions;
 pub mod random;
 pub mod relations;
+pub mod replay;
 pub mod rules;
 pub mod sheet;
 pub mod sound;

@@ -33,7 +33,7 @@ pub fn run(input: &[u8]) -> Vec<u8> {
 }
 
 /// The lines without their newlines. What follows the last newline is a line only if it has
-/// bytes. Bytes past the limit are not there.
+/// bytes. Bytes past the cut are not there.
 fn lines(input: &[u8]) -> Vec<&[u8]> {
     let read = &input[..input.len().min(INPUT_BYTES)];
     let mut lines: Vec<&[u8]> = read.split(|&byte| byte == b'\n').collect();

@@ -4,16 +4,16 @@ use crate::labels::{Label, Labelled};
 use crate::limits::{ATOMS, ENTRIES, SLOTS};
 use crate::rules::Rule;
 
-pub const FREE: u8 = 0;
-pub const HELD: u8 = 1;
+pub const FREE: u16 = 0;
+pub const HELD: u16 = 1;
 
-pub const ABSENT: u8 = 0;
-pub const OUT: u8 = 1;
-pub const IN: u8 = 2;
+pub const ABSENT: u16 = 0;
+pub const OUT: u16 = 1;
+pub const IN: u16 = 2;
 
 #[derive(Clone, Copy, PartialEq, Eq, Debug)]
 pub struct RawRule {
-    pub state: u8,
+    pub state: u16,
     pub head: u16,
     pub positives: u8,
     pub negatives: u8,
@@ -23,7 +23,7 @@ pub struct RawRule {
 
 #[derive(Clone, Copy, PartialEq, Eq, Debug)]
 pub struct RawLabel {
-    pub state: u8,
+    pub state: u16,
     pub depth: u16,
     pub slot: u16,
 }

@@ -13,6 +13,7 @@
 //! ```
 
 mod label;
+mod layout;
 pub mod raw;
 mod refusal;
 mod rule;

@@ -12,9 +12,9 @@ pub const ENTRIES: usize = 8;
 
 /// A slot: free (state 0) or with one rule (state 1); positives first among the entries.
 #[repr(C)]
-#[derive(Clone, Copy, PartialEq, Eq, Debug)]
+#[derive(Clone, Copy, PartialEq, Eq, Hash, Debug)]
 pub struct Rule {
-    pub state: u8,
+    pub state: u16,
     pub head: u16,
     pub positives: u8,
     pub negatives: u8,
@@ -23,19 +23,37 @@ pub struct Rule {
 
 /// What is kept of an atom: absent (state 0), out (1), or in (2) with depth and supporting slot.
 #[repr(C)]
-#[derive(Clone, Copy, PartialEq, Eq, Debug)]
+#[derive(Clone, Copy, PartialEq, Eq, Hash, Debug)]
 pub struct Label {
-    pub state: u8,
+    pub state: u16,
     pub depth: u16,
     pub slot: u16,
 }
 
-/// Any bytes are a table; question 15 says whether it is sound.
+/// Any bytes are a table; question 15 says whether it is sound. There is no padding, so two sound tables with the same
+/// rules in the same slots have the same bytes, and those of the empty table are all 0.
 #[repr(C)]
-#[derive(Clone, Copy, PartialEq, Eq, Debug)]
+#[derive(Clone, Copy, PartialEq, Eq, Hash, Debug)]
 pub struct Table {
     pub rules: [Rule; SLOTS],
     pub labels: [Label; ATOMS],
+}
+
+impl Table {
+    /// How many bytes a table has.
+    pub const BYTES: usize = 7168;
+
+    /// The table as it lies in memory, to be stored or compared.
+    pub fn as_bytes(&self) -> &[u8; Table::BYTES] {
+        // SAFETY: a table has so many bytes, and each belongs to a field (layout.rs).
+        unsafe { &*(self as *const Table).cast() }
+    }
+
+    /// The table that has these bytes, sound or not.
+    pub fn from_bytes(bytes: &[u8; Table::BYTES]) -> Table {
+        // SAFETY: every field is a number, which any bytes are.
+        unsafe { std::mem::transmute(*bytes) }
+    }
 }
 
 /// `refused` is 0 or the refusal's number; `slot` the slot that an addition took or a removal freed.

@@ -5,7 +5,7 @@ use crate::{Label, Refusal, Validity};
 
 /// A table of rules with the labels of their atoms. It is always sound: it starts empty, calls keep it sound, and raw
 /// fields become one only if they are sound. It is a few kilobytes, so a copy is asked for by name.
-#[derive(Clone, PartialEq, Eq, Debug)]
+#[derive(Clone, PartialEq, Eq, Hash, Debug)]
 pub struct Table(raw::Table);
 
 /// The refusal that the numbers say, or the value.

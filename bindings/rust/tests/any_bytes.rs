@@ -20,12 +20,12 @@ fn damaged(table: &Table, random: &mut Random) -> raw::Table {
     let number = random.word() as u16 >> random.below(16);
     let (rule, label) = (&mut fields.rules[place], &mut fields.labels[place]);
     match random.below(8) {
-        0 => rule.state = number as u8,
+        0 => rule.state = number,
         1 => rule.head = number,
         2 => rule.positives = number as u8,
         3 => rule.negatives = number as u8,
         4 => rule.entries[random.below(8) as usize] = number,
-        5 => label.state = number as u8,
+        5 => label.state = number,
         6 => label.depth = number,
         _ => label.slot = number,
     }
@@ -83,24 +83,8 @@ fn one_field_changed() {
 #[test]
 fn one_byte_everywhere() {
     let mut random = Random(3);
-    for byte in 0..=255_u8 {
-        let pair = u16::from_ne_bytes([byte, byte]);
-        let rule = raw::Rule {
-            state: byte,
-            head: pair,
-            positives: byte,
-            negatives: byte,
-            entries: [pair; raw::ENTRIES],
-        };
-        let label = raw::Label {
-            state: byte,
-            depth: pair,
-            slot: pair,
-        };
-        let fields = raw::Table {
-            rules: [rule; raw::SLOTS],
-            labels: [label; raw::ATOMS],
-        };
+    for byte in 0..=255 {
+        let fields = raw::Table::from_bytes(&[byte; raw::Table::BYTES]);
         assert_eq!(refused_alike(&fields, &mut random), byte != 0);
     }
 }

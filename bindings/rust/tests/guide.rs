@@ -33,7 +33,7 @@ fn the_commands_of_the_guide_print_what_it_says() {
     let shown = blocks("text");
     let commands = blocks("sh");
     assert_eq!((shown.len(), commands.len()), (1, 3));
-    assert_eq!(commands[0], "rt staticlib ffi\n");
+    assert_eq!(commands[0], "rt staticlib yeqontur\n");
     for command in &commands[1..] {
         let mut shell = Command::new("sh");
         let ran = shell.arg("-c").arg(command).current_dir(root()).output();

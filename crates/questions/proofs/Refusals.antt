@@ -1,5 +1,5 @@
 -- The first of questions 1 to 4 answered no, from the answers one by one. Assumes nothing. The limits are a parameter.
-use Prim.Native.Nat.{ℕ, _+_}
+use Prim.Native.Nat.{ℕ, _+_, _<_}
 use native.Mathlib.Omega.{arith}
 use mathlib.Core.Path.{_≡_, refl, sym, _∙_, ap}
 use mathlib.Core.Bool.{Bool, true, false, not, _&&_}
@@ -10,7 +10,7 @@ use lib.ListN.{length}
 use Rattle.theory.specs.Lists.{every, distinct}
 use Rattle.theory.specs.Limits.{Limits}
 use Rattle.theory.specs.Questions.{asks, first-no, rule-questions}
-use Rattle.theory.proofs.Lists.{not-true, not-false}
+use Rattle.theory.proofs.Lists.{not-true, not-false, unless, leb-le}
 use Rattle.table.specs.Questions.{ruleFrom, refusalNumber}
 use Rattle.table.proofs.Walks.{every-append}
 
@@ -48,6 +48,13 @@ none-by true true true false e = absurd (omega arith)
 none-by true true false d e = absurd (omega arith)
 none-by true false c d e = absurd (omega arith)
 none-by false b c d e = absurd (omega arith)
+
+-- Two lengths of which one is past the room are past it together.
+pub first-past : (m n room : ℕ) → room < m → false ≡ leb (m + n) room
+first-past m n room l = sym (unless _ (λ u. omega (arith, leb-le (m + n) room u)))
+
+pub second-past : (m n room : ℕ) → room < n → false ≡ leb (m + n) room
+second-past m n room l = sym (unless _ (λ u. omega (arith, leb-le (m + n) room u)))
 
 -- A negated test t of an answer q.
 pub no-by : (t q : Bool) → t ≡ q → not t ≡ true → q ≡ false

@@ -18,10 +18,17 @@ pub fn head_fits(head: u32) -> bool
     (head as usize) < Table::ATOMS
 }
 
-// 2: Do both lists together have at most as many entries as a rule has room for?
+// 2: Do both lists together have at most as many entries as a rule has room for? Each length is tested by itself first:
+// a caller in another language may hand in lengths whose sum wraps.
 pub fn few_entries(positives: &[u32], negatives: &[u32]) -> bool
     ensures { λ r. ⌜ r ≡ leb (length (now (positives .entry)) + length (now (negatives .entry))) (document .entries) ⌝ }
 {
+    if positives.len() > Table::ENTRIES {
+        return false;
+    }
+    if negatives.len() > Table::ENTRIES {
+        return false;
+    }
     positives.len() + negatives.len() <= Table::ENTRIES
 }
 

@@ -46,13 +46,18 @@ pub fn addition(random: &mut Random, atoms: usize) -> Call {
     }
 }
 
+/// A removal of one of about that many slots.
+pub fn removal(random: &mut Random, slots: usize) -> Call {
+    Call::Remove {
+        slot: number(random, slots),
+    }
+}
+
 /// A call over about that many atoms and slots; most of them change the table.
 pub fn call(random: &mut Random, atoms: usize, slots: usize) -> Call {
     match random.below(20) {
         0..=9 => addition(random, atoms),
-        10..=12 => Call::Remove {
-            slot: number(random, slots),
-        },
+        10..=12 => removal(random, slots),
         13 => Call::Label {
             atom: number(random, atoms),
         },

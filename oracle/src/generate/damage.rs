@@ -36,12 +36,12 @@ pub fn damaged(random: &mut Random, table: &RawTable, field: Field) -> RawTable 
     let place = random.below(ENTRIES);
     let (rule, label) = (&mut table.rules[slot], &mut table.labels[atom]);
     match field {
-        Field::RuleState => rule.state = other_small(random, rule.state),
+        Field::RuleState => rule.state = other(random, rule.state),
         Field::Head => rule.head = other(random, rule.head),
         Field::Positives => rule.positives = other_small(random, rule.positives),
         Field::Negatives => rule.negatives = other_small(random, rule.negatives),
         Field::Entry => rule.entries[place] = other(random, rule.entries[place]),
-        Field::LabelState => label.state = other_small(random, label.state),
+        Field::LabelState => label.state = other(random, label.state),
         Field::Depth => label.depth = other(random, label.depth),
         Field::SupportingSlot => label.slot = other(random, label.slot),
     }
@@ -53,7 +53,7 @@ fn other(random: &mut Random, stood: u16) -> u16 {
     let number = match random.below(5) {
         0 => stood.wrapping_add(1),
         1 => stood.wrapping_sub(1),
-        2 => *random.pick(&[0, 1, 255, 256, 257, 65_535]),
+        2 => *random.pick(&[0, 1, 2, 255, 256, 257, 258, 65_535]),
         3 => random.below(ATOMS) as u16,
         _ => random.word() as u16,
     };

@@ -7,6 +7,7 @@ pub mod faults;
 pub mod lines;
 pub mod programs;
 pub mod sheets;
+pub mod words;
 
 use crate::labels::Labelled;
 use crate::random::Random;

@@ -76,7 +76,7 @@ fn labels_shows_each_occurring_atom_and_refuses_half_a_table() {
         oracle(&["labels"], &bytes).stdout,
         b"sound; 1 in 1 0; 2 out\n"
     );
-    bytes[256 * 21 + 5] = 1;
+    bytes[256 * 22 + 6] = 1;
     assert_eq!(
         oracle(&["labels"], &bytes).stdout,
         b"unsound; 1 in 1 0; 2 out\n"

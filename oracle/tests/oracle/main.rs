@@ -9,6 +9,7 @@ mod models;
 mod notation;
 mod refusals;
 mod relations;
+mod replay;
 mod sequences;
 mod sheets;
 mod small_tables;

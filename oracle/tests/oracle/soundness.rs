@@ -13,10 +13,10 @@ use oracle::table::{RawLabel, RawRule, RawTable, FREE, HELD, IN, OUT};
 fn the_empty_table_is_sound_and_all_zero() {
     let empty = RawTable::empty();
     assert!(sound(&empty));
-    assert_eq!(empty.to_bytes(), vec![0; 6656]);
-    assert_eq!(RawTable::from_bytes(&[0; 6656]), Some(empty));
-    assert_eq!(RawTable::from_bytes(&[0; 6655]), None);
-    assert_eq!(RawTable::from_bytes(&[0; 6657]), None);
+    assert_eq!(empty.to_bytes(), vec![0; 7168]);
+    assert_eq!(RawTable::from_bytes(&[0; 7168]), Some(empty));
+    assert_eq!(RawTable::from_bytes(&[0; 7167]), None);
+    assert_eq!(RawTable::from_bytes(&[0; 7169]), None);
 }
 
 #[test]
@@ -24,11 +24,11 @@ fn tables_survive_encoding_in_the_order_of_the_fields() {
     let table = table(&["1 <", "201 < 1 !2"]);
     let bytes = table.to_bytes();
     assert_eq!(
-        bytes[21..42],
-        [1, 201, 0, 1, 1, 1, 0, 2, 0, 0, 0, 0, 0, 0, 0, 0, 0, 0, 0, 0, 0]
+        bytes[22..44],
+        [1, 0, 201, 0, 1, 1, 1, 0, 2, 0, 0, 0, 0, 0, 0, 0, 0, 0, 0, 0, 0, 0]
     );
-    assert_eq!(bytes[256 * 21 + 201 * 5..][..5], [2, 2, 0, 1, 0]);
-    assert_eq!(bytes[256 * 21 + 2 * 5..][..5], [1, 0, 0, 0, 0]);
+    assert_eq!(bytes[256 * 22 + 201 * 6..][..6], [2, 0, 2, 0, 1, 0]);
+    assert_eq!(bytes[256 * 22 + 2 * 6..][..6], [1, 0, 0, 0, 0, 0]);
     let mut random = Random::seeded(61);
     for _ in 0..50 {
         let bytes: Vec<u8> = (0..RawTable::BYTES).map(|_| random.word() as u8).collect();
@@ -39,9 +39,15 @@ fn tables_survive_encoding_in_the_order_of_the_fields() {
 /// What is changed, in words, and the change.
 type Change = (&'static str, fn(&mut RawTable));
 
-const CHANGES: [Change; 17] = [
+const CHANGES: [Change; 19] = [
     ("a rule with no such state", |table| {
         table.rules[0].state = 2
+    }),
+    ("a rule's state that wraps to held", |table| {
+        table.rules[0].state = 257
+    }),
+    ("a label's state that wraps to out", |table| {
+        table.labels[4].state = 257
     }),
     ("a free slot with a head", |table| table.rules[9].head = 1),
     ("a free slot with a count", |table| {

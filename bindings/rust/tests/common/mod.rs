@@ -60,7 +60,7 @@ impl Random {
         let mut fields = raw::empty();
         for rule in &mut fields.rules {
             *rule = raw::Rule {
-                state: self.word() as u8,
+                state: self.word() as u16,
                 head: self.word() as u16,
                 positives: self.word() as u8,
                 negatives: self.word() as u8,
@@ -69,7 +69,7 @@ impl Random {
         }
         for label in &mut fields.labels {
             *label = raw::Label {
-                state: self.word() as u8,
+                state: self.word() as u16,
                 depth: self.word() as u16,
                 slot: self.word() as u16,
             };

@@ -1,0 +1,84 @@
+/* The worst arguments from C: lengths that wrap, NULL, numbers of 2^32 - 1. No call reads or writes what it must not:
+ * run under valgrind, a wrong read or write is an error. */
+#include "yeqontur.h"
+
+#include "expect.h"
+
+#include <string.h>
+
+#define WRAPS ((size_t)-1)
+
+typedef yeqontur_list_answer list_call(yeqontur_table, uint32_t, uint32_t *, size_t);
+
+static list_call *const lists[] = {yeqontur_justifications, yeqontur_consequences, yeqontur_repercussions,
+                                   yeqontur_reason};
+
+/* An addition of such lists is refused 2, with the table as it came. */
+static void too_many(const uint32_t *positives, size_t positive_count, const uint32_t *negatives,
+                     size_t negative_count) {
+    const yeqontur_table table = yeqontur_add(yeqontur_empty(), 1, NULL, 0, NULL, 0).table;
+    yeqontur_change change = yeqontur_add(table, 9, positives, positive_count, negatives, negative_count);
+    expect(change.refused == 2 && change.slot == 0, "lists that are too long are refused 2");
+    expect(memcmp(&change.table, &table, sizeof table) == 0, "and the table comes back as it was");
+}
+
+/* Behind each pointer stands one number, or nothing: a list that is too long is not read. */
+static void lengths(void) {
+    const uint32_t one = 1, two = 2;
+    too_many(&one, WRAPS, &two, 1);
+    too_many(&one, 1, &two, WRAPS);
+    too_many(&one, WRAPS, &two, WRAPS);
+    too_many(&one, WRAPS / 2 + 1, &two, WRAPS / 2 + 1);
+    too_many(&one, WRAPS - 7, &two, 8);
+    too_many(&one, 8, &two, 1);
+    too_many(NULL, WRAPS, NULL, 0);
+    too_many(NULL, WRAPS, NULL, 1);
+    too_many(NULL, WRAPS, NULL, WRAPS);
+    too_many(NULL, 9, NULL, 0);
+    too_many(NULL, 0, NULL, 9);
+    too_many(NULL, 9, NULL, 9);
+}
+
+/* A list or buffer of length 0 may be NULL. 2 is a fact and 1 rests on it; no rule has the head 3. */
+static void no_buffer(void) {
+    const uint32_t two = 2, three = 3;
+    yeqontur_table table = yeqontur_add(yeqontur_empty(), 2, NULL, 0, NULL, 0).table;
+    table = yeqontur_add(table, 1, &two, 1, NULL, 0).table;
+    table = yeqontur_add(table, 4, NULL, 0, &three, 1).table;
+    for (int i = 0; i < 4; i++) {
+        yeqontur_list_answer answer = lists[i](table, 2, NULL, 0);
+        expect(answer.refused == 11 && answer.count == 1, "a NULL buffer of length 0 is too short, by its count");
+        answer = lists[i](table, 200, NULL, 0);
+        expect(answer.refused == (i == 3 ? 12 : 0) && answer.count == 0, "a count of 0 needs no buffer");
+        expect(lists[i](table, 256, NULL, 0).refused == 10, "an atom number past the limit");
+    }
+    yeqontur_list_answer none = yeqontur_justifications(table, 3, NULL, 0);
+    expect(none.refused == 0 && none.count == 0, "an atom that occurs and has no rule");
+}
+
+/* Numbers of 2^32 - 1, and of 2^16 and 2^8 more than a good one, wrap nowhere. */
+static void numbers(void) {
+    const uint32_t most[] = {256, 257, 65536, 65537, 0xFFFFFFFF};
+    const yeqontur_table table = yeqontur_add(yeqontur_empty(), 1, NULL, 0, NULL, 0).table;
+    uint32_t buffer[4] = {91, 92, 93, 94};
+    for (int i = 0; i < 5; i++) {
+        const uint32_t n = most[i];
+        expect(yeqontur_add(table, n, NULL, 0, NULL, 0).refused == 1, "a head past the limit");
+        expect(yeqontur_add(table, 2, &n, 1, NULL, 0).refused == 3, "a positive entry past the limit");
+        expect(yeqontur_add(table, 2, NULL, 0, &n, 1).refused == 3, "a negative entry past the limit");
+        expect(yeqontur_remove(table, n).refused == 8, "a slot number past the limit");
+        expect(yeqontur_spoiler(table, n).refused == 8, "a slot number past the limit");
+        expect(yeqontur_label(table, n).refused == 10, "an atom number past the limit");
+        for (int j = 0; j < 4; j++) {
+            expect(lists[j](table, n, buffer, 4).refused == 10, "an atom number past the limit");
+        }
+    }
+    expect(buffer[0] == 91 && buffer[3] == 94, "a refused call writes no buffer entry");
+}
+
+int main(void) {
+    lengths();
+    no_buffer();
+    numbers();
+    return counted("the worst arguments from C");
+}

@@ -1,0 +1,106 @@
+/* Calls from 8 threads at once, each with a stack of 128 KB, as the header claims. A stack that is too small ends the
+ * program by a signal. */
+#include "yeqontur.h"
+
+#include "expect.h"
+
+#include <pthread.h>
+#include <string.h>
+
+#define THREADS 8
+#define STACK (128 * 1024)
+#define LENGTH 256
+
+/* What a thread works on: a table of its own, a buffer, and whether all answers were right. */
+typedef struct {
+    yeqontur_table table;
+    uint32_t buffer[256];
+    uint32_t number;
+    int right;
+} work;
+
+static work works[THREADS];
+
+/* Adds a rule with this head and at most one entry in each list. */
+static void add(work *w, uint32_t head, const uint32_t *positive, const uint32_t *negative) {
+    yeqontur_change change =
+        yeqontur_add(w->table, head, positive, positive != NULL ? 1 : 0, negative, negative != NULL ? 1 : 0);
+    w->right &= change.refused == 0;
+    w->table = change.table;
+}
+
+/* A chain of negations in the threads with an odd number, of positive entries in the others: each atom from the one
+ * before, atom 0 a fact. */
+static void chain(work *w) {
+    w->table = yeqontur_empty();
+    add(w, 0, NULL, NULL);
+    for (uint32_t atom = 1; atom < LENGTH; atom++) {
+        const uint32_t before = atom - 1;
+        add(w, atom, w->number % 2 == 0 ? &before : NULL, w->number % 2 == 0 ? NULL : &before);
+    }
+}
+
+/* The label of an atom of the chain: positive entries put each a step deeper; of negations every second is out. */
+static void label(work *w, uint32_t atom) {
+    yeqontur_label_answer answer = yeqontur_label(w->table, atom);
+    const int negations = w->number % 2 == 1;
+    const uint32_t state = negations && atom % 2 == 1 ? 1 : 2;
+    const uint32_t depth = state == 1 ? 0 : negations ? 1 : atom + 1;
+    w->right &= answer.refused == 0 && answer.state == state && answer.depth == depth;
+    w->right &= answer.slot == (state == 1 ? 0 : atom);
+}
+
+typedef yeqontur_list_answer list_call(yeqontur_table, uint32_t, uint32_t *, size_t);
+
+/* The list has this many numbers, and this one first. */
+static void list(work *w, list_call *call, uint32_t atom, size_t count, uint32_t first) {
+    yeqontur_list_answer answer = call(w->table, atom, w->buffer, 256);
+    w->right &= answer.refused == 0 && answer.count == count && w->buffer[0] == first;
+}
+
+static void spoiler(work *w) {
+    yeqontur_spoiler_answer answer = yeqontur_spoiler(w->table, 1);
+    w->right &= answer.refused == 0 && answer.spoiled == (w->number % 2 == 1 ? 2 : 0);
+}
+
+static void removal(work *w) {
+    yeqontur_change change = yeqontur_remove(w->table, w->number + 10);
+    w->right &= change.refused == 0 && change.slot == w->number + 10;
+    w->table = change.table;
+    w->right &= yeqontur_label(w->table, w->number + 10).state == 1;
+}
+
+/* Every call, on the longest chain. */
+static void *run(void *given) {
+    work *w = given;
+    const int negations = w->number % 2 == 1;
+    w->right = 1;
+    chain(w);
+    for (uint32_t atom = 0; atom < LENGTH; atom++) {
+        label(w, atom);
+    }
+    spoiler(w);
+    list(w, yeqontur_justifications, 7, 1, 7);
+    list(w, yeqontur_consequences, 7, 1, 8);
+    list(w, yeqontur_repercussions, 0, LENGTH - 1, 1);
+    list(w, yeqontur_reason, LENGTH - 2, negations ? 1 : LENGTH - 1, negations ? LENGTH - 2 : 0);
+    removal(w);
+    return NULL;
+}
+
+int main(void) {
+    pthread_t threads[THREADS];
+    pthread_attr_t small;
+    expect(pthread_attr_init(&small) == 0 && pthread_attr_setstacksize(&small, STACK) == 0, "a stack of 128 KB");
+    for (uint32_t i = 0; i < THREADS; i++) {
+        works[i].number = i;
+        expect(pthread_create(&threads[i], &small, run, &works[i]) == 0, "a thread");
+    }
+    for (int i = 0; i < THREADS; i++) {
+        expect(pthread_join(threads[i], NULL) == 0 && works[i].right, "every answer in a thread is right");
+    }
+    for (int i = 2; i < THREADS; i++) {
+        expect(memcmp(&works[i].table, &works[i % 2].table, sizeof works[i].table) != 0, "each has its own table");
+    }
+    return counted("8 threads from C");
+}

@@ -1,0 +1,62 @@
+//! Threads with small stacks, as the guide claims: 128 KB for calls, more for the tree of the deepest table.
+
+use std::thread::{Builder, JoinHandle};
+use yeqontur::{Label, Table};
+
+/// The longest chain: each atom from the one before, atom 0 a fact.
+fn chain() -> Table {
+    let mut table = Table::new();
+    for atom in 0..256_u32 {
+        let before: Vec<u32> = atom.checked_sub(1).into_iter().collect();
+        assert_eq!(table.add(atom, &before, &[]), Ok(atom));
+    }
+    table
+}
+
+fn with_stack(bytes: usize, work: fn()) -> JoinHandle<()> {
+    let thread = Builder::new().stack_size(bytes);
+    thread.spawn(work).expect("a thread")
+}
+
+/// Every call on the longest chain.
+fn calls() {
+    let mut table = chain();
+    let last = Label::In {
+        depth: 256,
+        slot: 255,
+    };
+    assert_eq!(table.label(255), Ok(last));
+    assert!(table.spoiler(255).is_ok());
+    assert_eq!(table.justifications(255), Ok(vec![255]));
+    assert_eq!(table.consequences(254), Ok(vec![255]));
+    assert_eq!(table.repercussions(0), Ok((1..256).collect()));
+    assert_eq!(table.reason(255), Ok((0..256).collect()));
+    assert_eq!(table.remove(0), Ok(()));
+    assert_eq!(table.labels().filter(|(_, l)| l.is_in()).count(), 0);
+}
+
+fn tree() {
+    let why = chain().why(255).expect("a tree");
+    assert_eq!(why.atom, 255);
+}
+
+fn joined(threads: Vec<JoinHandle<()>>) {
+    for thread in threads {
+        thread.join().expect("right answers");
+    }
+}
+
+#[test]
+fn calls_from_8_threads_of_128_kb() {
+    joined((0..8).map(|_| with_stack(128 << 10, calls)).collect());
+}
+
+#[test]
+fn the_tree_of_the_deepest_table() {
+    let bytes = if cfg!(debug_assertions) {
+        1 << 20
+    } else {
+        256 << 10
+    };
+    joined(vec![with_stack(bytes, tree)]);
+}

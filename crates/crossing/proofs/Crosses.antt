@@ -1,0 +1,98 @@
+-- What crosses, by the case of the answer. Assumes nothing.
+use Prim.Native.Nat.{ℕ}
+use mathlib.Core.Path.{_≡_, refl, sym, _∙_, ap, ap₂}
+use mathlib.Core.List.{List, [], _∷_}
+use denote.Enum.Declared.{tagOf}
+use types.Run.{OneOf, miss}
+use Rattle.table.specs.declared.Slot.{Slot}
+use Rattle.table.specs.declared.Table.{Table}
+use Rattle.calls.specs.declared.Refusal.{Refusal}
+use Rattle.calls.specs.declared.Refusal.the-variants.{Head, Entries, Entry, Repeated, Same, Full, NegativeCycle}
+use Rattle.calls.specs.declared.Refusal.the-variants.{SlotNumber, Free, AtomNumber, Buffer, NotIn, Unsound}
+use Rattle.calls.specs.declared.AddAnswer.{AddAnswer}
+use Rattle.calls.specs.declared.AddAnswer.the-variants as added
+use Rattle.calls.specs.declared.RemoveAnswer.{RemoveAnswer}
+use Rattle.calls.specs.declared.RemoveAnswer.the-variants as removed
+use Rattle.calls.specs.declared.LabelAnswer.{LabelAnswer}
+use Rattle.calls.specs.declared.LabelAnswer.the-variants as label
+use Rattle.calls.specs.declared.SpoilerAnswer.{SpoilerAnswer}
+use Rattle.calls.specs.declared.SpoilerAnswer.the-variants as spoilt
+use Rattle.calls.specs.declared.ListAnswer.{ListAnswer}
+use Rattle.calls.specs.declared.ListAnswer.the-variants as listed
+use Rattle.calls.specs.Answers.{numberOf}
+use Rattle.calls.proofs.Refusal.{the-type}
+use Rattle.crossing.specs.declared.Change.{Change}
+use Rattle.crossing.specs.declared.AtomLabel.{AtomLabel}
+use Rattle.crossing.specs.declared.RuleSpoiler.{RuleSpoiler}
+use Rattle.crossing.specs.declared.Written.{Written}
+use Rattle.crossing.specs.Numbers.{crossedAdd, crossedRemove, crossedLabel, crossedSpoiler, crossedList, neededBy}
+
+-- A change: the slot k of an accepted call, or the number n of a refusal.
+abbrev change : ℕ → ℕ → Table → Change
+change n k u = record { refused = n; slot = k; table = u }
+
+pub add-taken : (x : AddAnswer) (s : Slot) (u : Table) → x ≡ added.Taken s → change 0 (s .0) u ≡ crossedAdd x u
+add-taken x s u e = ap (λ (y : AddAnswer). crossedAdd y u) (sym e)
+
+pub add-refused :
+    (x : AddAnswer) (f : Refusal) (u : Table) (n : ℕ) → x ≡ added.Refused f → n ≡ numberOf f
+    → change n 0 u ≡ crossedAdd x u
+add-refused x f u n e d = ap (λ (k : ℕ). change k 0 u) d ∙ ap (λ (y : AddAnswer). crossedAdd y u) (sym e)
+
+pub remove-accepted : (k : ℕ) (x : RemoveAnswer) (u : Table) → x ≡ removed.Removed → change 0 k u ≡ crossedRemove k x u
+remove-accepted k x u e = ap (λ (y : RemoveAnswer). crossedRemove k y u) (sym e)
+
+pub remove-refused :
+    (k : ℕ) (x : RemoveAnswer) (f : Refusal) (u : Table) (n : ℕ) → x ≡ removed.Refused f → n ≡ numberOf f
+    → change n 0 u ≡ crossedRemove k x u
+remove-refused k x f u n e d =
+    ap (λ (j : ℕ). change j 0 u) d ∙ ap (λ (y : RemoveAnswer). crossedRemove k y u) (sym e)
+
+-- A label, a spoiler, a list: any case but a refusal by its equation, a refusal by its number too.
+
+pub label-told : (x y : LabelAnswer) → x ≡ y → crossedLabel y ≡ crossedLabel x
+label-told x y e = ap crossedLabel (sym e)
+
+pub label-refused :
+    (x : LabelAnswer) (f : Refusal) (n : ℕ) → x ≡ label.Refused f → n ≡ numberOf f
+    → _≡_ {A = AtomLabel} (record { refused = n; state = 0; depth = 0; slot = 0 }) (crossedLabel x)
+label-refused x f n e d =
+    ap (λ (k : ℕ). record { refused = k; state = 0; depth = 0; slot = 0 }) d ∙ label-told x (label.Refused f) e
+
+pub spoiler-told : (x y : SpoilerAnswer) → x ≡ y → crossedSpoiler y ≡ crossedSpoiler x
+spoiler-told x y e = ap crossedSpoiler (sym e)
+
+pub spoiler-refused :
+    (x : SpoilerAnswer) (f : Refusal) (n : ℕ) → x ≡ spoilt.Refused f → n ≡ numberOf f
+    → _≡_ {A = RuleSpoiler} (record { refused = n; spoiled = 0; place = 0; atom = 0 }) (crossedSpoiler x)
+spoiler-refused x f n e d =
+    ap (λ (k : ℕ). record { refused = k; spoiled = 0; place = 0; atom = 0 }) d ∙ spoiler-told x (spoilt.Refused f) e
+
+pub list-told : (x y : ListAnswer) → x ≡ y → crossedList y ≡ crossedList x
+list-told x y e = ap crossedList (sym e)
+
+pub list-refused :
+    (x : ListAnswer) (f : Refusal) (n m : ℕ) → x ≡ listed.Refused f → n ≡ numberOf f → m ≡ neededBy f
+    → _≡_ {A = Written} (record { refused = n; count = m }) (crossedList x)
+list-refused x f n m e d b =
+    ap₂ (λ (j k : ℕ). record { refused = j; count = k }) d b ∙ list-told x (listed.Refused f) e
+
+-- Every refusal but 11, whose place in the enum is 10, needs no entries.
+
+abbrev pub others : List ℕ
+others = 0 ∷ 1 ∷ 2 ∷ 3 ∷ 4 ∷ 5 ∷ 6 ∷ 7 ∷ 8 ∷ 9 ∷ 11 ∷ 12 ∷ []
+
+pub none-needed : (f : Refusal) → OneOf others (tagOf the-type f) → 0 ≡ neededBy f
+none-needed Head h = refl
+none-needed Entries h = refl
+none-needed Entry h = refl
+none-needed Repeated h = refl
+none-needed Same h = refl
+none-needed Full h = refl
+none-needed NegativeCycle h = refl
+none-needed SlotNumber h = refl
+none-needed Free h = refl
+none-needed AtomNumber h = refl
+none-needed (Buffer n) h = absurd (miss others 10 tt h)
+none-needed NotIn h = refl
+none-needed Unsound h = refl

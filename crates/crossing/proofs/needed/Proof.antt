@@ -1,0 +1,17 @@
+-- `crossing::needed` meets its contract. Assumes nothing.
+use borrow.Author.Needs.{needs}
+use Rattle.crossing.proofs.Crosses.{none-needed}
+use Rattle.crossing.proofs.needed.Statement.{statement}
+use Rattle.crossing.proofs.needed.Tie as tie
+
+enum-known-f : tie.Need-enum-known-f
+enum-known-f c = search needs
+
+returns : tie.Need-returns
+returns c = search needs
+
+returns-2 : tie.Need-returns-2
+returns-2 c = none-needed (c .before .args .f) (c .match .keys2)
+
+pub needed-spec : {M : Type 1} → statement M
+needed-spec = tie.close (tie.spec enum-known-f returns returns-2)

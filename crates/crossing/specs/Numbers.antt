@@ -1,0 +1,63 @@
+-- The calls' answers as numbers: `refused` is 0 or the refusal's number. Assumes nothing.
+use Prim.Native.Nat.{ℕ}
+use Rattle.table.specs.declared.Table.{Table}
+use Rattle.calls.specs.declared.Refusal.{Refusal}
+use Rattle.calls.specs.declared.Refusal.the-variants.{Head, Entries, Entry, Repeated, Same, Full, NegativeCycle}
+use Rattle.calls.specs.declared.Refusal.the-variants.{SlotNumber, Free, AtomNumber, Buffer, NotIn, Unsound}
+use Rattle.calls.specs.declared.AddAnswer.{AddAnswer}
+use Rattle.calls.specs.declared.AddAnswer.the-variants as added
+use Rattle.calls.specs.declared.RemoveAnswer.{RemoveAnswer}
+use Rattle.calls.specs.declared.RemoveAnswer.the-variants as removed
+use Rattle.calls.specs.declared.LabelAnswer.{LabelAnswer}
+use Rattle.calls.specs.declared.LabelAnswer.the-variants as label
+use Rattle.calls.specs.declared.SpoilerAnswer.{SpoilerAnswer}
+use Rattle.calls.specs.declared.SpoilerAnswer.the-variants as spoilt
+use Rattle.calls.specs.declared.ListAnswer.{ListAnswer}
+use Rattle.calls.specs.declared.ListAnswer.the-variants as listed
+use Rattle.calls.specs.Answers.{numberOf}
+use Rattle.crossing.specs.declared.Change.{Change}
+use Rattle.crossing.specs.declared.AtomLabel.{AtomLabel}
+use Rattle.crossing.specs.declared.RuleSpoiler.{RuleSpoiler}
+use Rattle.crossing.specs.declared.Written.{Written}
+
+abbrev pub crossedAdd : AddAnswer → Table → Change
+crossedAdd (added.Taken s) u = record { refused = 0; slot = s .0; table = u }
+crossedAdd (added.Refused f) u = record { refused = numberOf f; slot = 0; table = u }
+
+-- A removal that was accepted names its slot.
+abbrev pub crossedRemove : ℕ → RemoveAnswer → Table → Change
+crossedRemove s removed.Removed u = record { refused = 0; slot = s; table = u }
+crossedRemove s (removed.Refused f) u = record { refused = numberOf f; slot = 0; table = u }
+
+abbrev pub crossedLabel : LabelAnswer → AtomLabel
+crossedLabel label.Absent = record { refused = 0; state = 0; depth = 0; slot = 0 }
+crossedLabel label.Out = record { refused = 0; state = 1; depth = 0; slot = 0 }
+crossedLabel (label.In d s) = record { refused = 0; state = 2; depth = d; slot = s .0 }
+crossedLabel (label.Refused f) = record { refused = numberOf f; state = 0; depth = 0; slot = 0 }
+
+-- 1 says that the rule needs a positive entry, 2 that it is blocked by a negative one.
+abbrev pub crossedSpoiler : SpoilerAnswer → RuleSpoiler
+crossedSpoiler spoilt.Valid = record { refused = 0; spoiled = 0; place = 0; atom = 0 }
+crossedSpoiler (spoilt.Positive i a) = record { refused = 0; spoiled = 1; place = i; atom = a .0 }
+crossedSpoiler (spoilt.Negative i a) = record { refused = 0; spoiled = 2; place = i; atom = a .0 }
+crossedSpoiler (spoilt.Refused f) = record { refused = numberOf f; spoiled = 0; place = 0; atom = 0 }
+
+-- How many entries are needed: 11 says it, every other refusal 0.
+abbrev pub neededBy : Refusal → ℕ
+neededBy Head = 0
+neededBy Entries = 0
+neededBy Entry = 0
+neededBy Repeated = 0
+neededBy Same = 0
+neededBy Full = 0
+neededBy NegativeCycle = 0
+neededBy SlotNumber = 0
+neededBy Free = 0
+neededBy AtomNumber = 0
+neededBy (Buffer needed) = needed
+neededBy NotIn = 0
+neededBy Unsound = 0
+
+abbrev pub crossedList : ListAnswer → Written
+crossedList (listed.Count n) = record { refused = 0; count = n }
+crossedList (listed.Refused f) = record { refused = numberOf f; count = neededBy f }

@@ -1,0 +1,106 @@
+// The calls for C: numbers, slices and structs of numbers cross the boundary, and nothing else. include/yeqontur.h says
+// the same for C.
+use changes::add;
+use changes::remove;
+use crossing::AtomLabel;
+use crossing::Change;
+use crossing::RuleSpoiler;
+use crossing::Written;
+use crossing::crossed_add;
+use crossing::crossed_label;
+use crossing::crossed_list;
+use crossing::crossed_remove;
+use crossing::crossed_spoiler;
+use queries::consequences;
+use queries::justifications;
+use queries::label;
+use queries::repercussions;
+use queries::spoiler;
+use reasons::reason;
+use table::Table;
+ghost use mathlib.Core.Path.{_≡_};
+ghost use Rattle.table.specs.Clean.{emptyTable};
+ghost use Rattle.table.specs.Questions.{ruleFrom};
+ghost use Rattle.calls.specs.Contracts.{JustificationsEnd, ConsequencesEnd, RepercussionsEnd, ReasonEnds};
+ghost use Rattle.yeqontur.specs.Crossing.{AddCrosses, RemoveCrosses, LabelCrosses, SpoilerCrosses, ListCrosses};
+
+// The table in which every slot is free.
+#[no_mangle]
+pub extern "C" fn yeqontur_empty() -> Table
+    ensures { λ r. ⌜ r ≡ emptyTable ⌝ }
+{
+    Table::empty()
+}
+
+#[no_mangle]
+pub extern "C" fn yeqontur_add(
+    table: Table,
+    head: u32,
+    positives: &[u32],
+    negatives: &[u32],
+) -> Change
+    ensures { λ r. ⌜ AddCrosses table (ruleFrom head (now (positives .entry)) (now (negatives .entry))) r ⌝ }
+{
+    let done = add(table, head, positives, negatives);
+    let answer = done.answer;
+    let after = done.table;
+    crossed_add(answer, after)
+}
+
+#[no_mangle]
+pub extern "C" fn yeqontur_remove(table: Table, slot: u32) -> Change
+    ensures { λ r. ⌜ RemoveCrosses table slot r ⌝ }
+{
+    let done = remove(table, slot);
+    let answer = done.answer;
+    let after = done.table;
+    crossed_remove(slot, answer, after)
+}
+
+#[no_mangle]
+pub extern "C" fn yeqontur_label(table: Table, atom: u32) -> AtomLabel
+    ensures { λ r. ⌜ LabelCrosses table atom r ⌝ }
+{
+    let answer = label(table, atom);
+    crossed_label(answer)
+}
+
+#[no_mangle]
+pub extern "C" fn yeqontur_spoiler(table: Table, slot: u32) -> RuleSpoiler
+    ensures { λ r. ⌜ SpoilerCrosses table slot r ⌝ }
+{
+    let answer = spoiler(table, slot);
+    crossed_spoiler(answer)
+}
+
+#[no_mangle]
+pub extern "C" fn yeqontur_justifications(table: Table, atom: u32, buffer: &mut [u32]) -> Written
+    ensures { λ r. ⌜ ListCrosses (JustificationsEnd table atom (now (buffer .entry))) (now (buffer .exit)) r ⌝ }
+{
+    let answer = justifications(table, atom, buffer);
+    crossed_list(answer)
+}
+
+#[no_mangle]
+pub extern "C" fn yeqontur_consequences(table: Table, atom: u32, buffer: &mut [u32]) -> Written
+    ensures { λ r. ⌜ ListCrosses (ConsequencesEnd table atom (now (buffer .entry))) (now (buffer .exit)) r ⌝ }
+{
+    let answer = consequences(table, atom, buffer);
+    crossed_list(answer)
+}
+
+#[no_mangle]
+pub extern "C" fn yeqontur_repercussions(table: Table, atom: u32, buffer: &mut [u32]) -> Written
+    ensures { λ r. ⌜ ListCrosses (RepercussionsEnd table atom (now (buffer .entry))) (now (buffer .exit)) r ⌝ }
+{
+    let answer = repercussions(table, atom, buffer);
+    crossed_list(answer)
+}
+
+#[no_mangle]
+pub extern "C" fn yeqontur_reason(table: Table, atom: u32, buffer: &mut [u32]) -> Written
+    ensures { λ r. ⌜ ListCrosses (ReasonEnds table atom (now (buffer .entry))) (now (buffer .exit)) r ⌝ }
+{
+    let answer = reason(table, atom, buffer);
+    crossed_list(answer)
+}

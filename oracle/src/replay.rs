@@ -1,0 +1,57 @@
+//! A list of calls written as numbers, made on the plain book; the answers are numbers too.
+//!
+//! 0 and a slot is a removal. 1, a head, how many positives, how many negatives, then these: an addition. Any other
+//! number ends the list, and so does a call that is cut short, or one for whose answer there is no room.
+
+use crate::book::Book;
+
+/// The answer of an accepted removal. A refusal's is this and its number; an addition's is its slot, which is smaller.
+const ACCEPTED: u32 = 65_536;
+
+/// What is left of a list of numbers.
+struct Rest<'a>(&'a [u32]);
+
+impl<'a> Rest<'a> {
+    fn number(&mut self) -> Option<u32> {
+        let (&first, rest) = self.0.split_first()?;
+        self.0 = rest;
+        Some(first)
+    }
+
+    fn list(&mut self, count: u32) -> Option<&'a [u32]> {
+        let (list, rest) = self.0.split_at_checked(count as usize)?;
+        self.0 = rest;
+        Some(list)
+    }
+
+    /// Makes the call that stands here and answers as a number; `None` where none stands, and then nothing is made.
+    fn call(&mut self, book: &mut Book) -> Option<u32> {
+        let answer = match self.number()? {
+            0 => {
+                let slot = self.number()?;
+                book.remove(slot).map(|()| ACCEPTED)
+            }
+            1 => {
+                let (head, positives, negatives) = (self.number()?, self.number()?, self.number()?);
+                let (positives, negatives) = (self.list(positives)?, self.list(negatives)?);
+                book.add(head, positives, negatives)
+            }
+            _ => return None,
+        };
+        Some(answer.unwrap_or_else(|refusal| ACCEPTED + refusal))
+    }
+}
+
+/// The answers of the list's calls, made one after another on the empty book, at most `room` of them; and the book.
+pub fn replay(words: &[u32], room: usize) -> (Vec<u32>, Book) {
+    let mut book = Book::empty();
+    let mut rest = Rest(words);
+    let mut answers = Vec::new();
+    while answers.len() < room {
+        let Some(answer) = rest.call(&mut book) else {
+            break;
+        };
+        answers.push(answer);
+    }
+    (answers, book)
+}

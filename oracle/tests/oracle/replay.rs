@@ -1,0 +1,68 @@
+//! Lists of calls written as numbers.
+
+use oracle::book::Book;
+use oracle::generate::words::{words, ENDINGS};
+use oracle::random::Random;
+use oracle::replay::replay;
+
+fn answers(words: &[u32]) -> Vec<u32> {
+    replay(words, 100).0
+}
+
+#[test]
+fn an_addition_answers_its_slot_a_removal_that_it_was_accepted() {
+    let list = [1, 5, 1, 1, 6, 7, 1, 6, 0, 0, 0, 0, 1, 8, 0, 0];
+    let (answers, book) = replay(&list, 100);
+    assert_eq!(answers, [0, 1, 65_536, 0]);
+    let mut other = Book::empty();
+    assert_eq!(other.add(8, &[], &[]), Ok(0));
+    assert_eq!(other.add(6, &[], &[]), Ok(1));
+    assert_eq!(book, other);
+}
+
+#[test]
+fn a_refusal_answers_its_number_above_accepted() {
+    assert_eq!(answers(&[0, 3]), [65_536 + 9]);
+    assert_eq!(answers(&[0, 256]), [65_536 + 8]);
+    assert_eq!(answers(&[1, 256, 0, 0]), [65_536 + 1]);
+    assert_eq!(answers(&[1, 2, 0, 1, 2, 1, 2, 0, 0]), [65_536 + 7, 0]);
+}
+
+#[test]
+fn another_number_or_a_call_cut_short_ends_the_list() {
+    for end in [
+        &[][..],
+        &[2, 0],
+        &[u32::MAX],
+        &[0],
+        &[1],
+        &[1, 2, 0],
+        &[1, 2, 1, 0],
+        &[1, 2, 0, 1],
+    ] {
+        let list = [&[1, 9, 0, 0], end].concat();
+        assert_eq!(answers(&list), [0], "{end:?}");
+    }
+    assert_eq!(answers(&[1, 2, u32::MAX, u32::MAX, 0, 0]), []);
+    assert_eq!(answers(&[1, 9, 0, 0, 2, 0, 1, 8, 0, 0]), [0]);
+}
+
+#[test]
+fn a_call_for_whose_answer_there_is_no_room_is_not_made() {
+    let list = [1, 9, 0, 0, 1, 8, 0, 0];
+    assert_eq!(replay(&list, 0), (vec![], Book::empty()));
+    let (answers, book) = replay(&list, 1);
+    assert_eq!(answers, [0]);
+    assert_eq!(book.pages().iter().flatten().count(), 1);
+}
+
+#[test]
+fn some_list_of_every_ending_has_calls() {
+    for ending in ENDINGS {
+        let mut random = Random::seeded(7);
+        let counts: Vec<usize> = (0..200)
+            .map(|_| replay(&words(&mut random, ending), 1000).0.len())
+            .collect();
+        assert!(counts.iter().any(|&count| count > 0), "{ending:?}");
+    }
+}
