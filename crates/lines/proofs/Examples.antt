@@ -74,7 +74,8 @@ examples =
     ∷ []
 
 holds : map (λ (e : Example). reading (e .line)) examples ≡ map (λ (e : Example). e .what) examples
-unfolding bytes example sevens examples onto pieces filled tokens digits valueFrom needless spelledFrom numeral one numerals before after addition only listing form command spaces blank reading
+unfolding bytes example sevens examples onto pieces filled tokens digits valueFrom needless spelledFrom numeral
+    one numerals before after addition only listing form command spaces blank reading
 holds = refl
 
 -- Numbers as they are printed.

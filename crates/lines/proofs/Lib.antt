@@ -1,6 +1,7 @@
 -- The laws that the functions' proofs cite.
 pub mod Tests
 pub mod Leading
+pub mod Places
 pub mod Tokens
 pub mod Numerals
 pub mod Commands

@@ -7,8 +7,10 @@ use mathlib.Core.Option.{Option, none, some}
 use lib.ListN.{length, take, drop}
 use lib.Seq.{sets}
 use Rattle.lines.specs.Tokens.{isSpace, tokens}
+use Rattle.lines.specs.Places.{Onward}
 use Rattle.lines.specs.Numerals.{numeral}
 use Rattle.lines.specs.Commands.{Command, numerals, before, after, added}
+use Rattle.lines.specs.declared.Place.{Place}
 use Rattle.lines.specs.declared.read.Token.{Token}
 use Rattle.lines.specs.declared.read.Numbers.{Numbers}
 use Rattle.lines.specs.declared.read.Number.{Number}
@@ -35,12 +37,13 @@ abbrev pub empty : List (List ℕ) → Bool
 empty [] = true
 empty (t ∷ ts) = false
 
--- t is the first token from an offset on.
-pub record First (line : List ℕ) (from : ℕ) (t : Token) : Type 0 where
+-- t is the first token from a place on.
+pub record First (line : List ℕ) (from : Place) (t : Token) : Type 0 where
   pub ordered : t .start ≤ t .next .offset
   pub inside : t .next .offset ≤ length line
-  pub first : part line (t .start) (t .next .offset) ≡ firstOf (tokens (drop from line))
-  pub rest : tokens (drop (t .next .offset) line) ≡ restOf (tokens (drop from line))
+  pub onward : Onward line from (t .next)
+  pub first : part line (t .start) (t .next .offset) ≡ firstOf (tokens (drop (from .offset) line))
+  pub rest : tokens (drop (t .next .offset) line) ≡ restOf (tokens (drop (from .offset) line))
 
 abbrev pub numberOf : Number → Option ℕ
 numberOf Missing = none
@@ -67,9 +70,10 @@ pastNumbers (t ∷ ts) = tailIf (numeral t) (t ∷ ts) (pastNumbers ts)
 abbrev pub listed : ℕ → List (List ℕ) → Option Command
 listed h ts = added (some h) (numerals (before ts)) (numerals (after ts))
 
--- The numbers that the line begins with from an offset on were stored behind the first k of xs.
-pub record Collected (line xs : List ℕ) (k from : ℕ) (r : Numbers) : Type 0 where
-  pub entries : r .entries ≡ sets xs k (leadingNumbers (tokens (drop from line)))
-  pub count : r .count ≡ k + length (leadingNumbers (tokens (drop from line)))
+-- The numbers that the line begins with from a place on were stored behind the first k of xs.
+pub record Collected (line xs : List ℕ) (k : ℕ) (from : Place) (r : Numbers) : Type 0 where
+  pub entries : r .entries ≡ sets xs k (leadingNumbers (tokens (drop (from .offset) line)))
+  pub count : r .count ≡ k + length (leadingNumbers (tokens (drop (from .offset) line)))
   pub inside : r .next .offset ≤ length line
-  pub rest : tokens (drop (r .next .offset) line) ≡ pastNumbers (tokens (drop from line))
+  pub onward : Onward line from (r .next)
+  pub rest : tokens (drop (r .next .offset) line) ≡ pastNumbers (tokens (drop (from .offset) line))

@@ -1,9 +1,10 @@
 -- A place in a sheet: an offset in a line's bytes, and the line's number (document 01, "The sheet program": the reader
 -- keeps one place in the line, moves it past blanks and counts lines as it goes). Assumes nothing.
-use Prim.Native.Nat.{ℕ, zero, suc, _+_, _-_, _^_, min}
+use Prim.Native.Nat.{ℕ, zero, suc, _+_, _-_, _^_, min, _≤_}
+use mathlib.Core.Path.{_≡_}
 use mathlib.Core.Bool.{Bool, cond}
 use mathlib.Core.List.{List, [], _∷_}
-use lib.ListN.{drop}
+use lib.ListN.{length, drop}
 use Rattle.lines.specs.Tokens.{isSpace}
 use Rattle.lines.specs.declared.Place.{Place}
 
@@ -19,6 +20,13 @@ blanksEnd line start = start + leading isSpace (drop start line)
 -- The place past the blanks that begin at a place.
 abbrev pub pastBlanks : List ℕ → Place → Place
 pastBlanks line p = record { offset = blanksEnd line (p .offset); line = p .line }
+
+-- A place further on in the same line: not before the one that it came from and, where that one lies in the line's
+-- bytes, not past their end.
+pub record Onward (bytes : List ℕ) (from to : Place) : Type 0 where
+  pub same-line : to .line ≡ from .line
+  pub not-before : from .offset ≤ to .offset
+  pub not-past : from .offset ≤ length bytes → to .offset ≤ length bytes
 
 -- The start of a sheet. Lines count from 1.
 abbrev pub start : Place

@@ -47,8 +47,9 @@ pub enum Reading {
 }
 
 // A line that was read. An addition's positives stand first among the entries, then its negatives; all that follow
-// are 0. Any other reading has none.
+// are 0. Any other reading has none. The place is in the line that was read, as far on as the reader came.
 pub struct Parsed {
+    pub place: Place,
     pub reading: Reading,
     pub positives: usize,
     pub negatives: usize,

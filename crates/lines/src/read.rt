@@ -5,11 +5,12 @@ use super::Place;
 use super::Reading;
 use super::moves;
 ghost use mathlib.Core.Path.{_≡_};
+ghost use mathlib.Core.Bool.{cond};
 ghost use mathlib.Core.List.{[]};
 ghost use Prim.Native.Nat.{_+_, _≤_};
 ghost use lib.ListN.{length, drop};
 ghost use Rattle.lines.specs.Tokens.{tokens};
-ghost use Rattle.lines.specs.Places.{leading, pastBlanks};
+ghost use Rattle.lines.specs.Places.{leading, pastBlanks, Onward};
 ghost use Rattle.lines.specs.Numerals.{spelledFrom};
 ghost use Rattle.lines.specs.Numerals.{numeral as numeral-of};
 ghost use Rattle.lines.specs.Commands.{one, made, remove, why, only, command};
@@ -62,7 +63,7 @@ fn token_end(line: &[u8], start: usize) -> usize
 // The next token.
 fn next_token(line: &[u8], place: Place) -> Token
     requires { ⌜ place .offset ≤ length (now line) ⌝ }
-    ensures { λ r. ⌜ First (now (line .entry)) (place .offset) r ⌝ }
+    ensures { λ r. ⌜ First (now (line .entry)) place r ⌝ }
 {
     let begin = past_blanks(line, place);
     let start = begin.offset;
@@ -135,26 +136,11 @@ fn numeral(token: &[u8]) -> Number
     value(token)
 }
 
-// The number that the rest of the line is.
-fn only_number(line: &[u8], place: Place) -> Number
-    requires { ⌜ place .offset ≤ length (now line) ⌝ }
-    ensures { λ r. ⌜ numberOf r ≡ only (tokens (drop (place .offset) (now (line .entry)))) ⌝ }
-{
-    let t = next_token(line, place);
-    let start = t.start;
-    let next = t.next;
-    let end = next.offset;
-    if !ended(line, next) {
-        return Number::Missing;
-    }
-    numeral(&line[start..end])
-}
-
 // Reads numbers up to the first token that is none, and puts them behind those that are known.
 fn collect(line: &[u8], known: [u32; Parsed::ENTRIES], size: usize, place: Place) -> Numbers
     requires { ⌜ place .offset ≤ length (now line) ⌝ }
     requires { ⌜ size + length (tokens (drop (place .offset) (now line))) ≤ ENTRIES ⌝ }
-    ensures { λ r. ⌜ Collected (now (line .entry)) known size (place .offset) r ⌝ }
+    ensures { λ r. ⌜ Collected (now (line .entry)) known size place r ⌝ }
 {
     let mut entries = known;
     let mut count = size;
@@ -177,11 +163,13 @@ fn collect(line: &[u8], known: [u32; Parsed::ENTRIES], size: usize, place: Place
     }
 }
 
-// A reading with no entries.
-fn plain(reading: Reading) -> Parsed
+// A reading with no entries, and the place that was come to.
+fn plain(reading: Reading, place: Place) -> Parsed
     ensures { λ r. ⌜ Answers (lineOf reading [] []) r ⌝ }
+    ensures { λ r. ⌜ r .place ≡ place ⌝ }
 {
     Parsed {
+        place: place,
         reading: reading,
         positives: 0,
         negatives: 0,
@@ -194,6 +182,7 @@ fn lists(line: &[u8], head: u32, place: Place) -> Parsed
     requires { ⌜ place .offset ≤ length (now line) ⌝ }
     requires { ⌜ length (tokens (drop (place .offset) (now line))) ≤ ENTRIES ⌝ }
     ensures { λ r. ⌜ Answers (whether (listed head (tokens (drop (place .offset) (now (line .entry)))))) r ⌝ }
+    ensures { λ r. ⌜ Onward (now (line .entry)) place (r .place) ⌝ }
 {
     let p = collect(line, [0; Parsed::ENTRIES], 0, place);
     let positives = p.count;
@@ -202,6 +191,7 @@ fn lists(line: &[u8], head: u32, place: Place) -> Parsed
     let reading = Reading::Command(Command::Add(head));
     if ended(line, rest) {
         return Parsed {
+            place: rest,
             reading: reading,
             positives: positives,
             negatives: 0,
@@ -213,15 +203,16 @@ fn lists(line: &[u8], head: u32, place: Place) -> Parsed
     let after = t.next;
     let end = after.offset;
     if !is(&line[start..end], b'!') {
-        return plain(Reading::NoCommand);
+        return plain(Reading::NoCommand, after);
     }
     let n = collect(line, found, positives, after);
     let last = n.next;
     if !ended(line, last) {
-        return plain(Reading::NoCommand);
+        return plain(Reading::NoCommand, last);
     }
     let entries = n.entries;
     Parsed {
+        place: last,
         reading: reading,
         positives: positives,
         negatives: n.count - positives,
@@ -234,63 +225,68 @@ fn addition(line: &[u8], place: Place) -> Parsed
     requires { ⌜ place .offset ≤ length (now line) ⌝ }
     requires { ⌜ length (tokens (drop (place .offset) (now line))) ≤ ENTRIES ⌝ }
     ensures { λ r. ⌜ Answers (whether (addition-of (tokens (drop (place .offset) (now (line .entry)))))) r ⌝ }
+    ensures { λ r. ⌜ Onward (now (line .entry)) place (r .place) ⌝ }
 {
     let h = next_token(line, place);
     let start = h.start;
     let after = h.next;
     let end = after.offset;
     let Number::Is(head) = numeral(&line[start..end]) else {
-        return plain(Reading::NoCommand);
+        return plain(Reading::NoCommand, after);
     };
     let c = next_token(line, after);
     let from = c.start;
     let next = c.next;
     let to = next.offset;
     if !is(&line[from..to], b':') {
-        return plain(Reading::NoCommand);
+        return plain(Reading::NoCommand, next);
     }
     lists(line, head, next)
 }
 
-// What follows the `R` of a removal.
-fn removal(line: &[u8], place: Place) -> Parsed
+// What follows the `R` of a removal, or else the `W` of a request for a reason: one number.
+fn numbered(line: &[u8], place: Place, removes: bool) -> Parsed
     requires { ⌜ place .offset ≤ length (now line) ⌝ }
-    ensures { λ r. ⌜ Answers (whether (made remove (only (tokens (drop (place .offset) (now (line .entry))))))) r ⌝ }
+    ensures { λ r. ⌜ Answers (whether (made (cond removes remove why)
+        (only (tokens (drop (place .offset) (now (line .entry))))))) r ⌝ }
+    ensures { λ r. ⌜ Onward (now (line .entry)) place (r .place) ⌝ }
 {
-    let Number::Is(slot) = only_number(line, place) else {
-        return plain(Reading::NoCommand);
+    let t = next_token(line, place);
+    let start = t.start;
+    let next = t.next;
+    let end = next.offset;
+    if !ended(line, next) {
+        return plain(Reading::NoCommand, next);
+    }
+    let Number::Is(n) = numeral(&line[start..end]) else {
+        return plain(Reading::NoCommand, next);
     };
-    plain(Reading::Command(Command::Remove(slot)))
-}
-
-// What follows the `W` of a request for a reason.
-fn reason(line: &[u8], place: Place) -> Parsed
-    requires { ⌜ place .offset ≤ length (now line) ⌝ }
-    ensures { λ r. ⌜ Answers (whether (made why (only (tokens (drop (place .offset) (now (line .entry))))))) r ⌝ }
-{
-    let Number::Is(atom) = only_number(line, place) else {
-        return plain(Reading::NoCommand);
-    };
-    plain(Reading::Command(Command::Why(atom)))
+    if removes {
+        return plain(Reading::Command(Command::Remove(n)), next);
+    }
+    plain(Reading::Command(Command::Why(n)), next)
 }
 
 // What follows the `L` of a request for the labels.
 fn listing(line: &[u8], place: Place) -> Parsed
     requires { ⌜ place .offset ≤ length (now line) ⌝ }
     ensures { λ r. ⌜ Answers (whether (listing-of (tokens (drop (place .offset) (now (line .entry)))))) r ⌝ }
+    ensures { λ r. ⌜ Onward (now (line .entry)) place (r .place) ⌝ }
 {
     if !ended(line, place) {
-        return plain(Reading::NoCommand);
+        return plain(Reading::NoCommand, place);
     }
-    plain(Reading::Command(Command::Labels))
+    plain(Reading::Command(Command::Labels), place)
 }
 
-// The command of a line that is not too long. Its place starts at the first byte; the line's number does not matter.
-fn form(line: &[u8]) -> Parsed
-    requires { ⌜ length (now line) ≤ LINE ⌝ }
-    ensures { λ r. ⌜ Answers (whether (command (now (line .entry)))) r ⌝ }
+// The command that stands from a place on, in at most as many bytes as a line has.
+fn form(line: &[u8], place: Place) -> Parsed
+    requires { ⌜ place .offset ≤ length (now line) ⌝ }
+    requires { ⌜ length (drop (place .offset) (now line)) ≤ LINE ⌝ }
+    ensures { λ r. ⌜ Answers (whether (command (drop (place .offset) (now (line .entry))))) r ⌝ }
+    ensures { λ r. ⌜ Onward (now (line .entry)) place (r .place) ⌝ }
 {
-    let t = next_token(line, Place { offset: 0, line: 1 });
+    let t = next_token(line, place);
     let start = t.start;
     let next = t.next;
     let end = next.offset;
@@ -299,26 +295,33 @@ fn form(line: &[u8]) -> Parsed
         return addition(line, next);
     }
     if is(word, b'R') {
-        return removal(line, next);
+        return numbered(line, next, true);
     }
     if is(word, b'W') {
-        return reason(line, next);
+        return numbered(line, next, false);
     }
     if is(word, b'L') {
         return listing(line, next);
     }
-    plain(Reading::NoCommand)
+    plain(Reading::NoCommand, next)
 }
 
-// What a line is: blank, over-long, of no form, or a command with its lists. Any bytes may come in.
-pub fn read(line: &[u8]) -> Parsed
-    ensures { λ r. ⌜ Answers (reading-of (now (line .entry))) r ⌝ }
+// What stands in a line from a place on: it is blank, over-long, of no form, or a command with its lists. Any bytes and
+// any place may come in; past the line's end nothing stands. How far on the place handed back is, is left free:
+// only `count_line` uses that place.
+pub fn read(line: &[u8], place: Place) -> Parsed
+    ensures { λ r. ⌜ Answers (reading-of (drop (place .offset) (now (line .entry)))) r ⌝ }
+    ensures { λ r. ⌜ Onward (now (line .entry)) place (r .place) ⌝ }
 {
-    if line.len() > Parsed::LINE {
-        return plain(Reading::TooLong);
+    let from = place.offset;
+    if line.len() < from {
+        return plain(Reading::Blank, place);
     }
-    if ended(line, Place { offset: 0, line: 1 }) {
-        return plain(Reading::Blank);
+    if line.len() - from > Parsed::LINE {
+        return plain(Reading::TooLong, place);
     }
-    form(line)
+    if ended(line, place) {
+        return plain(Reading::Blank, place);
+    }
+    form(line, place)
 }

@@ -2,7 +2,7 @@
 use Prim.Native.Nat.{ℕ, zero, suc, _+_, _*_, _≤_, _<_}
 use native.Mathlib.Omega.{arith}
 use native.Mathlib.Numerals.{add-one}
-use mathlib.Core.Path.{_≡_, sym, _∙_, ap}
+use mathlib.Core.Path.{_≡_, refl, sym, _∙_, ap}
 use mathlib.Core.List.{List, [], _∷_, _++_, append-assoc, append-nil}
 use lib.ListN.{length, take, drop, getD, length-append, take-append-drop}
 use lib.Seq.{take-at}
@@ -17,7 +17,7 @@ use Rattle.lines.proofs.Buffers.{put-fits, put-length, put-put, next-fits}
 use Rattle.lines.proofs.Decimals.{decimal-length}
 use Rattle.lines.specs.Texts.{bytes}
 use Rattle.printing.specs.Printed.{newline, field, fields, inLine, labelLine, labelLines}
-use Rattle.printing.specs.Written.{Wrote}
+use Rattle.printing.specs.Written.{Wrote, WroteIn}
 use Rattle.printing.proofs.Sizes.{Small}
 
 -- Bytes put where there is room for them.
@@ -48,6 +48,16 @@ wrote-start {bs} {before} {after} {next} w =
     let none : 0 + length bs ≡ length bs = omega arith in
     ap (take next) (w .buffer ∙ put-fits before 0 bs (w .room))
     ∙ take-at bs (drop (0 + length bs) before) next (sym (w .place ∙ none))
+
+-- Where there was room for the longest line, this one was written; where there was none, nothing was.
+pub wrote-all :
+    {room : ℕ} {bs before after : List ℕ} {at next : ℕ} → at + room ≤ length before → Wrote bs before at after next
+    → WroteIn room bs before at after next
+wrote-all l w = record { fits = λ _. w; full = λ s. absurd (omega arith) }
+
+pub wrote-none :
+    {room : ℕ} {bs before : List ℕ} {at : ℕ} → length before < at + room → WroteIn room bs before at before at
+wrote-none {room} {bs} {before} {at} s = record { fits = λ l. absurd (omega arith); full = λ _. (refl, refl) }
 
 -- Bytes written behind bytes: as if they were written together.
 pub wrote-then :

@@ -1,5 +1,5 @@
--- The lines that are printed (document 01, "The sheet program"): words and decimal fields parted by one space, each line
--- with its newline. Assumes nothing.
+-- The lines that are printed (document 01, "The sheet program"): words and decimal fields parted by one space, each
+-- line with its newline. Assumes nothing.
 use Prim.Native.Nat.{ℕ, zero, suc}
 use Prim.Native.Char.{code}
 use mathlib.Core.List.{List, [], _∷_, _++_}

@@ -1,5 +1,5 @@
 -- Bytes written into a lent buffer that has room for them. Assumes nothing.
-use Prim.Native.Nat.{ℕ, _+_, _≤_}
+use Prim.Native.Nat.{ℕ, _+_, _≤_, _<_}
 use mathlib.Core.Path.{_≡_}
 use mathlib.Core.List.{List}
 use lib.ListN.{length}
@@ -11,3 +11,8 @@ pub record Wrote (bytes before : List ℕ) (at : ℕ) (after : List ℕ) (next :
   pub room : at + length bytes ≤ length before
   pub buffer : after ≡ put before at bytes
   pub place : next ≡ at + length bytes
+
+-- The bytes are written where so much room is left from the place on; else nothing is, and the place stays.
+pub record WroteIn (room : ℕ) (bytes before : List ℕ) (at : ℕ) (after : List ℕ) (next : ℕ) : Type 0 where
+  pub fits : at + room ≤ length before → Wrote bytes before at after next
+  pub full : length before < at + room → (after ≡ before) × (next ≡ at)

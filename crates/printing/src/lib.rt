@@ -1,15 +1,17 @@
-// The lines that are printed: words and decimal fields parted by one space, each with its newline.
+// The lines that are printed: words and decimal fields parted by one space, each with its newline. Each is written at
+// a place of a lent buffer that has room for the longest line of its kind; else nothing is written.
 use lines::write::write_bytes;
 use lines::write::write_number;
 use table::Label;
 use table::Table;
-ghost use Prim.Native.Nat.{_+_, _*_, _≤_, _<_};
+ghost use Prim.Native.Nat.{_+_, _-_, _*_, _≤_, _<_};
+ghost use mathlib.Core.Path.{_≡_};
 ghost use lib.ListN.{length};
 ghost use Rattle.theory.specs.Limits.{document};
 ghost use Rattle.table.specs.Labels.{labelOf, labelAt};
 ghost use Rattle.printing.specs.Printed.{field, fields, named, refusalLine};
 ghost use Rattle.printing.specs.Printed.{whyLine, inLine, labelLine, labelLines};
-ghost use Rattle.printing.specs.Written.{Wrote};
+ghost use Rattle.printing.specs.Written.{Wrote, WroteIn};
 
 // Bytes, where there is room for them.
 fn write_text(out: &mut [u8], at: usize, text: &[u8]) -> usize
@@ -19,31 +21,47 @@ fn write_text(out: &mut [u8], at: usize, text: &[u8]) -> usize
     write_bytes(out, at, text)
 }
 
-// A space and a number.
+// A space and a number, which has at most 10 digits.
 fn write_field(out: &mut [u8], at: usize, n: u32) -> usize
     requires { ⌜ at + 11 ≤ length (now out) ⌝ }
     ensures { λ r. ⌜ Wrote (field n) (now (out .entry)) at (now (out .exit)) r ⌝ }
+    ensures { λ r. ⌜ r ≤ at + 11 ⌝ }
 {
     let next = write_text(out, at, b" ");
     write_number(out, next, n)
 }
 
-// A word and a number, as a line from the start of the buffer.
-pub fn write_named(out: &mut [u8], word: &[u8], n: u32) -> usize
-    requires { ⌜ length (now word) + 12 ≤ length (now out) ⌝ }
-    ensures { λ r. ⌜ Wrote (named (now (word .entry)) n) (now (out .entry)) 0 (now (out .exit)) r ⌝ }
+// How many bytes are left from a place on, where there are len in all.
+fn bytes_left(len: usize, at: usize) -> usize
+    ensures { λ r. ⌜ r ≡ len - at ⌝ }
 {
-    let a = write_text(out, 0, word);
+    if len < at {
+        return 0;
+    }
+    len - at
+}
+
+// A word and a number, as a line.
+pub fn write_named(out: &mut [u8], at: usize, word: &[u8], n: u32) -> usize
+    ensures { λ r. ⌜ WroteIn (12 + length (now (word .entry))) (named (now (word .entry)) n)
+        (now (out .entry)) at (now (out .exit)) r ⌝ }
+{
+    if bytes_left(out.len(), at) < 12 + word.len() {
+        return at;
+    }
+    let a = write_text(out, at, word);
     let b = write_field(out, a, n);
     write_text(out, b, b"\n")
 }
 
 // `line`, line number, `refused`, number.
-pub fn write_refusal(out: &mut [u8], number: u32, refusal: u32) -> usize
-    requires { ⌜ 40 ≤ length (now out) ⌝ }
-    ensures { λ r. ⌜ Wrote (refusalLine number refusal) (now (out .entry)) 0 (now (out .exit)) r ⌝ }
+pub fn write_refusal(out: &mut [u8], at: usize, number: u32, refusal: u32) -> usize
+    ensures { λ r. ⌜ WroteIn 40 (refusalLine number refusal) (now (out .entry)) at (now (out .exit)) r ⌝ }
 {
-    let a = write_text(out, 0, b"line");
+    if bytes_left(out.len(), at) < 40 {
+        return at;
+    }
+    let a = write_text(out, at, b"line");
     let b = write_field(out, a, number);
     let c = write_text(out, b, b" refused");
     let d = write_field(out, c, refusal);
@@ -65,12 +83,19 @@ fn write_fields(out: &mut [u8], at: usize, numbers: &[u32]) -> usize
     next
 }
 
-// `why` and the slots.
-pub fn write_why(out: &mut [u8], slots: &[u32]) -> usize
-    requires { ⌜ 4 + 11 * length (now slots) ≤ length (now out) ⌝ }
-    ensures { λ r. ⌜ Wrote (whyLine (now (slots .entry))) (now (out .entry)) 0 (now (out .exit)) r ⌝ }
+// `why` and the slots. How many there is room for is told by a quotient: a product could wrap.
+pub fn write_why(out: &mut [u8], at: usize, slots: &[u32]) -> usize
+    ensures { λ r. ⌜ WroteIn (4 + 11 * length (now (slots .entry))) (whyLine (now (slots .entry)))
+        (now (out .entry)) at (now (out .exit)) r ⌝ }
 {
-    let a = write_text(out, 0, b"why");
+    let left = bytes_left(out.len(), at);
+    if left < 4 {
+        return at;
+    }
+    if (left - 4) / 11 < slots.len() {
+        return at;
+    }
+    let a = write_text(out, at, b"why");
     let b = write_fields(out, a, slots);
     write_text(out, b, b"\n")
 }
@@ -103,11 +128,14 @@ fn write_label(out: &mut [u8], at: usize, atom: u32, label: Label) -> usize
 }
 
 // The lines of all atoms that occur, ascending.
-pub fn write_labels(out: &mut [u8], labels: [Label; Table::ATOMS]) -> usize
-    requires { ⌜ 32 * document .atoms ≤ length (now out) ⌝ }
-    ensures { λ r. ⌜ Wrote (labelLines (labelAt labels) (document .atoms)) (now (out .entry)) 0 (now (out .exit)) r ⌝ }
+pub fn write_labels(out: &mut [u8], at: usize, labels: [Label; Table::ATOMS]) -> usize
+    ensures { λ r. ⌜ WroteIn (32 * document .atoms) (labelLines (labelAt labels) (document .atoms))
+        (now (out .entry)) at (now (out .exit)) r ⌝ }
 {
-    let mut next: usize = 0;
+    if bytes_left(out.len(), at) < 32 * Table::ATOMS {
+        return at;
+    }
+    let mut next = at;
     let mut atom: usize = 0;
     while atom < Table::ATOMS {
         let label = labels[atom];

@@ -26,7 +26,7 @@ returns c =
     let space = number .before .before .before .before in
     let few = decimal-length 9 (space .before .before .before .before .args .n) (omega arith) in
     let digits = wrote-put (omega arith) (number .write-number .ensures) in
-    wrote-then (space .write-text .ensures) digits
+    (wrote-then (space .write-text .ensures) digits, omega arith)
 
 pub write-field-spec : {M : Type 1} → statement M
 write-field-spec =

@@ -7,7 +7,7 @@ use lib.Seq.{take-all}
 use borrow.Author.Needs.{needs}
 use Rattle.printing.specs.Printed.{fields}
 use Rattle.printing.specs.Written.{Wrote}
-use Rattle.printing.proofs.Wrote.{wrote-nothing, wrote-length, wrote-field, wrote-next-field}
+use Rattle.printing.proofs.Wrote.{wrote-nothing, wrote-length, wrote-next-field}
 use Rattle.printing.proofs.write_fields.Statement.{statement}
 use Rattle.printing.proofs.write_fields.Tie as tie
 
@@ -43,12 +43,10 @@ loop-again : tie.Need-loop-again Inv-loop μ-loop
 loop-again c =
     let field = c .before .before in
     let l = field .before .before .before .before .loop in
-    let n = field .before .before .shared-slice-known2 .given (l .i) in
-    let short = wrote-field (omega arith) (field .write-field .ensures) in
     let same = wrote-length (l .inv .2) in (
       omega arith,
       omega arith,
-      wrote-next-field _ (l .i) (omega arith) (l .inv .2) (field .write-field .ensures),
+      wrote-next-field _ (l .i) (omega arith) (l .inv .2) (field .write-field .ensures .0),
     )
 
 same-length : tie.Need-same-length Inv-loop μ-loop

@@ -1,9 +1,8 @@
 -- `printing::write_in` meets its contract. Assumes nothing.
-use native.Mathlib.Omega.{arith}
 use borrow.Author.Needs.{needs}
 use Rattle.lines.specs.Texts.{bytes}
 use Rattle.printing.specs.Printed.{inLine}
-use Rattle.printing.proofs.Wrote.{wrote-field, wrote-then}
+use Rattle.printing.proofs.Wrote.{wrote-then}
 use Rattle.printing.proofs.write_in.Statement.{statement}
 use Rattle.printing.proofs.write_in.Tie as tie
 
@@ -17,17 +16,13 @@ write-field-requires : tie.Need-write-field-requires
 write-field-requires c κs = search needs
 
 write-field-requires-2 : tie.Need-write-field-requires-2
-write-field-requires-2 c κs = omega (arith, wrote-field (omega arith) (c .before .before .before .write-field .ensures))
+write-field-requires-2 c κs = search needs
 
 slice-aggregate-write-text-2 : tie.Need-slice-aggregate-write-text-2
 slice-aggregate-write-text-2 c = search needs
 
 write-text-requires-2 : tie.Need-write-text-requires-2
-write-text-requires-2 c κs =
-    let slot = c .before .before .before .before in
-    let depth = slot .before .before .before .before in
-    let d = wrote-field (omega arith) (depth .write-field .ensures) in
-    omega (arith, wrote-field (omega arith) (slot .write-field2 .ensures))
+write-text-requires-2 c κs = search needs
 
 same-length : tie.Need-same-length
 same-length c = search needs
@@ -39,8 +34,8 @@ returns c =
     let slot = end .before .before .before .before .before in
     let depth = slot .before .before .before .before in
     let word = depth .before .before .before .before in
-    let rest = wrote-then (slot .write-field2 .ensures) (end .write-text2 .ensures) in
-    wrote-then (word .write-text .ensures) (wrote-then (depth .write-field .ensures) rest)
+    let rest = wrote-then (slot .write-field2 .ensures .0) (end .write-text2 .ensures) in
+    wrote-then (word .write-text .ensures) (wrote-then (depth .write-field .ensures .0) rest)
 
 pub write-in-spec : {M : Type 1} → statement M
 write-in-spec =

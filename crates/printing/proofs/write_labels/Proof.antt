@@ -1,6 +1,6 @@
 -- `printing::write_labels` meets its contract. The loop keeps: the lines of the atoms below `atom` are written.
 -- Assumes nothing.
-use Prim.Native.Nat.{_-_, _*_, _≤_}
+use Prim.Native.Nat.{_+_, _-_, _*_, _≤_}
 use native.Mathlib.Omega.{arith}
 use mathlib.Core.Path.{_≡_}
 use lib.ListN.{getD}
@@ -8,17 +8,27 @@ use borrow.Author.Needs.{needs}
 use Rattle.table.specs.Labels.{labelAt, absentLabel}
 use Rattle.printing.specs.Printed.{labelLines}
 use Rattle.printing.specs.Written.{Wrote}
-use Rattle.printing.proofs.Wrote.{wrote-nothing, wrote-length, wrote-next-label, label-length}
+use Rattle.printing.proofs.Wrote.{wrote-all, wrote-none, wrote-nothing, wrote-length}
+use Rattle.printing.proofs.Wrote.{wrote-next-label, label-length}
 use Rattle.printing.proofs.Sizes.{labels-small}
 use Rattle.printing.proofs.write_labels.Statement.{statement}
 use Rattle.printing.proofs.write_labels.Tie as tie
 
 abbrev Inv-loop : tie.InvT-loop
-Inv-loop out₀ labels next₀ atom₀ out next atom =
-    (atom ≤ 256) × (next ≤ 32 * atom) × Wrote (labelLines (labelAt labels) atom) out₀ 0 out next
+Inv-loop out₀ at labels next₀ atom₀ out next atom =
+    (atom ≤ 256) × (next ≤ at + 32 * atom) × Wrote (labelLines (labelAt labels) atom) out₀ at out next
 
 abbrev μ-loop : tie.MeasureT-loop
-μ-loop out₀ labels next₀ atom₀ out next atom = 256 - atom
+μ-loop out₀ at labels next₀ atom₀ out next atom = 256 - atom
+
+bytes-left-requires : tie.Need-bytes-left-requires Inv-loop μ-loop
+bytes-left-requires c κs = search needs
+
+mul-if1 : tie.Need-mul-if1 Inv-loop μ-loop
+mul-if1 c = search needs
+
+returns : tie.Need-returns Inv-loop μ-loop
+returns c = wrote-none (omega arith)
 
 loop-holds : tie.Need-loop-holds Inv-loop μ-loop
 unfolding labelLines
@@ -48,10 +58,10 @@ loop-again : tie.Need-loop-again Inv-loop μ-loop
 loop-again c =
     let line = c .before .before in
     let l = line .before .before .before .before in
-    let start = l .before .before in
-    let labels = start .args .t2 in
+    let start = l .before .before .before .before in
+    let labels = start .args .t3 in
     let atom = l .loop .atom in
-    let small = labels-small labels _ (start .good .1 .0) atom (omega arith) in
+    let small = labels-small labels _ (start .good .1 .1 .0) atom (omega arith) in
     let short = label-length atom (getD labels atom absentLabel) (omega arith) small in
     let same = wrote-length (l .loop .inv .2) in (
       omega arith,
@@ -62,11 +72,11 @@ loop-again c =
 same-length : tie.Need-same-length Inv-loop μ-loop
 same-length c = wrote-length (c .before .loop .inv .2)
 
-returns : tie.Need-returns Inv-loop μ-loop
-returns c =
+returns-2 : tie.Need-returns-2 Inv-loop μ-loop
+returns-2 c =
     let l = c .before .loop in
     let all : l .atom ≡ 256 = omega arith in
-    rw all at (l .inv .2)
+    wrote-all (omega arith) (rw all at (l .inv .2))
 
 pub write-labels-spec : {M : Type 1} → statement M
 write-labels-spec =
@@ -74,6 +84,9 @@ write-labels-spec =
     (tie.spec
     Inv-loop
     μ-loop
+    bytes-left-requires
+    mul-if1
+    returns
     loop-holds
     mul-label
     array-copy-out-label
@@ -83,4 +96,4 @@ write-labels-spec =
     loop-less
     loop-again
     same-length
-    returns)
+    returns-2)

@@ -2,9 +2,18 @@
 use native.Mathlib.Omega.{arith}
 use borrow.Author.Needs.{needs}
 use Rattle.printing.specs.Printed.{named}
-use Rattle.printing.proofs.Wrote.{wrote-field, wrote-then}
+use Rattle.printing.proofs.Wrote.{wrote-all, wrote-none, wrote-then}
 use Rattle.printing.proofs.write_named.Statement.{statement}
 use Rattle.printing.proofs.write_named.Tie as tie
+
+bytes-left-requires : tie.Need-bytes-left-requires
+bytes-left-requires c κs = search needs
+
+add-if1 : tie.Need-add-if1
+add-if1 c = search needs
+
+returns : tie.Need-returns
+returns c = wrote-none (omega arith)
 
 write-text-requires : tie.Need-write-text-requires
 write-text-requires c κs = search needs
@@ -16,27 +25,30 @@ slice-aggregate-write-text : tie.Need-slice-aggregate-write-text
 slice-aggregate-write-text c = search needs
 
 write-text-requires-2 : tie.Need-write-text-requires-2
-write-text-requires-2 c κs =
-    omega (arith, wrote-field (omega arith) (c .before .before .before .before .write-field .ensures))
+write-text-requires-2 c κs = search needs
 
 same-length : tie.Need-same-length
 same-length c = search needs
 
-returns : tie.Need-returns
+returns-2 : tie.Need-returns-2
 unfolding named
-returns c =
+returns-2 c =
     let end = c .before .before in
     let number = end .before .before .before .before .before in
     let word = number .before .before .before .before in
-    wrote-then (word .write-text .ensures) (wrote-then (number .write-field .ensures) (end .write-text2 .ensures))
+    let rest = wrote-then (number .write-field .ensures .0) (end .write-text2 .ensures) in
+    wrote-all (omega arith) (wrote-then (word .write-text .ensures) rest)
 
 pub write-named-spec : {M : Type 1} → statement M
 write-named-spec =
     tie.close
     (tie.spec
+    bytes-left-requires
+    add-if1
+    returns
     write-text-requires
     write-field-requires
     slice-aggregate-write-text
     write-text-requires-2
     same-length
-    returns)
+    returns-2)

@@ -7,10 +7,12 @@ use lib.ListN.{length, drop}
 use borrow.Author.Needs.{needs}
 use borrow.Author.Tests.{not-true, not-false}
 use Rattle.lines.specs.Tokens.{tokens}
+use Rattle.lines.specs.Places.{Onward}
 use Rattle.lines.specs.Numerals.{numeral}
 use Rattle.lines.specs.Commands.{one}
 use Rattle.lines.specs.Readings.{whether}
 use Rattle.lines.specs.Parts.{part, firstOf, restOf, numberOf}
+use Rattle.lines.proofs.Places.{onward-then, onward-to}
 use Rattle.lines.proofs.Commands.{addition-no-head, addition-no-sign, addition-is}
 use Rattle.lines.proofs.Answers.{as-read, rest-length}
 use Rattle.lines.proofs.read.addition.Statement.{statement}
@@ -42,6 +44,11 @@ module _ (c : tie.After-next-token2) where
 sign-is : (c : tie.After-is) → c .is .result ≡ one 58 (firstOf (restOf (all (start (c .before .before .before)))))
 sign-is c = c .is .ensures ∙ ap (one 58) (second (c .before .before .before))
 
+-- the place come to behind the second
+to-sign : (c : tie.After-next-token2)
+    → Onward (start c .args .line .now) (start c .args .place) (c .next-token2 .result .next)
+to-sign c = onward-then (one-on c .next-token .ensures .onward) (c .next-token2 .ensures .onward)
+
 next-token-requires : tie.Need-next-token-requires
 next-token-requires c κs = search needs
 
@@ -69,8 +76,12 @@ plain-requires c κs = search needs
 returns : tie.Need-returns
 returns c =
     let told = c .before in
-    as-read (c .plain .ensures)
-    (ap whether (addition-no-head _ (sym (head-is (told .before .before)) ∙ ap numberOf (told .enum-told .given .1))))
+    let t = told .before .before .before .before .before in (
+      as-read (c .plain .ensures .0)
+          (ap whether (addition-no-head _
+          (sym (head-is (told .before .before)) ∙ ap numberOf (told .enum-told .given .1)))),
+      onward-to (t .next-token .ensures .onward) (c .plain .ensures .1),
+    )
 
 next-token-requires-2 : tie.Need-next-token-requires-2
 next-token-requires-2 c κs = search needs
@@ -91,9 +102,11 @@ plain-requires-2 : tie.Need-plain-requires-2
 plain-requires-2 c κs = search needs
 
 returns-2 : tie.Need-returns-2
-returns-2 c =
-    as-read (c .plain2 .ensures)
-    (ap whether (addition-no-sign _ (sym (sign-is (c .before .before)) ∙ not-true _ (c .before .if1 .taken))))
+returns-2 c = (
+  as-read (c .plain2 .ensures .0)
+      (ap whether (addition-no-sign _ (sym (sign-is (c .before .before)) ∙ not-true _ (c .before .if1 .taken)))),
+  onward-to (to-sign (c .before .before .before .before .before)) (c .plain2 .ensures .1),
+)
 
 lists-requires : tie.Need-lists-requires
 lists-requires c κs =
@@ -108,12 +121,14 @@ returns-3 c =
     let i = c .before .before in
     let t = i .before .before .before in
     let known = t .before .before in
-    let ts = all (start t) in
-    as-read (c .lists .ensures)
-    (ap whether (addition-is ts (known .head .given .0 .0) _
-    (sym (head-is (known .before .before)) ∙ ap numberOf (known .head .given .1))
-    (sym (sign-is i) ∙ not-false _ (c .before .if1 .left))
-    (behind t)))
+    let ts = all (start t) in (
+      as-read (c .lists .ensures .0)
+          (ap whether (addition-is ts (known .head .given .0 .0) _
+          (sym (head-is (known .before .before)) ∙ ap numberOf (known .head .given .1))
+          (sym (sign-is i) ∙ not-false _ (c .before .if1 .left))
+          (behind t))),
+      onward-then (to-sign t) (c .lists .ensures .1),
+    )
 
 pub addition-spec : {M : Type 1} → statement M
 addition-spec =
