@@ -3,7 +3,7 @@ use native.Mathlib.Omega.{arith}
 use mathlib.Core.Path.{sym, _∙_}
 use lib.ListN.{length-drop}
 use borrow.Author.Needs.{needs}
-use Rattle.lines.proofs.Places.{onward-here}
+use Rattle.places.proofs.Places.{onward-here}
 use Rattle.lines.proofs.Answers.{as-read, reading-past, reading-long, reading-blank, reading-form}
 use Rattle.lines.proofs.read.read.Statement.{statement}
 use Rattle.lines.proofs.read.read.Tie as tie
