@@ -3,23 +3,26 @@ use Prim.Native.Nat.{ℕ, zero, suc, _+_, _-_, _≤_, _<_}
 use native.Mathlib.Omega.{arith}
 use native.Mathlib.Nat.{zero-add, sub-zero, zero-sub, suc-sub-suc}
 use mathlib.Core.Path.{_≡_, refl, sym, _∙_, ap}
-use mathlib.Core.Bool.{true, false}
+use mathlib.Core.Bool.{Bool, true, false}
 use mathlib.Core.List.{List, [], _∷_, _++_, append-assoc}
 use mathlib.Core.Option.{Option}
-use lib.ListN.{length, take, drop, replicate, length-replicate, length-append}
+use lib.ListN.{length, take, drop, replicate, length-replicate, length-append, drop-of-length-le}
 use lib.Seq.{sets, sets-eq, take-append-seam, drop-append-seam, drop-append-add}
 use borrow.Author.Tests.{le-leb, lt-leb, lt-ltb, le-ltb}
-use Rattle.lines.specs.Tokens.{tokens}
-use Rattle.lines.specs.Commands.{Command, add, one, after, made, command}
-use Rattle.lines.specs.Readings.{LINE, ENTRIES, blank, Line, is-blank, too-long, no-command, is, whether}
+use Rattle.tokens.specs.Tokens.{pieces, filled, tokens, one}
+use Rattle.lines.specs.Commands.{Command, add, after, made, command}
+use Rattle.lines.specs.Readings.{LINE, ENTRIES, spaces, blank, Line, is-blank, too-long, no-command, is, whether}
 use Rattle.lines.specs.Readings.{lineOf, reading, positivesOf, negativesOf, Answers}
-use Rattle.lines.specs.Parts.{firstOf, restOf, empty, leadingNumbers, pastNumbers, numberOf, listed}
+use Rattle.tokens.specs.Parts.{firstOf, restOf, empty, numberOf}
+use Rattle.lines.specs.Parts.{leadingNumbers, pastNumbers, listed}
+use Rattle.places.specs.Places.{isSpace}
+use Rattle.places.specs.declared.Place.{Place}
 use Rattle.lines.specs.declared.Command.the-variants.{Add, Remove, Why, Labels}
 use Rattle.lines.specs.declared.Reading.{Reading}
 use Rattle.lines.specs.declared.Reading.the-variants as of
-use Rattle.lines.specs.declared.read.Number.{Number}
+use Rattle.tokens.specs.declared.Number.{Number}
 use Rattle.lines.specs.declared.Parsed.{Parsed}
-use Rattle.lines.proofs.Tokens.{spaces-tokens}
+use Rattle.tokens.proofs.Tokens.{empty-onto}
 use Rattle.lines.proofs.Commands.{numerals-all, numerals-none, over, parted, spoiled}
 
 -- An answer for what a line was read as is one for what it is.
@@ -115,10 +118,11 @@ module _ (ps ns : List ℕ) (size : length ps + length ns ≤ ENTRIES) where
       ∙ ap (λ (k : ℕ). ps ++ (ns ++ zeros k)) left
 
 -- The answer that has an addition's lists.
-pub lists-answer : (h : ℕ) (ps ns : List ℕ) (p n : ℕ) (xs : List ℕ) → length ps + length ns ≤ ENTRIES
+pub lists-answer : (q : Place) (h : ℕ) (ps ns : List ℕ) (p n : ℕ) (xs : List ℕ) → length ps + length ns ≤ ENTRIES
     → p ≡ length ps → n ≡ length ns → xs ≡ sets (sets (zeros ENTRIES) 0 ps) p ns
-    → Answers (is (add h ps ns)) (record { reading = of.Command (Add h); positives = p; negatives = n; entries = xs })
-lists-answer h ps ns p n xs size e f g =
+    → Answers (is (add h ps ns))
+    (record { place = q; reading = of.Command (Add h); positives = p; negatives = n; entries = xs })
+lists-answer q h ps ns p n xs size e f g =
     let zs = zeros (ENTRIES - (length ps + length ns)) in
     let whole : xs ≡ ps ++ (ns ++ zs) =
     g ∙ ap (λ (k : ℕ). sets (sets (zeros ENTRIES) 0 ps) k ns) e ∙ behind-both ps ns size in
@@ -131,6 +135,21 @@ lists-answer h ps ns p n xs size e f g =
 pub rest-length : (ts : List (List ℕ)) → length (restOf ts) ≤ length ts
 rest-length [] = omega arith
 rest-length (t ∷ ts) = omega arith
+
+-- No token is in a line of blanks alone.
+pub spaces-tokens : (s : List ℕ) → spaces s ≡ empty (tokens s)
+unfolding spaces tokens pieces filled
+spaces-tokens [] = refl
+spaces-tokens (b ∷ s) = go (isSpace b) refl (spaces-tokens s)
+  where
+    go : (t : Bool) → isSpace b ≡ t → spaces s ≡ empty (tokens s) → spaces (b ∷ s) ≡ empty (tokens (b ∷ s))
+    go true t h = rw t h
+    go false t h = rw t (sym (empty-onto b (pieces s)))
+
+-- Past the end of a line nothing stands.
+pub reading-past : (line : List ℕ) (from : ℕ) → length line ≤ from → is-blank ≡ reading (drop from line)
+unfolding reading blank spaces
+reading-past line from h = rw (drop-of-length-le line h)
 
 -- What a line is, by its length and its tokens.
 module _ (line : List ℕ) where

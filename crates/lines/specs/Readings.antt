@@ -6,7 +6,7 @@ use mathlib.Core.List.{List, [], _∷_}
 use mathlib.Core.Option.{Option, none, some}
 use lib.Dec.{leb, ltb}
 use lib.ListN.{length, take, drop, replicate}
-use Rattle.lines.specs.Tokens.{isSpace}
+use Rattle.places.specs.Places.{isSpace}
 use Rattle.lines.specs.Commands as spec
 use Rattle.lines.specs.Commands.{command}
 use Rattle.lines.specs.declared.Command.{Command}
@@ -83,7 +83,7 @@ negativesOf (is (spec.why atom)) = []
 negativesOf (is spec.labels) = []
 
 -- The answer for a line that is l: it says so, its lists are as long as the line's and lie within the entries, and
--- every entry past them is 0. So nothing of the answer is left open.
+-- every entry past them is 0. So nothing of the answer is left open but its place, of which `Onward` speaks.
 pub record Answers (l : Line) (r : Parsed) : Type 0 where
   pub meaning : readingOf r ≡ l
   pub positives : r .positives ≡ length (positivesOf l)

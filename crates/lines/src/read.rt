@@ -1,34 +1,25 @@
 // Reading a line.
 use super::Command;
 use super::Parsed;
-use super::Place;
 use super::Reading;
-use super::moves;
+use places::Place;
+use tokens::Number;
+use tokens::ended;
+use tokens::is;
+use tokens::next_token;
+use tokens::numeral;
 ghost use mathlib.Core.Path.{_≡_};
+ghost use mathlib.Core.Bool.{cond};
 ghost use mathlib.Core.List.{[]};
 ghost use Prim.Native.Nat.{_+_, _≤_};
 ghost use lib.ListN.{length, drop};
-ghost use Rattle.lines.specs.Tokens.{tokens};
-ghost use Rattle.lines.specs.Places.{leading, pastBlanks};
-ghost use Rattle.lines.specs.Numerals.{spelledFrom};
-ghost use Rattle.lines.specs.Numerals.{numeral as numeral-of};
-ghost use Rattle.lines.specs.Commands.{one, made, remove, why, only, command};
+ghost use Rattle.places.specs.Places.{Onward};
+ghost use Rattle.tokens.specs.Tokens.{tokens};
+ghost use Rattle.lines.specs.Commands.{made, remove, why, only, command};
 ghost use Rattle.lines.specs.Commands.{addition as addition-of, listing as listing-of};
 ghost use Rattle.lines.specs.Readings.{Answers, LINE, ENTRIES, whether, lineOf};
 ghost use Rattle.lines.specs.Readings.{reading as reading-of};
-ghost use Rattle.lines.specs.Parts.{inToken, empty, First, numberOf, listed, Collected};
-
-// The bytes from start up to the place next are a token. Where no token is left, they are none.
-struct Token {
-    start: usize,
-    next: Place,
-}
-
-// The number that a token is, where it is one.
-enum Number {
-    Missing,
-    Is(u32),
-}
+ghost use Rattle.lines.specs.Parts.{listed, Collected};
 
 // The first count of the entries are numbers that were read. The rest of the line begins at next.
 struct Numbers {
@@ -37,124 +28,11 @@ struct Numbers {
     next: Place,
 }
 
-// The place past the blanks that begin at a place.
-pub fn past_blanks(line: &[u8], mut place: Place) -> Place
-    ensures { λ r. ⌜ r ≡ pastBlanks (now (line .entry)) place ⌝ }
-{
-    moves::skip_blanks(line, &mut place);
-    place
-}
-
-// Where the token that begins at an offset ends.
-fn token_end(line: &[u8], start: usize) -> usize
-    ensures { λ r. ⌜ r ≡ start + leading inToken (drop start (now (line .entry))) ⌝ }
-{
-    let mut i = start;
-    while i < line.len() {
-        if line[i] == b' ' {
-            return i;
-        }
-        i += 1;
-    }
-    i
-}
-
-// The next token.
-fn next_token(line: &[u8], place: Place) -> Token
-    requires { ⌜ place .offset ≤ length (now line) ⌝ }
-    ensures { λ r. ⌜ First (now (line .entry)) (place .offset) r ⌝ }
-{
-    let begin = past_blanks(line, place);
-    let start = begin.offset;
-    let end = token_end(line, start);
-    Token {
-        start: start,
-        next: Place {
-            offset: end,
-            line: begin.line,
-        },
-    }
-}
-
-// Is no token left?
-fn ended(line: &[u8], place: Place) -> bool
-    requires { ⌜ place .offset ≤ length (now line) ⌝ }
-    ensures { λ r. ⌜ r ≡ empty (tokens (drop (place .offset) (now (line .entry)))) ⌝ }
-{
-    let rest = past_blanks(line, place);
-    rest.offset == line.len()
-}
-
-// Is the token this one byte?
-fn is(token: &[u8], byte: u8) -> bool
-    ensures { λ r. ⌜ r ≡ one byte (now (token .entry)) ⌝ }
-{
-    if token.len() != 1 {
-        return false;
-    }
-    token[0] == byte
-}
-
-// What a token spells, if it is of digits.
-fn value(token: &[u8]) -> Number
-    requires { ⌜ length (now token) ≤ 5 ⌝ }
-    ensures { λ r. ⌜ numberOf r ≡ spelledFrom 0 (now (token .entry)) ⌝ }
-{
-    let mut n: u32 = 0;
-    let mut i: usize = 0;
-    while i < token.len() {
-        let b = token[i];
-        if b < b'0' {
-            return Number::Missing;
-        }
-        if b > b'9' {
-            return Number::Missing;
-        }
-        n = n * 10 + (b - b'0') as u32;
-        i += 1;
-    }
-    Number::Is(n)
-}
-
-// The number that a token is.
-fn numeral(token: &[u8]) -> Number
-    ensures { λ r. ⌜ numberOf r ≡ numeral-of (now (token .entry)) ⌝ }
-{
-    let n = token.len();
-    if n == 0 {
-        return Number::Missing;
-    }
-    if n > 5 {
-        return Number::Missing;
-    }
-    if n > 1 {
-        if token[0] == b'0' {
-            return Number::Missing;
-        }
-    }
-    value(token)
-}
-
-// The number that the rest of the line is.
-fn only_number(line: &[u8], place: Place) -> Number
-    requires { ⌜ place .offset ≤ length (now line) ⌝ }
-    ensures { λ r. ⌜ numberOf r ≡ only (tokens (drop (place .offset) (now (line .entry)))) ⌝ }
-{
-    let t = next_token(line, place);
-    let start = t.start;
-    let next = t.next;
-    let end = next.offset;
-    if !ended(line, next) {
-        return Number::Missing;
-    }
-    numeral(&line[start..end])
-}
-
 // Reads numbers up to the first token that is none, and puts them behind those that are known.
 fn collect(line: &[u8], known: [u32; Parsed::ENTRIES], size: usize, place: Place) -> Numbers
     requires { ⌜ place .offset ≤ length (now line) ⌝ }
     requires { ⌜ size + length (tokens (drop (place .offset) (now line))) ≤ ENTRIES ⌝ }
-    ensures { λ r. ⌜ Collected (now (line .entry)) known size (place .offset) r ⌝ }
+    ensures { λ r. ⌜ Collected (now (line .entry)) known size place r ⌝ }
 {
     let mut entries = known;
     let mut count = size;
@@ -177,11 +55,13 @@ fn collect(line: &[u8], known: [u32; Parsed::ENTRIES], size: usize, place: Place
     }
 }
 
-// A reading with no entries.
-fn plain(reading: Reading) -> Parsed
+// A reading with no entries, and the place that was come to.
+fn plain(reading: Reading, place: Place) -> Parsed
     ensures { λ r. ⌜ Answers (lineOf reading [] []) r ⌝ }
+    ensures { λ r. ⌜ r .place ≡ place ⌝ }
 {
     Parsed {
+        place: place,
         reading: reading,
         positives: 0,
         negatives: 0,
@@ -194,6 +74,7 @@ fn lists(line: &[u8], head: u32, place: Place) -> Parsed
     requires { ⌜ place .offset ≤ length (now line) ⌝ }
     requires { ⌜ length (tokens (drop (place .offset) (now line))) ≤ ENTRIES ⌝ }
     ensures { λ r. ⌜ Answers (whether (listed head (tokens (drop (place .offset) (now (line .entry)))))) r ⌝ }
+    ensures { λ r. ⌜ Onward (now (line .entry)) place (r .place) ⌝ }
 {
     let p = collect(line, [0; Parsed::ENTRIES], 0, place);
     let positives = p.count;
@@ -202,6 +83,7 @@ fn lists(line: &[u8], head: u32, place: Place) -> Parsed
     let reading = Reading::Command(Command::Add(head));
     if ended(line, rest) {
         return Parsed {
+            place: rest,
             reading: reading,
             positives: positives,
             negatives: 0,
@@ -213,15 +95,16 @@ fn lists(line: &[u8], head: u32, place: Place) -> Parsed
     let after = t.next;
     let end = after.offset;
     if !is(&line[start..end], b'!') {
-        return plain(Reading::NoCommand);
+        return plain(Reading::NoCommand, after);
     }
     let n = collect(line, found, positives, after);
     let last = n.next;
     if !ended(line, last) {
-        return plain(Reading::NoCommand);
+        return plain(Reading::NoCommand, last);
     }
     let entries = n.entries;
     Parsed {
+        place: last,
         reading: reading,
         positives: positives,
         negatives: n.count - positives,
@@ -234,63 +117,67 @@ fn addition(line: &[u8], place: Place) -> Parsed
     requires { ⌜ place .offset ≤ length (now line) ⌝ }
     requires { ⌜ length (tokens (drop (place .offset) (now line))) ≤ ENTRIES ⌝ }
     ensures { λ r. ⌜ Answers (whether (addition-of (tokens (drop (place .offset) (now (line .entry)))))) r ⌝ }
+    ensures { λ r. ⌜ Onward (now (line .entry)) place (r .place) ⌝ }
 {
     let h = next_token(line, place);
     let start = h.start;
     let after = h.next;
     let end = after.offset;
     let Number::Is(head) = numeral(&line[start..end]) else {
-        return plain(Reading::NoCommand);
+        return plain(Reading::NoCommand, after);
     };
     let c = next_token(line, after);
     let from = c.start;
     let next = c.next;
     let to = next.offset;
     if !is(&line[from..to], b':') {
-        return plain(Reading::NoCommand);
+        return plain(Reading::NoCommand, next);
     }
     lists(line, head, next)
 }
 
-// What follows the `R` of a removal.
-fn removal(line: &[u8], place: Place) -> Parsed
+// What follows the `R` of a removal, or else the `W` of a request for a reason: one number.
+fn numbered(line: &[u8], place: Place, removes: bool) -> Parsed
     requires { ⌜ place .offset ≤ length (now line) ⌝ }
-    ensures { λ r. ⌜ Answers (whether (made remove (only (tokens (drop (place .offset) (now (line .entry))))))) r ⌝ }
+    ensures { λ r. ⌜ Answers (whether (made (cond removes remove why)
+        (only (tokens (drop (place .offset) (now (line .entry))))))) r ⌝ }
+    ensures { λ r. ⌜ Onward (now (line .entry)) place (r .place) ⌝ }
 {
-    let Number::Is(slot) = only_number(line, place) else {
-        return plain(Reading::NoCommand);
+    let t = next_token(line, place);
+    let start = t.start;
+    let next = t.next;
+    let end = next.offset;
+    if !ended(line, next) {
+        return plain(Reading::NoCommand, next);
+    }
+    let Number::Is(n) = numeral(&line[start..end]) else {
+        return plain(Reading::NoCommand, next);
     };
-    plain(Reading::Command(Command::Remove(slot)))
-}
-
-// What follows the `W` of a request for a reason.
-fn reason(line: &[u8], place: Place) -> Parsed
-    requires { ⌜ place .offset ≤ length (now line) ⌝ }
-    ensures { λ r. ⌜ Answers (whether (made why (only (tokens (drop (place .offset) (now (line .entry))))))) r ⌝ }
-{
-    let Number::Is(atom) = only_number(line, place) else {
-        return plain(Reading::NoCommand);
-    };
-    plain(Reading::Command(Command::Why(atom)))
+    if removes {
+        return plain(Reading::Command(Command::Remove(n)), next);
+    }
+    plain(Reading::Command(Command::Why(n)), next)
 }
 
 // What follows the `L` of a request for the labels.
 fn listing(line: &[u8], place: Place) -> Parsed
-    requires { ⌜ place .offset ≤ length (now line) ⌝ }
     ensures { λ r. ⌜ Answers (whether (listing-of (tokens (drop (place .offset) (now (line .entry)))))) r ⌝ }
+    ensures { λ r. ⌜ Onward (now (line .entry)) place (r .place) ⌝ }
 {
     if !ended(line, place) {
-        return plain(Reading::NoCommand);
+        return plain(Reading::NoCommand, place);
     }
-    plain(Reading::Command(Command::Labels))
+    plain(Reading::Command(Command::Labels), place)
 }
 
-// The command of a line that is not too long. Its place starts at the first byte; the line's number does not matter.
-fn form(line: &[u8]) -> Parsed
-    requires { ⌜ length (now line) ≤ LINE ⌝ }
-    ensures { λ r. ⌜ Answers (whether (command (now (line .entry)))) r ⌝ }
+// The command that stands from a place on, in at most as many bytes as a line has.
+fn form(line: &[u8], place: Place) -> Parsed
+    requires { ⌜ place .offset ≤ length (now line) ⌝ }
+    requires { ⌜ length (drop (place .offset) (now line)) ≤ LINE ⌝ }
+    ensures { λ r. ⌜ Answers (whether (command (drop (place .offset) (now (line .entry))))) r ⌝ }
+    ensures { λ r. ⌜ Onward (now (line .entry)) place (r .place) ⌝ }
 {
-    let t = next_token(line, Place { offset: 0, line: 1 });
+    let t = next_token(line, place);
     let start = t.start;
     let next = t.next;
     let end = next.offset;
@@ -299,26 +186,33 @@ fn form(line: &[u8]) -> Parsed
         return addition(line, next);
     }
     if is(word, b'R') {
-        return removal(line, next);
+        return numbered(line, next, true);
     }
     if is(word, b'W') {
-        return reason(line, next);
+        return numbered(line, next, false);
     }
     if is(word, b'L') {
         return listing(line, next);
     }
-    plain(Reading::NoCommand)
+    plain(Reading::NoCommand, next)
 }
 
-// What a line is: blank, over-long, of no form, or a command with its lists. Any bytes may come in.
-pub fn read(line: &[u8]) -> Parsed
-    ensures { λ r. ⌜ Answers (reading-of (now (line .entry))) r ⌝ }
+// What stands in a line from a place on: it is blank, over-long, of no form, or a command with its lists. Any bytes and
+// any place may come in; past the line's end nothing stands. How far on the place handed back is, is left free:
+// only `count_line` uses that place.
+pub fn read(line: &[u8], place: Place) -> Parsed
+    ensures { λ r. ⌜ Answers (reading-of (drop (place .offset) (now (line .entry)))) r ⌝ }
+    ensures { λ r. ⌜ Onward (now (line .entry)) place (r .place) ⌝ }
 {
-    if line.len() > Parsed::LINE {
-        return plain(Reading::TooLong);
+    let from = place.offset;
+    if line.len() < from {
+        return plain(Reading::Blank, place);
     }
-    if ended(line, Place { offset: 0, line: 1 }) {
-        return plain(Reading::Blank);
+    if line.len() - from > Parsed::LINE {
+        return plain(Reading::TooLong, place);
     }
-    form(line)
+    if ended(line, place) {
+        return plain(Reading::Blank, place);
+    }
+    form(line, place)
 }

@@ -5,9 +5,10 @@ use native.Mathlib.Omega.{arith}
 use lib.ListN.{length, take}
 use lib.Seq.{take-all}
 use borrow.Author.Needs.{needs}
-use Rattle.printing.specs.Printed.{fields}
-use Rattle.printing.specs.Written.{Wrote}
-use Rattle.printing.proofs.Wrote.{wrote-nothing, wrote-length, wrote-field, wrote-next-field}
+use Rattle.fields.specs.Fields.{fields}
+use Rattle.fields.specs.Written.{Wrote}
+use Rattle.fields.proofs.Wrote.{wrote-nothing, wrote-length}
+use Rattle.printing.proofs.Fields.{wrote-next-field}
 use Rattle.printing.proofs.write_fields.Statement.{statement}
 use Rattle.printing.proofs.write_fields.Tie as tie
 
@@ -43,12 +44,10 @@ loop-again : tie.Need-loop-again Inv-loop μ-loop
 loop-again c =
     let field = c .before .before in
     let l = field .before .before .before .before .loop in
-    let n = field .before .before .shared-slice-known2 .given (l .i) in
-    let short = wrote-field (omega arith) (field .write-field .ensures) in
     let same = wrote-length (l .inv .2) in (
       omega arith,
       omega arith,
-      wrote-next-field _ (l .i) (omega arith) (l .inv .2) (field .write-field .ensures),
+      wrote-next-field _ (l .i) (omega arith) (l .inv .2) (field .write-field .ensures .0 .fits (omega arith)),
     )
 
 same-length : tie.Need-same-length Inv-loop μ-loop

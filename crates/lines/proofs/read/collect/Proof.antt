@@ -2,14 +2,16 @@
 -- were read gives the whole. The measure is the number of tokens left. Assumes nothing.
 use Prim.Native.Nat.{ℕ, _≤_}
 use native.Mathlib.Omega.{arith}
-use mathlib.Core.Path.{_≡_, sym, _∙_, ap}
+use mathlib.Core.Path.{_≡_, refl, sym, _∙_, ap}
 use mathlib.Core.List.{List}
 use mathlib.Core.Option.{some, none}
 use lib.ListN.{length, drop}
 use borrow.Author.Needs.{needs}
-use Rattle.lines.specs.Tokens.{tokens}
-use Rattle.lines.specs.Numerals.{numeral}
-use Rattle.lines.specs.Parts.{firstOf, numberOf}
+use Rattle.tokens.specs.Tokens.{tokens}
+use Rattle.places.specs.Places.{Onward}
+use Rattle.tokens.specs.Numerals.{numeral}
+use Rattle.tokens.specs.Parts.{firstOf, numberOf}
+use Rattle.places.proofs.Places.{onward-here, onward-then}
 use Rattle.lines.proofs.Commands.{advance}
 use Rattle.lines.proofs.Entries.{Collecting, collect-start, collect-next}
 use Rattle.lines.proofs.Entries.{collect-entries, collect-count, collect-rest}
@@ -19,6 +21,7 @@ use Rattle.lines.proofs.read.collect.Tie as tie
 abbrev Inv-loop : tie.InvT-loop
 Inv-loop line size entries₀ count₀ next₀ entries count next =
     (next .offset ≤ length line)
+    × Onward line next₀ next
     × Collecting entries₀ count₀ (tokens (drop (next₀ .offset) line)) entries count (tokens (drop (next .offset) line))
 
 abbrev μ-loop : tie.MeasureT-loop
@@ -28,7 +31,7 @@ loop-holds : tie.Need-loop-holds Inv-loop μ-loop
 loop-holds c =
     let start = c .before in
     let long : length (start .args .known) ≡ 60 = search needs in
-    (start .pre .0, collect-start _ _ _ long (start .pre .1))
+    (start .pre .0, onward-here refl, collect-start _ _ _ long (start .pre .1))
 
 next-token-requires : tie.Need-next-token-requires Inv-loop μ-loop
 next-token-requires c κs = search needs
@@ -40,7 +43,7 @@ part-numeral-start : tie.Need-part-numeral-start Inv-loop μ-loop
 part-numeral-start c = search needs
 
 part-numeral-end : tie.Need-part-numeral-end Inv-loop μ-loop
-part-numeral-end c = search needs
+part-numeral-end c = search (needs, c .before .next-token .ensures .onward .not-past)
 
 numeral-requires : tie.Need-numeral-requires Inv-loop μ-loop
 numeral-requires c κs = search needs
@@ -61,10 +64,11 @@ returns c =
     sym (ap numeral (step .next-token .ensures .first))
     ∙ sym (c .before .before .numeral .ensures) ∙ ap numberOf (c .enum-told .given .1) in
     record {
-      entries = collect-entries _ _ _ _ _ ts (at .loop .inv .1) number;
-      count = collect-count _ _ _ _ _ ts (at .loop .inv .1) number;
+      entries = collect-entries _ _ _ _ _ ts (at .loop .inv .2) number;
+      count = collect-count _ _ _ _ _ ts (at .loop .inv .2) number;
       inside = at .loop .inv .0;
-      rest = collect-rest _ _ _ _ _ ts (at .loop .inv .1) number;
+      onward = at .loop .inv .1;
+      rest = collect-rest _ _ _ _ _ ts (at .loop .inv .2) number;
     }
 
 -- the tokens left, and that the first of them is the number read
@@ -84,7 +88,7 @@ mul-entries c = search needs
 array-write-entries : tie.Need-array-write-entries Inv-loop μ-loop
 array-write-entries c =
     let at = c .before .before .before .before .before .before .before in
-    omega (arith, advance (left c) _ (number c) .shorter, at .loop .inv .1 .room)
+    omega (arith, advance (left c) _ (number c) .shorter, at .loop .inv .2 .room)
 
 add-count : tie.Need-add-count Inv-loop μ-loop
 add-count c = search needs
@@ -97,8 +101,9 @@ loop-less c =
 loop-again : tie.Need-loop-again Inv-loop μ-loop
 loop-again c =
     let step = c .before .before .before .before .before .before in (
-      step .next-token .ensures .inside,
-      collect-next _ _ _ _ _ (left c) (step .before .loop .inv .1) _ _ (number c) (step .next-token .ensures .rest),
+      step .next-token .ensures .onward .not-past (step .before .loop .inv .0),
+      onward-then (step .before .loop .inv .1) (step .next-token .ensures .onward),
+      collect-next _ _ _ _ _ (left c) (step .before .loop .inv .2) _ _ (number c) (step .next-token .ensures .rest),
     )
 
 pub collect-spec : {M : Type 1} → statement M

@@ -1,16 +1,17 @@
 -- `lines::read::form` meets its contract: the first token says which command it is. Assumes nothing.
-use Prim.Native.Nat.{ℕ}
+use Prim.Native.Nat.{ℕ, _≤_}
 use native.Mathlib.Omega.{arith}
 use mathlib.Core.Path.{_≡_, sym, _∙_, ap}
 use mathlib.Core.Bool.{Bool}
 use mathlib.Core.List.{List}
 use lib.ListN.{length, drop}
 use borrow.Author.Needs.{needs}
-use Rattle.lines.specs.Tokens.{tokens}
-use Rattle.lines.specs.Commands.{remove, why, one, addition, only, made, listing, command}
+use Rattle.tokens.specs.Tokens.{tokens, one}
+use Rattle.lines.specs.Commands.{remove, why, addition, only, made, listing, command}
 use Rattle.lines.specs.Readings.{whether}
-use Rattle.lines.specs.Parts.{part, firstOf, restOf}
-use Rattle.lines.proofs.Tokens.{tokens-bound}
+use Rattle.tokens.specs.Parts.{part, firstOf, restOf}
+use Rattle.places.proofs.Places.{onward-then, onward-to}
+use Rattle.tokens.proofs.Tokens.{tokens-bound}
 use Rattle.lines.proofs.Commands.{form-add, form-remove, form-why, form-labels, form-none}
 use Rattle.lines.proofs.Answers.{as-read, rest-length}
 use Rattle.lines.proofs.read.form.Statement.{statement}
@@ -18,7 +19,7 @@ use Rattle.lines.proofs.read.form.Tie as tie
 
 -- all tokens, those behind the first, and what a test says of the first
 abbrev all : tie.After-next-token → List (List ℕ)
-all c = tokens (c .before .before .args .line .now)
+all c = tokens (drop (c .before .before .args .place .offset) (c .before .before .args .line .now))
 
 module _ (c : tie.After-next-token) where
   behind : tokens (drop (c .next-token .result .next .offset) (c .before .before .args .line .now)) ≡ restOf (all c)
@@ -30,6 +31,9 @@ module _ (c : tie.After-next-token) where
   told : (b : ℕ) {r v : Bool} → r ≡ one b word → r ≡ v → one b (firstOf (all c)) ≡ v
   told b e v = sym (ap (one b) (c .next-token .ensures .first)) ∙ sym e ∙ v
 
+inside : (c : tie.After-next-token) → c .next-token .result .next .offset ≤ length (c .before .before .args .line .now)
+inside c = c .next-token .ensures .onward .not-past (c .before .before .pre .0)
+
 next-token-requires : tie.Need-next-token-requires
 next-token-requires c κs = search needs
 
@@ -40,7 +44,7 @@ part-word-start : tie.Need-part-word-start
 part-word-start c = search needs
 
 part-word-end : tie.Need-part-word-end
-part-word-end c = search needs
+part-word-end c = search (needs, c .before .next-token .ensures .onward .not-past)
 
 is-requires : tie.Need-is-requires
 is-requires c κs = search needs
@@ -48,42 +52,53 @@ is-requires c κs = search needs
 addition-requires : tie.Need-addition-requires
 addition-requires c κs =
     let t = c .before .before .before .before in
-    let line = t .before .before .args .line .now in (
-      t .next-token .ensures .inside,
-      omega (arith, ap length (behind t), rest-length (all t), tokens-bound line, t .before .before .pre),
+    let line = t .before .before .args .line .now in
+    let from = t .before .before .args .place .offset in (
+      inside t,
+      omega (
+        arith,
+        ap length (behind t),
+        rest-length (all t),
+        tokens-bound (drop from line),
+        t .before .before .pre .1,
+      ),
     )
 
 returns : tie.Need-returns
 unfolding command
 returns c =
     let i = c .before .before in
-    let t = i .before .before .before in
-    as-read (c .addition .ensures)
-    (ap whether (ap addition (behind t) ∙ form-add _ (told t 65 (i .is .ensures) (c .before .if1 .taken))))
+    let t = i .before .before .before in (
+      as-read (c .addition .ensures .0)
+          (ap whether (ap addition (behind t) ∙ form-add _ (told t 65 (i .is .ensures) (c .before .if1 .taken)))),
+      onward-then (t .next-token .ensures .onward) (c .addition .ensures .1),
+    )
 
 is-requires-2 : tie.Need-is-requires-2
 is-requires-2 c κs = search needs
 
-removal-requires : tie.Need-removal-requires
-removal-requires c κs = search needs
+numbered-requires : tie.Need-numbered-requires
+numbered-requires c κs = inside (c .before .before .before .before .before .before)
 
 returns-2 : tie.Need-returns-2
 unfolding command
 returns-2 c =
     let r = c .before .before in
     let i = r .before .before in
-    let t = i .before .before .before in
-    as-read (c .removal .ensures)
-    (ap whether (ap (λ ts. made remove (only ts)) (behind t)
-    ∙ form-remove _
-    (told t 65 (i .is .ensures) (r .before .if1 .left))
-    (told t 82 (r .is2 .ensures) (c .before .if2 .taken))))
+    let t = i .before .before .before in (
+      as-read (c .numbered .ensures .0)
+          (ap whether (ap (λ ts. made remove (only ts)) (behind t)
+          ∙ form-remove _
+          (told t 65 (i .is .ensures) (r .before .if1 .left))
+          (told t 82 (r .is2 .ensures) (c .before .if2 .taken)))),
+      onward-then (t .next-token .ensures .onward) (c .numbered .ensures .1),
+    )
 
 is-requires-3 : tie.Need-is-requires-3
 is-requires-3 c κs = search needs
 
-reason-requires : tie.Need-reason-requires
-reason-requires c κs = search needs
+numbered-requires-2 : tie.Need-numbered-requires-2
+numbered-requires-2 c κs = inside (c .before .before .before .before .before .before .before .before)
 
 returns-3 : tie.Need-returns-3
 unfolding command
@@ -91,13 +106,15 @@ returns-3 c =
     let w = c .before .before in
     let r = w .before .before in
     let i = r .before .before in
-    let t = i .before .before .before in
-    as-read (c .reason .ensures)
-    (ap whether (ap (λ ts. made why (only ts)) (behind t)
-    ∙ form-why _
-    (told t 65 (i .is .ensures) (r .before .if1 .left))
-    (told t 82 (r .is2 .ensures) (w .before .if2 .left))
-    (told t 87 (w .is3 .ensures) (c .before .if3 .taken))))
+    let t = i .before .before .before in (
+      as-read (c .numbered2 .ensures .0)
+          (ap whether (ap (λ ts. made why (only ts)) (behind t)
+          ∙ form-why _
+          (told t 65 (i .is .ensures) (r .before .if1 .left))
+          (told t 82 (r .is2 .ensures) (w .before .if2 .left))
+          (told t 87 (w .is3 .ensures) (c .before .if3 .taken)))),
+      onward-then (t .next-token .ensures .onward) (c .numbered2 .ensures .1),
+    )
 
 is-requires-4 : tie.Need-is-requires-4
 is-requires-4 c κs = search needs
@@ -112,13 +129,15 @@ returns-4 c =
     let w = l .before .before in
     let r = w .before .before in
     let i = r .before .before in
-    let t = i .before .before .before in
-    as-read (c .listing .ensures)
-    (ap whether (ap listing (behind t)
-    ∙ form-labels _
-    (told t 65 (i .is .ensures) (r .before .if1 .left))
-    (told t 82 (r .is2 .ensures) (w .before .if2 .left))
-    (told t 87 (w .is3 .ensures) (l .before .if3 .left)) (told t 76 (l .is4 .ensures) (c .before .if4 .taken))))
+    let t = i .before .before .before in (
+      as-read (c .listing .ensures .0)
+          (ap whether (ap listing (behind t)
+          ∙ form-labels _
+          (told t 65 (i .is .ensures) (r .before .if1 .left))
+          (told t 82 (r .is2 .ensures) (w .before .if2 .left))
+          (told t 87 (w .is3 .ensures) (l .before .if3 .left)) (told t 76 (l .is4 .ensures) (c .before .if4 .taken)))),
+      onward-then (t .next-token .ensures .onward) (c .listing .ensures .1),
+    )
 
 plain-requires : tie.Need-plain-requires
 plain-requires c κs = search needs
@@ -130,12 +149,14 @@ returns-5 c =
     let w = l .before .before in
     let r = w .before .before in
     let i = r .before .before in
-    let t = i .before .before .before in
-    as-read (c .plain .ensures)
-    (ap whether (form-none _
-    (told t 65 (i .is .ensures) (r .before .if1 .left))
-    (told t 82 (r .is2 .ensures) (w .before .if2 .left))
-    (told t 87 (w .is3 .ensures) (l .before .if3 .left)) (told t 76 (l .is4 .ensures) (c .before .if4 .left))))
+    let t = i .before .before .before in (
+      as-read (c .plain .ensures .0)
+          (ap whether (form-none _
+          (told t 65 (i .is .ensures) (r .before .if1 .left))
+          (told t 82 (r .is2 .ensures) (w .before .if2 .left))
+          (told t 87 (w .is3 .ensures) (l .before .if3 .left)) (told t 76 (l .is4 .ensures) (c .before .if4 .left)))),
+      onward-to (t .next-token .ensures .onward) (c .plain .ensures .1),
+    )
 
 pub form-spec : {M : Type 1} → statement M
 form-spec =
@@ -149,10 +170,10 @@ form-spec =
     addition-requires
     returns
     is-requires-2
-    removal-requires
+    numbered-requires
     returns-2
     is-requires-3
-    reason-requires
+    numbered-requires-2
     returns-3
     is-requires-4
     listing-requires

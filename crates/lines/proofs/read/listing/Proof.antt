@@ -2,6 +2,7 @@
 use mathlib.Core.Path.{sym, _∙_, ap}
 use borrow.Author.Tests.{not-true, not-false}
 use Rattle.lines.specs.Readings.{whether}
+use Rattle.places.proofs.Places.{onward-here}
 use Rattle.lines.proofs.Answers.{as-read}
 use Rattle.lines.proofs.Commands.{listing-last, listing-more}
 use borrow.Author.Needs.{needs}
@@ -15,17 +16,21 @@ plain-requires : tie.Need-plain-requires
 plain-requires c κs = search needs
 
 returns : tie.Need-returns
-returns c =
-    as-read (c .plain .ensures)
-    (ap whether (listing-more _ (sym (c .before .before .ended .ensures) ∙ not-true _ (c .before .if1 .taken))))
+returns c = (
+  as-read (c .plain .ensures .0)
+      (ap whether (listing-more _ (sym (c .before .before .ended .ensures) ∙ not-true _ (c .before .if1 .taken)))),
+  onward-here (c .plain .ensures .1),
+)
 
 plain-requires-2 : tie.Need-plain-requires-2
 plain-requires-2 c κs = search needs
 
 returns-2 : tie.Need-returns-2
-returns-2 c =
-    as-read (c .plain2 .ensures)
-    (ap whether (listing-last _ (sym (c .before .before .ended .ensures) ∙ not-false _ (c .before .if1 .left))))
+returns-2 c = (
+  as-read (c .plain2 .ensures .0)
+      (ap whether (listing-last _ (sym (c .before .before .ended .ensures) ∙ not-false _ (c .before .if1 .left)))),
+  onward-here (c .plain2 .ensures .1),
+)
 
 pub listing-spec : {M : Type 1} → statement M
 listing-spec =

@@ -8,9 +8,12 @@ use lib.ListN.{length, drop, replicate}
 use lib.Seq.{sets}
 use borrow.Author.Needs.{needs}
 use borrow.Author.Tests.{not-true, not-false}
-use Rattle.lines.specs.Tokens.{tokens}
-use Rattle.lines.specs.Commands.{one}
-use Rattle.lines.specs.Parts.{part, firstOf, restOf, empty, leadingNumbers, pastNumbers}
+use Rattle.tokens.specs.Tokens.{tokens}
+use Rattle.places.specs.Places.{Onward}
+use Rattle.tokens.specs.Tokens.{one}
+use Rattle.tokens.specs.Parts.{part, firstOf, restOf, empty}
+use Rattle.lines.specs.Parts.{leadingNumbers, pastNumbers}
+use Rattle.places.proofs.Places.{onward-then, onward-to}
 use Rattle.lines.proofs.Commands.{numbers-length}
 use Rattle.lines.proofs.Answers.{as-read, said-over, said-spoiled, said-parted, said-parted-spoiled}
 use Rattle.lines.proofs.Answers.{lists-answer, rest-length}
@@ -60,6 +63,17 @@ no-more-behind : (c : tie.After-ended2)
 no-more-behind c =
     c .ended2 .ensures ∙ ap empty (c .before .before .collect2 .ensures .rest ∙ ap pastNumbers (behind (token c)))
 
+-- the places come to behind the positives' end, and behind the negatives
+to-token : (c : tie.After-next-token)
+    → Onward (found c .before .before .args .line .now) (found c .before .before .args .place)
+    (c .next-token .result .next)
+to-token c = onward-then (found c .collect .ensures .onward) (c .next-token .ensures .onward)
+
+to-last : (c : tie.After-ended2)
+    → Onward (found (token c) .before .before .args .line .now) (found (token c) .before .before .args .place)
+    (c .before .before .collect2 .result .next)
+to-last c = onward-then (to-token (token c)) (c .before .before .collect2 .ensures .onward)
+
 collect-requires : tie.Need-collect-requires
 collect-requires c κs = search needs
 
@@ -73,11 +87,13 @@ returns c =
     let s = e .before .before .before .before .before in
     let ts = all s in
     let count : p .result .count ≡ length (leadingNumbers ts) = omega (arith, p .ensures .count) in
-    let size : length (leadingNumbers ts) + length {A = ℕ} [] ≤ 60 = omega (arith, numbers-length ts, s .pre .1) in
-    as-read
-    (lists-answer (s .args .head) (leadingNumbers ts) [] (p .result .count) 0 (p .result .entries)
-    size count refl (p .ensures .entries))
-    (said-over (s .args .head) ts (sym (no-more e) ∙ c .if1 .taken))
+    let size : length (leadingNumbers ts) + length {A = ℕ} [] ≤ 60 = omega (arith, numbers-length ts, s .pre .1) in (
+      as-read
+          (lists-answer (p .result .next) (s .args .head) (leadingNumbers ts) []
+          (p .result .count) 0 (p .result .entries) size count refl (p .ensures .entries))
+          (said-over (s .args .head) ts (sym (no-more e) ∙ c .if1 .taken)),
+      p .ensures .onward,
+    )
 
 next-token-requires : tie.Need-next-token-requires
 next-token-requires c κs = search needs
@@ -89,7 +105,7 @@ part-is-start : tie.Need-part-is-start
 part-is-start c = search needs
 
 part-is-end : tie.Need-part-is-end
-part-is-end c = search needs
+part-is-end c = search (needs, c .before .next-token .ensures .onward .not-past)
 
 is-requires : tie.Need-is-requires
 is-requires c κs = search needs
@@ -101,17 +117,19 @@ returns-2 : tie.Need-returns-2
 returns-2 c =
     let i = c .before .before in
     let t = i .before .before .before in
-    let s = found t .before .before in
-    as-read (c .plain .ensures)
-    (said-spoiled (s .args .head) (all s)
-    (sym (no-more (t .before .before)) ∙ t .before .if1 .left)
-    (sym (bang i) ∙ not-true _ (c .before .if2 .taken)))
+    let s = found t .before .before in (
+      as-read (c .plain .ensures .0)
+          (said-spoiled (s .args .head) (all s)
+          (sym (no-more (t .before .before)) ∙ t .before .if1 .left)
+          (sym (bang i) ∙ not-true _ (c .before .if2 .taken))),
+      onward-to (to-token t) (c .plain .ensures .1),
+    )
 
 collect-requires-2 : tie.Need-collect-requires-2
 collect-requires-2 c κs =
     let t = c .before .before .before .before in
     let p = found t .collect in (
-      t .next-token .ensures .inside,
+      t .next-token .ensures .onward .not-past (p .ensures .inside),
       omega (arith, ap length (behind t), room (found t .before .before), p .ensures .count),
     )
 
@@ -126,11 +144,13 @@ returns-3 c =
     let e = c .before .before in
     let i = e .before .before .before .before in
     let t = i .before .before .before in
-    let s = found t .before .before in
-    as-read (c .plain2 .ensures)
-    (said-parted-spoiled (s .args .head) (all s)
-    (sym (bang i) ∙ not-false _ (e .before .before .before .if2 .left))
-    (sym (no-more-behind e) ∙ not-true _ (c .before .if3 .taken)))
+    let s = found t .before .before in (
+      as-read (c .plain2 .ensures .0)
+          (said-parted-spoiled (s .args .head) (all s)
+          (sym (bang i) ∙ not-false _ (e .before .before .before .if2 .left))
+          (sym (no-more-behind e) ∙ not-true _ (c .before .if3 .taken))),
+      onward-to (to-last e) (c .plain2 .ensures .1),
+    )
 
 sub-t21 : tie.Need-sub-t21
 sub-t21 c =
@@ -153,13 +173,15 @@ returns-4 c =
     let entries : n .result .entries ≡ sets (sets (replicate 60 0) 0 ps) (p .result .count) ns =
     n .ensures .entries
     ∙ ap (λ ts. sets (p .result .entries) (p .result .count) (leadingNumbers ts)) (behind t)
-    ∙ ap (λ xs. sets xs (p .result .count) ns) (p .ensures .entries) in
-    as-read
-    (lists-answer (s .args .head) ps ns (p .result .count) (n .result .count - p .result .count) (n .result .entries)
-    (size s) count more entries)
-    (said-parted (s .args .head) (all s)
-    (sym (bang i) ∙ not-false _ (e .before .before .before .if2 .left))
-    (sym (no-more-behind e) ∙ not-false _ (c .before .before .if3 .left)))
+    ∙ ap (λ xs. sets xs (p .result .count) ns) (p .ensures .entries) in (
+      as-read
+          (lists-answer (n .result .next) (s .args .head) ps ns
+          (p .result .count) (n .result .count - p .result .count) (n .result .entries) (size s) count more entries)
+          (said-parted (s .args .head) (all s)
+          (sym (bang i) ∙ not-false _ (e .before .before .before .if2 .left))
+          (sym (no-more-behind e) ∙ not-false _ (c .before .before .if3 .left))),
+      to-last e,
+    )
 
 pub lists-spec : {M : Type 1} → statement M
 lists-spec =

@@ -6,14 +6,16 @@ use Rattle.lines.proofs.read.plain.Statement.{statement}
 use Rattle.lines.proofs.read.plain.Tie as tie
 
 returns : tie.Need-returns
-returns c =
-    record {
-      meaning = refl;
-      positives = none-positive (c .args .reading);
-      negatives = none-negative (c .args .reading);
-      within = omega arith;
-      filler = refl;
-    }
+returns c = (
+  record {
+    meaning = refl;
+    positives = none-positive (c .args .reading);
+    negatives = none-negative (c .args .reading);
+    within = omega arith;
+    filler = refl;
+  },
+  refl,
+)
 
 pub plain-spec : {M : Type 1} → statement M
 plain-spec = tie.close (tie.spec returns)
