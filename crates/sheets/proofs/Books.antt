@@ -41,8 +41,9 @@ use Rattle.history.proofs.Sequence.{history, trace-agrees, step-follows, empty-
 use Rattle.history.proofs.Demands.{label-in-model}
 use Rattle.lines.specs.Commands as sheet
 use Rattle.lines.specs.Readings.{Line, is-blank, too-long, no-command, is, reading, blank, spaces}
-use Rattle.lines.specs.Texts.{NEWLINE}
-use Rattle.printing.specs.Printed.{whyLine, labelLines, refusalLine}
+use Rattle.fields.specs.Texts.{NEWLINE}
+use Rattle.printing.specs.Printed.{whyLine, refusalLine}
+use Rattle.label_lines.specs.LabelLines.{labelLines}
 use Rattle.sheets.specs.Lines as prints
 use Rattle.sheets.specs.Lines.{Prints, lent, tellAdd, tellRemove, tellReason}
 use Rattle.sheets.specs.Sheets as whole

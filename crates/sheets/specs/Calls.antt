@@ -8,7 +8,7 @@ use Rattle.theory.specs.Book.{Call, add, remove}
 use Rattle.table.specs.Questions.{ruleFrom}
 use Rattle.lines.specs.Commands as sheet
 use Rattle.lines.specs.Readings.{Line, is-blank, too-long, no-command, is, reading}
-use Rattle.lines.specs.Texts.{NEWLINE}
+use Rattle.fields.specs.Texts.{NEWLINE}
 
 -- The bytes of a sheet are parted at newlines: the lines that a newline ends, and the bytes behind the last newline.
 -- `line` has the bytes before these that belong to the first line.

@@ -14,8 +14,9 @@ use Rattle.theory.specs.Book.{add, remove, Answer, refused, slot, accepted, emp
 use Rattle.table.specs.Questions.{ruleFrom}
 use Rattle.lines.specs.Commands as sheet
 use Rattle.lines.specs.Readings.{Line, is-blank, too-long, no-command, is, reading}
-use Rattle.lines.specs.Texts.{bytes}
-use Rattle.printing.specs.Printed.{named, whyLine, labelLines, refusalLine}
+use Rattle.fields.specs.Texts.{bytes}
+use Rattle.printing.specs.Printed.{named, whyLine, refusalLine}
+use Rattle.label_lines.specs.LabelLines.{labelLines}
 use Rattle.sheets.specs.Calls.{lineCalls, linesOf}
 
 -- The line that tells the book's answer, on line n of the sheet: to an addition, which is never answered "accepted"; and
