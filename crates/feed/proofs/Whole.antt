@@ -1,8 +1,8 @@
 -- Pieces don't matter: a sheet that is fed piece by piece prints what the whole sheet prints. Assumes nothing.
 use Prim.Native.Nat.{ℕ, _-_}
 use native.Mathlib.Omega.{arith}
-use mathlib.Core.Path.{_≡_, refl, sym, _∙_, ap, ap₂, subst}
-use mathlib.Core.List.{List, [], _∷_, _++_}
+use mathlib.Core.Path.{_≡_, sym, ap}
+use mathlib.Core.List.{List, _++_}
 use lib.ListN.{take}
 use Rattle.replies.specs.declared.Reply.{Reply}
 use Rattle.printing.proofs.Wrote.{wrote-start}

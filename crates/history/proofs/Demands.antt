@@ -1,14 +1,14 @@
 -- Demand 2: after an accepted addition or removal an atom is in if and only if it is in the admissible model of the
 -- rules now held; a rule that closes a loop through a negation is refused by 7, and no other is. Assumes nothing.
-use Prim.Native.Nat.{ℕ, _<_}
+use Prim.Native.Nat.{ℕ}
 use native.Mathlib.Omega.{arith}
-use mathlib.Core.Path.{_≡_, refl, sym, _∙_, ap, subst}
-use mathlib.Core.Logic.{_⊎_, inl, inr, ⊎-elim, _↔_}
-use mathlib.Core.Bool.{Bool, true, false, not, _||_}
-use mathlib.Core.List.{List, [], _∷_, map}
-use mathlib.Core.Option.{Option, none, some, Option·some-injective, Option·none-ne-some}
+use mathlib.Core.Path.{_≡_, refl, sym, _∙_, ap}
+use mathlib.Core.Logic.{⊎-elim}
+use mathlib.Core.Bool.{true, not, _||_}
+use mathlib.Core.List.{[]}
+use mathlib.Core.Option.{none, some, Option·some-injective, Option·none-ne-some}
 use lib.Dec.{eqb}
-use lib.ListN.{take, drop}
+use lib.ListN.{take}
 use Rattle.theory.specs.Lists.{every}
 use Rattle.theory.specs.Rules.{Rule, Program}
 use Rattle.theory.specs.Models.{AtomSet, Admissible}
@@ -17,17 +17,15 @@ use Rattle.theory.specs.Labels.{Label, absent, out, in-at, Labelled, is-absent,
 use Rattle.theory.specs.Questions.{Question, asks, first-no, add-questions, stratified, lowest-free, put-in}
 use Rattle.theory.specs.Questions.{is-in-label}
 use Rattle.theory.specs.Limits.{document}
-use Rattle.theory.proofs.Lists.{test, clash, every-at, or-cases, not-true, eqb-of, unless}
-use Rattle.theory.proofs.Cycles.{stratified-iff, found-cycle, cycle-found}
-use Rattle.theory.proofs.Questions.{first-no-yes, first-no-here, first-no-take, first-no-at}
+use Rattle.theory.proofs.Lists.{clash, every-at, or-cases, not-true, eqb-of, unless}
+use Rattle.theory.proofs.Cycles.{found-cycle, cycle-found}
+use Rattle.theory.proofs.Questions.{first-no-here, first-no-take, first-no-at}
 use Rattle.theory.proofs.Labels.{in-occurs}
 use Rattle.table.specs.declared.Table.{Table}
-use Rattle.table.specs.Labels.{labelAt}
 use Rattle.table.specs.Sound.{Sound}
 use Rattle.calls.specs.declared.AddAnswer.{AddAnswer}
 use Rattle.calls.specs.declared.AddAnswer.the-variants as added
 use Rattle.calls.specs.declared.RemoveAnswer.{RemoveAnswer}
-use Rattle.calls.specs.declared.RemoveAnswer.the-variants as removed
 use Rattle.calls.specs.declared.Refusal.{Refusal}
 use Rattle.calls.specs.declared.Refusal.the-variants as refusal
 use Rattle.calls.specs.Answers.{numberOf}

@@ -4,11 +4,10 @@ use native.Mathlib.Omega.{arith}
 use mathlib.Core.Path.{_≡_, refl, sym, _∙_, ap, ap₂, subst}
 use mathlib.Core.Bool.{Bool, true, false, true≢false}
 use mathlib.Core.List.{List}
-use mathlib.Core.Option.{Option, none, some}
+use mathlib.Core.Option.{none, some}
 use lib.Dec.{leb}
 use lib.ListN.{length, getD, take, drop}
-use Rattle.theory.specs.Rules.{Rule}
-use Rattle.theory.specs.Book.{Call, add, remove}
+use Rattle.theory.specs.Book.{add, remove}
 use Rattle.theory.proofs.Lists.{unless, leb-le, le-leb}
 use Rattle.calls.specs.declared.Refusal.{Refusal}
 use Rattle.calls.specs.declared.Refusal.the-variants.{Head, Entries, Entry, Repeated, Same, Full, NegativeCycle}
@@ -20,7 +19,7 @@ use Rattle.calls.specs.declared.RemoveAnswer.the-variants as removed
 use Rattle.calls.specs.Answers.{numberOf, bookAdd, bookRemove}
 use Rattle.history.specs.declared.Next.{Next}
 use Rattle.history.specs.declared.Next.the-variants as next
-use Rattle.history.specs.Encoding.{Placed, rule-at, addition-at, when, placed-kind, placed, encode}
+use Rattle.history.specs.Encoding.{addition-at, when, placed-kind, placed, encode}
 use Rattle.table.specs.declared.Table.{Table}
 use Rattle.calls.specs.Contracts.{AddEnds, RemoveEnds}
 use Rattle.history.specs.Claim.{adds, removes}

@@ -2,17 +2,14 @@
 use Prim.Native.Nat.{ℕ, zero, suc, _+_, _-_, _≤_, _<_}
 use native.Mathlib.Omega.{arith}
 use native.Mathlib.Numerals.{add-one}
-use mathlib.Core.Path.{_≡_, refl, sym, _∙_, ap, ap₂, subst}
+use mathlib.Core.Path.{_≡_, refl, sym, _∙_, ap, subst}
 use mathlib.Core.List.{List, [], _∷_, _++_, map, append-assoc, append-nil, map-append}
-use mathlib.Core.Option.{Option, none, some}
+use mathlib.Core.Option.{none, some}
 use lib.ListN.{length, getD, set, drop, length-append, length-map}
 use lib.Seq.{drop-cons, set-at}
-use Rattle.theory.specs.Book.{Call, add, remove, Answer}
+use Rattle.theory.specs.Book.{Call, Answer}
 use Rattle.table.specs.declared.Table.{Table}
 use Rattle.table.specs.Clean.{emptyTable}
-use Rattle.calls.specs.declared.AddAnswer.{AddAnswer}
-use Rattle.calls.specs.declared.RemoveAnswer.{RemoveAnswer}
-use Rattle.history.specs.declared.Replayed.{Replayed}
 use Rattle.history.specs.Claim.{Step, Trace, stop, call, History}
 use Rattle.history.specs.Encoding.{Placed, placed, decode, encode}
 use Rattle.history.specs.Steps.{CallMade, Replays, calls-in}

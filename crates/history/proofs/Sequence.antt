@@ -1,28 +1,27 @@
 -- Demand 3 holds after any list of calls from the empty table, each meeting its contract; and demand 2 after each.
 -- Assumes nothing.
-use Prim.Native.Nat.{ℕ, zero, suc, _≤_, _<_}
+use Prim.Native.Nat.{ℕ, zero, suc, _<_}
 use native.Mathlib.Omega.{arith}
 use mathlib.Core.Path.{_≡_, refl, sym, _∙_, ap, ap₂, subst}
-use mathlib.Core.Logic.{_⊎_, inl, inr, ⊎-elim, _↔_}
-use mathlib.Core.Bool.{Bool, true, false}
+use mathlib.Core.Logic.{⊎-elim}
+use mathlib.Core.Bool.{true, false}
 use mathlib.Core.List.{List, [], _∷_}
-use mathlib.Core.Option.{Option, none, some, Option·none-ne-some}
+use mathlib.Core.Option.{Option, none, some}
 use lib.Dec.{ltb}
-use lib.ListN.{length, getD, set, replicate}
-use Rattle.theory.specs.Lists.{_∈_, Lists}
+use lib.ListN.{length, getD, replicate}
 use Rattle.theory.specs.Rules.{Rule, Program, Held}
 use Rattle.theory.specs.Models.{AtomSet, valid, Admissible, OnlyModel}
 use Rattle.theory.specs.Dependencies.{NegativeCycle}
-use Rattle.theory.specs.Labels.{Label, absent, out, in-at, Labelled, is-absent, is-out, is-in}
+use Rattle.theory.specs.Labels.{Label, out, in-at, Labelled, is-out, is-in}
 use Rattle.theory.specs.Labels.{Spoiler, spoiler, Spoils}
-use Rattle.theory.specs.Questions.{is-in-label, first-no, add-questions, slot-questions, atom-questions, put-in}
+use Rattle.theory.specs.Questions.{first-no, slot-questions, atom-questions, put-in}
 use Rattle.theory.specs.Questions.{asks, is-some}
 use Rattle.theory.specs.Book.{Call, add, remove, Answer, refused, slot, accepted, empty, answer, after, answers}
 use Rattle.theory.specs.Book.{after-all}
 use Rattle.theory.specs.Book.{refusal, granted, changed, slot-answer}
 use Rattle.theory.specs.Limits.{document}
-use Rattle.theory.proofs.Lists.{test, clash, same-test, lt-ltb, le-or-lt}
-use Rattle.theory.proofs.Rules.{held-unique, valid-positive}
+use Rattle.theory.proofs.Lists.{test, clash, lt-ltb}
+use Rattle.theory.proofs.Rules.{valid-positive}
 use Rattle.theory.proofs.Questions.{first-no-yes, held-below, passed-bounded}
 use Rattle.theory.proofs.Strata.{acyclic-strata, rules-below, model-unique}
 use Rattle.theory.proofs.Depths.{depth-count}
@@ -36,12 +35,12 @@ use Rattle.table.specs.Sound.{Sound}
 use Rattle.table.proofs.Empty.{empty-sound}
 use Rattle.calls.specs.declared.LabelAnswer.{LabelAnswer}
 use Rattle.calls.specs.declared.SpoilerAnswer.{SpoilerAnswer}
-use Rattle.calls.specs.Answers.{bookAdd, bookRemove, tellLabel, tellSpoiler}
+use Rattle.calls.specs.Answers.{tellLabel, tellSpoiler}
 use Rattle.calls.specs.Contracts as contract
-use Rattle.calls.specs.Contracts.{held, AddEnds, RemoveEnds, LabelEnds, SpoilerEnds}
-use Rattle.calls.proofs.Determined.{same-model, label-determined, spoiler-determined}
-use Rattle.history.specs.Claim.{Step, adds, removes, Trace, stop, call, bookAfter, Supported}
-use Rattle.history.specs.Claim.{History, InModel}
+use Rattle.calls.specs.Contracts.{held, LabelEnds, SpoilerEnds}
+use Rattle.calls.proofs.Determined.{label-determined, spoiler-determined}
+use Rattle.history.specs.Claim.{Step, adds, removes, Trace, stop, call, bookAnswers, bookAfter, Supported}
+use Rattle.history.specs.Claim.{History}
 
 -- The rules of a sound table have one admissible model, and its atoms are below the limit.
 
@@ -109,7 +108,8 @@ pub record Agrees (P : Program) (cs : List Call) (xs : List Answer) (v : Table) 
   pub kept : held v ≡ after-all document P cs
   pub sound : Sound v
 
-pub trace-agrees : {t v : Table} {cs : List Call} {xs : List Answer} → Sound t → Trace t cs xs v → Agrees (held t) cs xs v
+pub trace-agrees :
+    {t v : Table} {cs : List Call} {xs : List Answer} → Sound t → Trace t cs xs v → Agrees (held t) cs xs v
 unfolding answers after-all
 trace-agrees S stop = record { told = refl; kept = refl; sound = S }
 trace-agrees S (call {cs = cs} step rest) =
@@ -213,7 +213,7 @@ module _ (cs : List Call) (xs : List Answer) (t : Table) (e : held t ≡ bookAft
       (contract.accepted (S .labels .model) r S (slot-asked (held t) s r (S .labels .slots) i) i
       (S .labels .admissible))
 
-  claim : xs ≡ answers document (empty document) cs → History cs xs t
+  claim : xs ≡ bookAnswers cs → History cs xs t
   claim told = record {
     answered = told;
     slots = e;

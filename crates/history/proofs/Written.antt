@@ -1,5 +1,5 @@
--- Every list of calls has words that `replay` reads as this list, and each word has 32 bits where the calls' numbers and
--- the lengths of their lists have. Assumes nothing.
+-- Every list of calls has words that `replay` reads as this list; each has 32 bits where the calls' numbers and the
+-- lengths of their lists have. Assumes nothing.
 use Prim.Native.Nat.{ℕ, zero, suc, _+_, _^_, _≤_, _<_}
 use native.Mathlib.Omega.{arith}
 use mathlib.Core.Path.{_≡_, refl, sym, _∙_, ap, subst}
@@ -7,16 +7,15 @@ use mathlib.Core.Logic.{⊎-elim}
 use mathlib.Core.Bool.{true}
 use mathlib.Core.List.{List, [], _∷_, _++_, map, append-assoc, append-nil, List·Memᴰ, List·Memᴰ·head, List·Memᴰ·tail}
 use mathlib.Core.List.{List·Memᴰ·cases-cons, List·Memᴰ·not-nil}
-use mathlib.Core.Option.{Option, some}
+use mathlib.Core.Option.{some}
 use lib.ListN.{length, getD, take, drop, length-append}
 use lib.Seq.{getD-append-seam, getD-append-add, take-append-seam, drop-append-seam, drop-append-add, drop-drop}
 use Rattle.theory.specs.Lists.{_∈_}
 use Rattle.theory.specs.Rules.{Rule}
-use Rattle.theory.specs.Book.{Call, add, remove, Answer, empty, answers}
-use Rattle.theory.specs.Limits.{document}
+use Rattle.theory.specs.Book.{Call, add, remove, Answer}
 use Rattle.theory.proofs.Lists.{le-leb}
 use Rattle.history.specs.declared.Replayed.{Replayed}
-use Rattle.history.specs.Claim.{History}
+use Rattle.history.specs.Claim.{bookAnswers, History}
 use Rattle.history.specs.Encoding.{Placed, rule-at, addition-at, placed, decode, call-words, written, encode}
 use Rattle.history.specs.Encoding.{Words, CallFits}
 use Rattle.history.specs.Steps.{Replays, calls-in}
@@ -132,7 +131,8 @@ decode-behind (c ∷ cs) (suc most) xs l =
     ap (λ (ws : List ℕ). decode (suc most) ws (length xs)) (call-behind xs c cs)
     ∙ decode-next most (xs ++ (call-words c ++ written cs)) (length xs) _ (placed-call xs (written cs) c)
     ∙ ap (λ (ds : List Call). c ∷ ds)
-    (ap (λ (ws : List ℕ). decode most ws (length (xs ++ call-words c))) (sym (append-assoc xs (call-words c) (written cs)))
+    (ap (λ (ws : List ℕ). decode most ws (length (xs ++ call-words c)))
+    (sym (append-assoc xs (call-words c) (written cs)))
     ∙ decode-behind cs most (xs ++ call-words c) (omega arith))
 
 -- Written and read back, a list of calls is the same, given room for its answers.
@@ -141,9 +141,9 @@ decode-written cs before l = decode-behind cs (length before) [] l
 
 -- So `replay` can be asked for any list of calls: it makes exactly these, and tells the book's answers.
 pub record ReplaysCalls (cs : List Call) (before : List ℕ) (r : Replayed) (after : List ℕ) : Type 0 where
-  pub claim : History cs (answers document (empty document) cs) (r .table)
+  pub claim : History cs (bookAnswers cs) (r .table)
   pub count : r .count ≡ length cs
-  pub told : after ≡ map encode (answers document (empty document) cs) ++ drop (length cs) before
+  pub told : after ≡ map encode (bookAnswers cs) ++ drop (length cs) before
 
 pub replay-written :
     (cs : List Call) {before after : List ℕ} {r : Replayed} → length cs ≤ length before
@@ -157,7 +157,7 @@ replay-written cs {before} {after} {r} l R =
       claim = subst (λ (ys : List Answer). History cs ys (r .table)) (claim .answered) claim;
       count = count;
       told = R .written ∙ ap (λ (ys : List Answer). map encode ys ++ drop (r .count) before) (claim .answered)
-          ∙ ap (λ (k : ℕ). map encode (answers document (empty document) cs) ++ drop k before) count;
+          ∙ ap (λ (k : ℕ). map encode (bookAnswers cs) ++ drop k before) count;
     }
 
 -- Words of 32 bits.

@@ -5,15 +5,14 @@ use mathlib.Core.Path.{_≡_}
 use mathlib.Core.Logic.{_↔_}
 use mathlib.Core.Bool.{true}
 use mathlib.Core.List.{List, [], _∷_}
-use mathlib.Core.Option.{none, some}
+use mathlib.Core.Option.{some}
 use lib.ListN.{length}
 use Rattle.theory.specs.Lists.{_∈_, Lists}
 use Rattle.theory.specs.Rules.{Rule, Program, Held}
 use Rattle.theory.specs.Models.{AtomSet, valid, Admissible, OnlyModel}
-use Rattle.theory.specs.Dependencies.{NegativeCycle}
 use Rattle.theory.specs.Derivations.{Derivation}
 use Rattle.theory.specs.Labels.{Label, out, in-at, Labelled, Shallower, Spoiler, spoiler, Spoils}
-use Rattle.theory.specs.Questions.{is-in-label, lowest-free, put-in}
+use Rattle.theory.specs.Questions.{is-in-label}
 use Rattle.theory.specs.Book.{Call, add, remove, Answer, empty, answers, after-all}
 use Rattle.theory.specs.Limits.{document}
 use Rattle.table.specs.declared.Table.{Table}
@@ -38,7 +37,10 @@ pub data Trace : Table → List Call → List Answer → Table → Type 0 where
       {t u v : Table} {c : Call} {x : Answer} {cs : List Call} {xs : List Answer} → Step t c x u → Trace u cs xs v
       → Trace t (c ∷ cs) (x ∷ xs) v
 
--- The book's rules after a list of calls.
+-- The book's answers to a list of calls, and its rules after them.
+abbrev pub bookAnswers : List Call → List Answer
+bookAnswers cs = answers document (empty document) cs
+
 abbrev pub bookAfter : List Call → Program
 bookAfter cs = after-all document (empty document) cs
 
@@ -59,7 +61,7 @@ pub record Supported (P : Program) (M : AtomSet) (a depth slot : ℕ) : Type 0 w
 -- Demand 3: after the calls cs, with the answers xs, the table is t.
 pub record History (cs : List Call) (xs : List Answer) (t : Table) : Type 0 where
   -- each answer is the book's, and each slot holds what the page of its number holds
-  pub answered : xs ≡ answers document (empty document) cs
+  pub answered : xs ≡ bookAnswers cs
   pub slots : held t ≡ bookAfter cs
   pub sound : Sound t
   -- the labels are those defined for the book's rules, in their one admissible model

@@ -1,7 +1,7 @@
 -- Laws of `Reads`: bytes behind bytes, and how many lines there can be. Assumes nothing.
-use Prim.Native.Nat.{ℕ, suc, _+_, _^_, _≤_, _<_}
+use Prim.Native.Nat.{ℕ, _+_, _^_, _≤_, _<_}
 use native.Mathlib.Omega.{arith}
-use mathlib.Core.List.{List, [], _∷_, _++_, append-assoc}
+use mathlib.Core.List.{List, _++_, append-assoc}
 use lib.ListN.{length, length-take}
 use Rattle.sheets.specs.Sheets.{State, start, Reads, stop, byte, newline, MOST, cut}
 

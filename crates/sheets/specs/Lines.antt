@@ -42,8 +42,8 @@ abbrev pub lent : List ℕ
 lent = replicate (document .atoms) 0
 
 -- Line n of a sheet, met with the table t: what it prints, and the table after it. Questions: 14, 13, then those of the
--- call. A line that doesn't read as a command leaves the table as it was. The labels are asked for as by the call on one
--- label: 15 first.
+-- call. A line that doesn't read as a command leaves the table as it was. The labels are asked for as by the call on
+-- one label: 15 first.
 pub data Prints (t : Table) (n : ℕ) (line : List ℕ) : List ℕ → Table → Type 0 where
   blank : reading line ≡ is-blank → Prints t n line [] t
   long : reading line ≡ too-long → Prints t n line (refusalLine n 14) t

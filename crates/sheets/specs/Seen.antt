@@ -19,8 +19,8 @@ use Rattle.printing.specs.Printed.{named, whyLine, refusalLine}
 use Rattle.label_lines.specs.LabelLines.{labelLines}
 use Rattle.sheets.specs.Calls.{lineCalls, linesOf}
 
--- The line that tells the book's answer, on line n of the sheet: to an addition, which is never answered "accepted"; and
--- to a removal, which is never answered a slot.
+-- The line that tells the book's answer, on line n of the sheet: to an addition, which is never answered "accepted",
+-- and to a removal, which is never answered a slot.
 abbrev pub addLine : ℕ → Answer → List ℕ
 addLine n (slot s) = named (bytes "slot") s
 addLine n (refused k) = refusalLine n k
@@ -31,9 +31,9 @@ removeLine n s accepted = named (bytes "removed") s
 removeLine n s (refused k) = refusalLine n k
 removeLine n s (slot t) = []
 
--- `W` and an atom: the first question answered no, of 10 (its number) and 12 (its label), is the refusal; else the slots
--- of its reason. Label and reason are those defined for the book's rules, in their one admissible model. 11 cannot be
--- met: there is room for a slot of every atom.
+-- `W` and an atom: of 10 (its number) and 12 (its label) the first answered no is the refusal; else the slots of its
+-- reason. Label and reason are those defined for the book's rules, in their one admissible model. 11 cannot be met:
+-- there is room for a slot of every atom.
 abbrev pub ReasonLine : Program → AtomSet → ℕ → ℕ → Option ℕ → List ℕ → Type 0
 ReasonLine P M n a (some k) out = out ≡ refusalLine n k
 ReasonLine P M n a none out = (slots : List ℕ) × Reason P M a slots × (out ≡ whyLine slots)
