@@ -39,6 +39,15 @@ static void lengths(void) {
     too_many(NULL, 9, NULL, 9);
 }
 
+/* Questions 15 and 1 come first, and read no list either. */
+static void asked_before(void) {
+    const uint32_t one = 1;
+    yeqontur_table table = yeqontur_empty();
+    expect(yeqontur_add(table, 256, &one, WRAPS, NULL, WRAPS).refused == 1, "a head past the limit");
+    memset(&table, 0xA5, sizeof table);
+    expect(yeqontur_add(table, 1, &one, WRAPS, NULL, WRAPS).refused == 15, "a table that is not sound");
+}
+
 /* A list or buffer of length 0 may be NULL. 2 is a fact and 1 rests on it; no rule has the head 3. */
 static void no_buffer(void) {
     const uint32_t two = 2, three = 3;
@@ -78,6 +87,7 @@ static void numbers(void) {
 
 int main(void) {
     lengths();
+    asked_before();
     no_buffer();
     numbers();
     return counted("the worst arguments from C");

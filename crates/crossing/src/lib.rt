@@ -38,7 +38,8 @@ pub struct RuleSpoiler {
     pub place: u32,
 }
 
-// How many entries were written; with refusal 11, how many are needed.
+// How many entries were written; with refusal 11, how many are needed. The one struct that crosses with padding, behind
+// `refused`: it is read by its fields, and is no part of a table.
 #[repr(C)]
 pub struct Written {
     pub refused: u32,
