@@ -1,6 +1,7 @@
 -- Laws of an answer. Assumes nothing.
 use Prim.Native.Nat.{ℕ, zero, suc, _+_, _-_, _≤_, _<_}
 use native.Mathlib.Omega.{arith}
+use native.Mathlib.Decide.{decLe}
 use native.Mathlib.Nat.{zero-add, sub-zero, zero-sub, suc-sub-suc}
 use mathlib.Core.Path.{_≡_, refl, sym, _∙_, ap}
 use mathlib.Core.Bool.{Bool, true, false}
@@ -146,10 +147,20 @@ spaces-tokens (b ∷ s) = go (isSpace b) refl (spaces-tokens s)
     go true t h = rw t h
     go false t h = rw t (sym (empty-onto b (pieces s)))
 
--- Past the end of a line nothing stands.
-pub reading-past : (line : List ℕ) (from : ℕ) → length line ≤ from → is-blank ≡ reading (drop from line)
-unfolding reading blank spaces
-reading-past line from h = rw (drop-of-length-le line h)
+-- Where a token is left, the place lies in the line.
+pub some-left : (line : List ℕ) (from : ℕ) → empty (tokens (drop from line)) ≡ false → from ≤ length line
+unfolding tokens pieces filled
+some-left line from e = go (decLe from (length line))
+  where
+    none-left : drop from line ≡ [] → true ≡ false
+    none-left d = sym (ap (λ (s : List ℕ). empty (tokens s)) d) ∙ e
+
+    go : Dec (from ≤ length line) → from ≤ length line
+    go (yes l) = l
+    go (no l) =
+        let past : length line ≤ from = omega arith in
+        let t = none-left (drop-of-length-le line past) in
+        absurd (let z : _≡_ {A = ℕ} 0 1 = cc in omega arith)
 
 -- What a line is, by its length and its tokens.
 module _ (line : List ℕ) where

@@ -2,6 +2,7 @@
 use super::Command;
 use super::Parsed;
 use super::Reading;
+use fields::bytes_left;
 use places::Place;
 use tokens::Number;
 use tokens::ended;
@@ -204,11 +205,7 @@ pub fn read(line: &[u8], place: Place) -> Parsed
     ensures { λ r. ⌜ Answers (reading-of (drop (place .offset) (now (line .entry)))) r ⌝ }
     ensures { λ r. ⌜ Onward (now (line .entry)) place (r .place) ⌝ }
 {
-    let from = place.offset;
-    if line.len() < from {
-        return plain(Reading::Blank, place);
-    }
-    if line.len() - from > Parsed::LINE {
+    if bytes_left(line.len(), place.offset) > Parsed::LINE {
         return plain(Reading::TooLong, place);
     }
     if ended(line, place) {
