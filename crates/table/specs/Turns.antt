@@ -3,6 +3,6 @@ use Prim.Native.Nat.{ℕ, _-_}
 use mathlib.Core.Bool.{Bool, true, false}
 
 -- The slot to which a round comes after i others.
-abbrev pub slotAt : ℕ → Bool → ℕ → ℕ
+unfoldable pub slotAt : ℕ → Bool → ℕ → ℕ
 slotAt n false i = i
 slotAt n true i = n - 1 - i
