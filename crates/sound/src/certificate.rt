@@ -1,14 +1,12 @@
 // The kept labels as a certificate: each slot is compared with what is kept of the atoms of its rule.
-use rule::positive_end;
+use depths::level;
 use rule::valid;
-use table::Atom;
 use table::Label;
 use table::Rule;
 use table::Slot;
 use table::Table;
 use table::kept::keep;
 use table::sets::has;
-use table::sets::larger;
 use table::sets::mark;
 use table::sets::number_of;
 use table::sets::slot_of;
@@ -16,27 +14,11 @@ ghost use mathlib.Core.Path.{_≡_};
 ghost use mathlib.Core.Bool.{true};
 ghost use mathlib.Core.Logic.{_↔_};
 ghost use Prim.Native.Nat.{ℕ};
-ghost use Rattle.theory.specs.Certificate.{level, kept-in, kept-depth, kept-slot};
+ghost use Rattle.theory.specs.Certificate.{kept-in, kept-depth, kept-slot};
 ghost use Rattle.table.specs.Sets.{member, number};
-ghost use Rattle.table.specs.Rules.{slotOf, ruleOf, programOf};
+ghost use Rattle.table.specs.Rules.{slotOf, programOf};
 ghost use Rattle.table.specs.Labels.{labelAt};
 ghost use Rattle.sound.specs.Certificate.{Compared, Confirmed};
-
-// The level of a rule: 1 more than the greatest depth of its positive entries.
-fn level(rule: Rule, depths: &[u16; Table::ATOMS]) -> usize
-    ensures { λ r. ⌜ r ≡ level (number (now (depths .entry))) (ruleOf rule) ⌝ }
-{
-    let n = positive_end(rule);
-    let mut most: usize = 0;
-    let mut j: usize = 0;
-    while j < n {
-        let a = rule.entries[j];
-        let d = number_of(depths, a);
-        most = larger(most, d as usize);
-        j += 1;
-    }
-    most + 1
-}
 
 // Is the slot as the kept labels say? If it holds a valid rule, the head is in, not deeper than the rule's level, and
 // where it is as deep, the slot is not before the head's kept slot. The head of a kept slot comes into `found`.
