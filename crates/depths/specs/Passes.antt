@@ -1,7 +1,9 @@
--- What one slot does in a pass over the slots. Assumes nothing.
-use Prim.Native.Nat.{ℕ, _<_}
+-- What the functions of the crate tell each other (private): what one slot does in a pass over the slots. Assumes
+-- nothing.
+use Prim.Native.Nat.{ℕ, suc, _≤_, _<_}
 use mathlib.Core.Path.{_≡_}
 use mathlib.Core.Bool.{Bool, true, false, not, _&&_, _||_}
+use mathlib.Core.Logic.{_⊎_}
 use mathlib.Core.List.{List, [], _∷_}
 use mathlib.Core.Option.{Option, none, some}
 use lib.Dec.{eqb, ltb}
@@ -9,7 +11,8 @@ use lib.ListN.{length, set}
 use Rattle.theory.specs.Lists.{every, any}
 use Rattle.theory.specs.Rules.{Rule, passes, entries}
 use Rattle.theory.specs.Models.{AtomSet, valid}
-use Rattle.table.specs.Sets.{member}
+use Rattle.theory.specs.Certificate.{level}
+use Rattle.table.specs.Sets.{member, number}
 
 -- x has a depth, and one below the limit: 0 stands for an atom that has none.
 abbrev pub within : (ℕ → ℕ) → ℕ → ℕ → Bool
@@ -18,6 +21,22 @@ within d limit x = ltb 0 (d x) && ltb (d x) limit
 -- A slot is ready for a limit if it holds a rule, valid in M, with every positive entry of a depth below the limit.
 unfoldable pub ready : AtomSet → (ℕ → ℕ) → ℕ → Option Rule → Bool
 ready M d limit o = passes (λ r. every (within d limit) (r .positives) && valid M r) o
+
+-- A slot, which is o, lowers the number of its head a: its rule is valid, each positive entry has a number, and the
+-- rule's level is at most n and below the number of a, if a has one.
+pub record Lowers (M : AtomSet) (d : ℕ → ℕ) (n : ℕ) (o : Option Rule) (a : ℕ) : Type 0 where
+  pub rule : Rule
+  pub held : o ≡ some rule
+  pub good : valid M rule ≡ true
+  pub known : every (within d (suc n)) (rule .positives) ≡ true
+  pub low : level d rule ≤ n
+  pub less : (d a ≡ 0) ⊎ (level d rule < d a)
+
+-- The number of a became that level, where the slot lowers it, and the flag says whether it does.
+pub record Lowered (M : AtomSet) (n : ℕ) (o : Option Rule) (a : ℕ) (before after : List ℕ) (flag : Bool) : Type 0 where
+  pub lower :
+      flag ≡ true → (w : Lowers M (number before) n o a) × (after ≡ set before a (level (number before) (w .rule)))
+  pub kept : flag ≡ false → (Lowers M (number before) n o a → ⊥) × (after ≡ before)
 
 -- The list with v at place a, if the test t passes; else as it is.
 abbrev pub put-if : {A : Type 0} → Bool → ℕ → A → List A → List A

@@ -1,23 +1,31 @@
-// Depths level by level, supporting slots, and which atoms occur.
+// Depths, supporting slots, and which atoms occur.
 use rule::negative_end;
 use rule::positive_end;
 use rule::valid;
 use table::Atom;
 use table::Rule;
+use table::Slot;
 use table::Table;
 use table::sets::has;
+use table::sets::larger;
 use table::sets::mark;
 use table::sets::number_of;
 use table::sets::set_number;
+use table::sets::set_slot;
+use table::turns::slot_at;
 ghost use mathlib.Core.Path.{_≡_};
+ghost use mathlib.Core.Bool.{true};
+ghost use mathlib.Core.Logic.{_⊎_, _↔_};
+ghost use Prim.Native.Nat.{_<_};
 ghost use Rattle.theory.specs.Lists.{every};
 ghost use Rattle.theory.specs.Rules.{Bounded, entries};
 ghost use Rattle.theory.specs.Models.{Admissible};
+ghost use Rattle.theory.specs.Certificate.{level};
 ghost use Rattle.theory.specs.Limits.{document};
 ghost use Rattle.table.specs.Sets.{member, number};
 ghost use Rattle.table.specs.Rules.{programOf, slotOf, ruleOf};
 ghost use Rattle.depths.specs.Numbers.{DepthsOf, SupportsOf, OccurringIn};
-ghost use Rattle.depths.specs.Passes.{within, ready, Claimed, atoms, Marked};
+ghost use Rattle.depths.specs.Passes.{within, ready, Lowered, Claimed, atoms, Marked};
 
 // Has every positive entry of the rule a depth (not 0), and one below the limit?
 fn below(rule: Rule, depths: &[u16; Table::ATOMS], limit: u16) -> bool
@@ -52,30 +60,81 @@ fn ready(rule: Rule, model: &[bool; Table::ATOMS], depths: &[u16; Table::ATOMS],
     valid(rule, model)
 }
 
-// The depth of each in atom, 0 for every other: level by level, up to the first level that adds none.
+// The level of a rule: 1 more than the greatest depth of its positive entries.
+pub fn level(rule: Rule, depths: &[u16; Table::ATOMS]) -> usize
+    ensures { λ r. ⌜ r ≡ level (number (now (depths .entry))) (ruleOf rule) ⌝ }
+{
+    let n = positive_end(rule);
+    let mut most: usize = 0;
+    let mut j: usize = 0;
+    while j < n {
+        let a = rule.entries[j];
+        let d = number_of(depths, a);
+        most = larger(most, d as usize);
+        j += 1;
+    }
+    most + 1
+}
+
+// Does an atom get a smaller number? One of number 0 has none yet.
+fn falls(number: u16, to: usize) -> bool
+    ensures { λ r. ⌜ (r ≡ true) ↔ ((number ≡ 0) ⊎ (to < number)) ⌝ }
+{
+    if number == 0 {
+        return true;
+    }
+    to < number as usize
+}
+
+// The number of the slot's head falls to the level of its rule, if that is valid and smaller: did it? A level above
+// ATOMS is no depth.
+fn lower(rule: Rule, model: &[bool; Table::ATOMS], found: &mut [u16; Table::ATOMS]) -> bool
+    ensures { λ r. ⌜ Lowered (member (now (model .entry))) (document .atoms) (slotOf rule) (rule .head .0)
+        (now (found .entry)) (now (found .exit)) r ⌝ }
+{
+    if rule.state == 0 {
+        return false;
+    }
+    if !below(rule, found, 257) {
+        return false;
+    }
+    let to = level(rule, found);
+    if to > Table::ATOMS {
+        return false;
+    }
+    let head = rule.head;
+    let number = number_of(found, head);
+    if !falls(number, to) {
+        return false;
+    }
+    if !valid(rule, model) {
+        return false;
+    }
+    set_number(found, head, to as u16);
+    true
+}
+
+// The depth of each in atom, 0 for every other: rounds over the slots, upwards and downwards in turn, up to the first
+// that lowers none.
 pub fn depths(rules: [Rule; Table::SLOTS], model: &[bool; Table::ATOMS]) -> [u16; Table::ATOMS]
     requires { ⌜ Bounded (programOf rules) (document .atoms) × Admissible (programOf rules) (member (now model)) ⌝ }
     ensures { λ r. ⌜ DepthsOf (programOf rules) (member (now (model .entry))) (number r) ⌝ }
 {
     let mut found: [u16; Table::ATOMS] = [0; Table::ATOMS];
-    let mut level: u16 = 1;
-    let mut added = true;
-    while added {
-        added = false;
-        for i in 0..Table::SLOTS {
-            // the head decides most visits: the rule is copied only if its head has no depth yet
-            let head = Atom(rules[i].head.0);
-            if number_of(&found, head) != 0 {
-                continue;
-            }
-            let rule = rules[i];
-            if !ready(rule, model, &found, level) {
-                continue;
-            }
-            set_number(&mut found, head, level);
-            added = true;
+    let mut round: usize = 0;
+    let mut lowered = true;
+    while lowered {
+        lowered = false;
+        let down = round % 2 == 1;
+        let mut i: usize = 0;
+        while i < Table::SLOTS {
+            let s = slot_at(down, i);
+            let rule = rules[s];
+            let fell = lower(rule, model, &mut found);
+            lowered = fell | lowered;
+            i += 1;
         }
-        level += 1;
+        round += 1;
     }
     found
 }
@@ -84,14 +143,14 @@ pub fn depths(rules: [Rule; Table::SLOTS], model: &[bool; Table::ATOMS]) -> [u16
 // rule is valid with all positive entries of smaller depth.
 fn claim(
     rule: Rule,
-    slot: u16,
+    slot: Slot,
     model: &[bool; Table::ATOMS],
     depths: &[u16; Table::ATOMS],
     found: &mut [bool; Table::ATOMS],
     slots: &mut [u16; Table::ATOMS],
 )
     ensures { λ _. ⌜
-        Claimed (member (now (model .entry))) (number (now (depths .entry))) slot (slotOf rule) (rule .head .0)
+        Claimed (member (now (model .entry))) (number (now (depths .entry))) (slot .0) (slotOf rule) (rule .head .0)
         (now (found .entry)) (now (found .exit)) (now (slots .entry)) (now (slots .exit)) ⌝ }
 {
     let head = rule.head;
@@ -101,7 +160,7 @@ fn claim(
     let limit = number_of(depths, head);
     if ready(rule, model, depths, limit) {
         mark(found, head);
-        set_number(slots, head, slot);
+        set_slot(slots, head, slot);
     }
 }
 
@@ -121,7 +180,8 @@ pub fn supports(
     let mut i: usize = 0;
     while i < Table::SLOTS {
         let rule = rules[i];
-        claim(rule, i as u16, model, depths, &mut found, &mut slots);
+        let n = i as u16;
+        claim(rule, Slot(n), model, depths, &mut found, &mut slots);
         i += 1;
     }
     slots

@@ -18,7 +18,8 @@ use Rattle.theory.specs.Questions.{Question, first-no, asks, atom-questions, sl
 use Rattle.theory.specs.Limits.{document}
 use Rattle.theory.proofs.Lists.{ltb-lt, lt-ltb, unless}
 use Rattle.theory.proofs.Questions.{first-no-yes, first-no-here}
-use Rattle.theory.proofs.Certificate.{Certified, certified-admissible, certified-labels, kept-in}
+use Rattle.theory.specs.Certificate.{kept-in, slot-in}
+use Rattle.theory.proofs.Certificate.{Certified, certified-admissible, certified-labels}
 use Rattle.table.specs.declared.Atom.{Atom}
 use Rattle.table.specs.declared.Label.{Label}
 use Rattle.table.specs.declared.Table.{Table}
@@ -27,7 +28,6 @@ use Rattle.table.specs.Rules.{ruleOf, pastRule}
 use Rattle.table.specs.Labels.{labelAt, labelOf, absentLabel}
 use Rattle.table.specs.Sound.{Sound}
 use Rattle.table.proofs.Programs.{program-at, slot-free, slot-held}
-use Rattle.sound.specs.Certificate.{slot-in}
 use Rattle.sound.proofs.Soundness.{bounded-of, kept-certified, sound-kept, sound-occurrence}
 use Rattle.calls.specs.declared.ListAnswer.{ListAnswer}
 use Rattle.calls.specs.declared.LabelAnswer.{LabelAnswer}

@@ -4,7 +4,7 @@ use mathlib.Core.List.{List, map}
 use Rattle.theory.specs.Questions.{is-in-label}
 use Rattle.table.specs.declared.Label.{Label}
 use Rattle.table.specs.Labels.{labelOf}
-use Rattle.sound.specs.Certificate.{slot-in}
+use Rattle.theory.specs.Certificate.{slot-in}
 use Rattle.queries.specs.declared.kept.Kept.{Kept}
 
 -- What is kept of each atom: is it in, its supporting slot.

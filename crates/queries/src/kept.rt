@@ -4,7 +4,7 @@ use table::Table;
 ghost use mathlib.Core.Path.{_≡_};
 ghost use Rattle.theory.specs.Questions.{is-in-label};
 ghost use Rattle.table.specs.Labels.{labelOf};
-ghost use Rattle.sound.specs.Certificate.{slot-in};
+ghost use Rattle.theory.specs.Certificate.{slot-in};
 ghost use Rattle.queries.specs.Kept.{KeptOf};
 
 // Of each atom: is it in, and its supporting slot (0 where it is not in)?

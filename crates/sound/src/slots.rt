@@ -1,24 +1,23 @@
 // Slots and labels by themselves: each well formed, and no two rules the same.
 use questions::clean::clean_label;
 use questions::clean::well_formed;
+use rule::negative_end;
 use rule::same;
+use table::Atom;
 use table::Label;
 use table::Rule;
 use table::Table;
-use table::sets::number_of;
-use table::sets::set_number;
 ghost use mathlib.Core.Path.{_≡_};
 ghost use mathlib.Core.Bool.{true};
 ghost use mathlib.Core.Logic.{_↔_};
-ghost use Prim.Native.Nat.{ℕ, _<_};
+ghost use Prim.Native.Nat.{ℕ, _<_, _≤_};
 ghost use lib.ListN.{getD};
-ghost use Rattle.theory.specs.Rules.{Bounded};
 ghost use Rattle.theory.specs.Limits.{document};
 ghost use Rattle.table.specs.Sets.{number};
-ghost use Rattle.table.specs.Rules.{slotOf, programOf, pastRule};
+ghost use Rattle.table.specs.Rules.{slotOf, ruleOf, programOf, pastRule};
 ghost use Rattle.table.specs.Labels.{absentLabel};
 ghost use Rattle.table.specs.Clean.{WellFormed, CleanLabel};
-ghost use Rattle.sound.specs.Slots.{Single, linked, noted};
+ghost use Rattle.sound.specs.Slots.{Single, key, linked, noted};
 
 // Is every slot one that a sound table can have?
 pub fn slots_well_formed(rules: [Rule; Table::SLOTS]) -> bool
@@ -50,34 +49,62 @@ pub fn labels_clean(labels: [Label; Table::ATOMS]) -> bool
     true
 }
 
-// Where to start looking for a rule that is the same: 1 more than the last slot so far with a rule of this head; 0 if
+// The number of an atom, which is not above 65535.
+fn wide(a: Atom) -> usize
+    ensures { λ r. ⌜ (r ≡ a .0) × (r ≤ 65535) ⌝ }
+{
+    a.0 as usize
+}
+
+// A number that rules which are the same share: rules are linked by it.
+fn key(rule: Rule) -> usize
+    ensures { λ r. ⌜ r ≡ key (ruleOf rule) ⌝ }
+{
+    let n = negative_end(rule);
+    let mut k = wide(rule.head) % 256;
+    let mut j: usize = 0;
+    while j < n {
+        let a = rule.entries[j];
+        let x = wide(a);
+        k = (31 * k + x) % 256;
+        j += 1;
+    }
+    k
+}
+
+// Where to start looking for a rule that is the same: 1 more than the last slot so far with a rule of this key; 0 if
 // there is none, or the slot is free.
-fn last_of(rule: Rule, last: &[u16; Table::ATOMS]) -> u16
+fn last_of(rule: Rule, last: &[u16; 256]) -> u16
     ensures { λ r. ⌜ r ≡ linked (number (now (last .entry))) (slotOf rule) ⌝ }
 {
     if rule.state == 0 {
         return 0;
     }
-    number_of(last, rule.head)
+    let k = key(rule);
+    let s = &last[..];
+    if k < s.len() { s[k] } else { 0 }
 }
 
-// The slot before `next`, if it holds a rule, is now the last of its head.
-fn note(rule: Rule, last: &mut [u16; Table::ATOMS], next: u16)
+// The slot before `next`, if it holds a rule, is now the last of its key.
+fn note(rule: Rule, last: &mut [u16; 256], next: u16)
     ensures { λ _. ⌜ now (last .exit) ≡ noted (now (last .entry)) (slotOf rule) next ⌝ }
 {
     if rule.state == 0 {
         return;
     }
-    set_number(last, rule.head, next);
+    let k = key(rule);
+    let s = &mut last[..];
+    if k < s.len() {
+        s[k] = next;
+    }
 }
 
-// Are no two rules the same? Rules of one head are linked: `last` has 1 more than the last slot of a head so far,
-// `before` for a slot 1 more than the one before it that has the same head, and 0 says that there is none.
+// Are no two rules the same? Rules of one key are linked: `last` has 1 more than the last slot of a key so far,
+// `before` for a slot 1 more than the one before it that has the same key, and 0 says that there is none.
 pub fn no_two_same(rules: [Rule; Table::SLOTS]) -> bool
-    requires { ⌜ Bounded (programOf rules) (document .atoms) ⌝ }
     ensures { λ r. ⌜ (r ≡ true) ↔ Single (programOf rules) ⌝ }
 {
-    let mut last: [u16; Table::ATOMS] = [0; Table::ATOMS];
+    let mut last: [u16; 256] = [0; 256];
     let mut before: [u16; Table::SLOTS] = [0; Table::SLOTS];
     let mut i: usize = 0;
     while i < Table::SLOTS {

@@ -5,3 +5,5 @@ pub mod Programs
 pub mod Walks
 pub mod Empty
 pub mod Arrays
+pub mod KeptFields
+pub mod SlotsInTurn

@@ -20,8 +20,8 @@ ready-requires c κs = search needs
 mark-requires : tie.Need-mark-requires
 mark-requires c κs = search needs
 
-set-number-requires : tie.Need-set-number-requires
-set-number-requires c κs = search needs
+set-slot-requires : tie.Need-set-slot-requires
+set-slot-requires c κs = search needs
 
 returns-2 : tie.Need-returns-2
 returns-2 c =
@@ -30,7 +30,7 @@ returns-2 c =
     let new = deep .before in
     claimed-new _ _ _ _ _ _ _ (sym (new .before .has .ensures) ∙ new .if1 .left) _ (deep .number-of .ensures)
     (sym (now .before .ready .ensures) ∙ now .if2 .taken) _ _ (c .before .before .mark .ensures)
-    (c .set-number .ensures)
+    (c .set-slot .ensures)
 
 returns-3 : tie.Need-returns-3
 returns-3 c =
@@ -47,6 +47,6 @@ claim-spec =
     number-of-requires
     ready-requires
     mark-requires
-    set-number-requires
+    set-slot-requires
     returns-2
     returns-3)

@@ -29,8 +29,8 @@ mul-rule c = search needs
 array-copy-out-rule : tie.Need-array-copy-out-rule Inv-loop μ-loop
 array-copy-out-rule c = search needs
 
-cast-claim : tie.Need-cast-claim Inv-loop μ-loop
-cast-claim c = search needs
+cast-n : tie.Need-cast-n Inv-loop μ-loop
+cast-n c = search needs
 
 claim-requires : tie.Need-claim-requires Inv-loop μ-loop
 claim-requires c κs = search needs
@@ -67,7 +67,7 @@ supports-spec =
     loop-holds
     mul-rule
     array-copy-out-rule
-    cast-claim
+    cast-n
     claim-requires
     add-i
     loop-less

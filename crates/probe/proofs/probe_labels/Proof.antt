@@ -33,9 +33,7 @@ returns : tie.Need-returns
 returns c = unfit (λ F. refused _ (c .before .slots-well-formed .ensures) (c .if1 .taken) (F .slots))
 
 no-two-same-requires : tie.Need-no-two-same-requires
-no-two-same-requires c κs =
-    let s = c .before .before .before in
-    well-formed-bounded (s .args .table) (rules-long s) (labels-long s) (well c)
+no-two-same-requires c κs = search needs
 
 returns-2 : tie.Need-returns-2
 returns-2 c = unfit (λ F. refused _ (c .before .no-two-same .ensures) (c .if2 .taken) (F .single))

@@ -71,12 +71,7 @@ returns-4 c =
     is-not (λ S. refused _ (c .before .occurrence-kept .ensures) (c .if4 .taken) (sound-occurrence t n m S))
 
 no-two-same-requires : tie.Need-no-two-same-requires
-no-two-same-requires c κs =
-    let s = c .before .before .before .before .before .before .before .before .before .before in
-    let n = rules-long s in
-    let m = labels-long s in
-    let t = s .args .table in
-    well-formed-bounded t n m (well (c .before .before .before .before .before .before))
+no-two-same-requires c κs = search needs
 
 returns-5 : tie.Need-returns-5
 returns-5 c = is-not (λ S. refused _ (c .before .no-two-same .ensures) (c .if5 .taken) (S .labels .single))

@@ -1,5 +1,5 @@
 -- `queries::kept::is_in` meets its contract. Assumes nothing.
-use Rattle.sound.proofs.Apart.{in-test}
+use Rattle.table.proofs.KeptFields.{in-test}
 use Rattle.queries.proofs.kept.is_in.Statement.{statement}
 use Rattle.queries.proofs.kept.is_in.Tie as tie
 

@@ -7,7 +7,7 @@ use lib.ListN.{length}
 use Rattle.theory.specs.Questions.{is-in-label}
 use Rattle.theory.specs.Limits.{document}
 use Rattle.table.specs.Labels.{labelOf, absentLabel}
-use Rattle.sound.specs.Certificate.{slot-in}
+use Rattle.theory.specs.Certificate.{slot-in}
 use Rattle.queries.proofs.Copies.{Copied, copied-start, copied-next, copied-all}
 use borrow.Author.Needs.{needs}
 use Rattle.queries.proofs.kept.keep.Statement.{statement}

@@ -1,8 +1,8 @@
 -- `queries::kept::slot_in` meets its contract. Assumes nothing.
 use mathlib.Core.Path.{refl, sym, ap}
 use Rattle.table.proofs.Programs.{label-kept}
-use Rattle.sound.specs.Certificate.{slot-in}
-use Rattle.sound.proofs.Apart.{label-not-in}
+use Rattle.theory.specs.Certificate.{slot-in}
+use Rattle.table.proofs.KeptFields.{label-not-in}
 use Rattle.queries.proofs.kept.slot_in.Statement.{statement}
 use Rattle.queries.proofs.kept.slot_in.Tie as tie
 

@@ -8,7 +8,7 @@ use Rattle.table.specs.Rules.{slotOf, programOf, pastRule}
 use Rattle.questions.proofs.Cleanness.{is-not}
 use Rattle.sound.proofs.Passes.{slot-at, slot-rule, all-one}
 use Rattle.sound.proofs.Links.{Linked, Following, links-start, links-step, links-all}
-use Rattle.sound.proofs.Links.{follow-from, follow-falls, follow-next, follow-same}
+use Rattle.sound.proofs.Links.{key-below, follow-from, follow-falls, follow-next, follow-same}
 use borrow.Author.Needs.{needs}
 use Rattle.sound.proofs.slots.no_two_same.Statement.{statement}
 use Rattle.sound.proofs.slots.no_two_same.Tie as tie
@@ -21,7 +21,7 @@ abbrev μ-loop2 : tie.MeasureT-loop2
 
 abbrev Inv-loop : tie.InvT-loop
 Inv-loop rules last₀ before₀ i₀ last before i =
-    Linked (programOf rules) (document .atoms) (document .slots) last before i
+    Linked (programOf rules) 256 (document .slots) last before i
 
 abbrev μ-loop : tie.MeasureT-loop
 μ-loop rules last₀ before₀ i₀ last before i = document .slots - i
@@ -45,7 +45,7 @@ loop2-holds : tie.Need-loop2-holds Inv-loop2 μ-loop2 Inv-loop μ-loop
 loop2-holds c =
     let s = c .before .before .before .before .before in
     let l = c .before .before .before .before .loop in
-    follow-from _ 256 256 (s .pre) _ _ (l .i) (l .inv) _ (slot-at (s .args .t1) (l .i)) _ (c .last-of .ensures)
+    follow-from _ 256 256 key-below _ _ (l .i) (l .inv) _ (slot-at (s .args .t1) (l .i)) _ (c .last-of .ensures)
 
 sub-other : tie.Need-sub-other Inv-loop2 μ-loop2 Inv-loop μ-loop
 sub-other c = search needs
@@ -65,7 +65,7 @@ returns c =
     let o = c .before .before .before .before .before .before .before .before .before in
     let s = o .before in
     let x = s .args .t1 in
-    is-not (follow-same _ 256 256 (s .pre) _ _ (o .loop .i) (o .loop .inv) _ (slot-at x (o .loop .i)) (l .k)
+    is-not (follow-same _ 256 256 key-below _ _ (o .loop .i) (o .loop .inv) _ (slot-at x (o .loop .i)) (l .k)
     (c .before .before .before .loop2-test .taken) (l .inv) _ _
     (slot-rule (getD x (o .loop .i) pastRule))
     (λ r g. slot-rule (getD x (l .k - 1) pastRule) r (sym (slot-at x (l .k - 1)) ∙ g))
@@ -86,7 +86,7 @@ cast-k-2 c =
     let o = c .before .before .before .before .before .before .before .before .before in
     let s = o .before in
     let u = l .inv .under in
-    let f = follow-falls _ 256 256 (s .pre) _ _ (o .loop .i) (o .loop .inv) _ (slot-at (s .args .t1) (o .loop .i))
+    let f = follow-falls _ 256 256 key-below _ _ (o .loop .i) (o .loop .inv) _ (slot-at (s .args .t1) (o .loop .i))
     (l .k) (c .before .before .before .loop2-test .taken) (l .inv) in
     omega arith
 
@@ -95,7 +95,7 @@ loop2-less c =
     let l = c .before .before .before .before .loop2 in
     let o = c .before .before .before .before .before .before .before .before .before in
     let s = o .before in
-    follow-falls _ 256 256 (s .pre) _ _ (o .loop .i) (o .loop .inv) _ (slot-at (s .args .t1) (o .loop .i))
+    follow-falls _ 256 256 key-below _ _ (o .loop .i) (o .loop .inv) _ (slot-at (s .args .t1) (o .loop .i))
     (l .k) (c .before .before .before .loop2-test .taken) (l .inv)
 
 loop2-again : tie.Need-loop2-again Inv-loop2 μ-loop2 Inv-loop μ-loop
@@ -104,7 +104,7 @@ loop2-again c =
     let o = c .before .before .before .before .before .before .before .before .before in
     let s = o .before in
     let x = s .args .t1 in
-    follow-next _ 256 256 (s .pre) _ _ (o .loop .i) (o .loop .inv) _ (slot-at x (o .loop .i)) (l .k)
+    follow-next _ 256 256 key-below _ _ (o .loop .i) (o .loop .inv) _ (slot-at x (o .loop .i)) (l .k)
     (c .before .before .before .loop2-test .taken) (l .inv) _ _
     (slot-rule (getD x (o .loop .i) pastRule))
     (λ r g. slot-rule (getD x (l .k - 1) pastRule) r (sym (slot-at x (l .k - 1)) ∙ g))
@@ -136,7 +136,7 @@ loop-again c =
     let l = c .before .before .before .loop2 in
     let o = c .before .before .before .before .before .before .before .before in
     let s = o .before in
-    links-step _ 256 256 (s .pre) _ _ (o .loop .i) (o .loop .inv)
+    links-step _ 256 256 key-below _ _ (o .loop .i) (o .loop .inv)
     (c .before .before .before .before .before .before .before .loop-test .taken) _
     (slot-at (s .args .t1) (o .loop .i)) (l .k) (omega (arith, c .before .before .loop2-test .left)) (l .inv)
     _ (c .before .before .before .before .last-of .ensures) _ (c .note .ensures)
@@ -146,7 +146,7 @@ returns-2 c =
     let s = c .before .before in
     let long : length (s .args .t1) ≡ 256 = search needs in
     let over : length (programOf (s .args .t1)) ≤ c .before .loop .i = simp length-map (omega arith) in
-    (λ t. links-all _ 256 256 (s .pre) _ _ _ (c .before .loop .inv) over, λ h. refl)
+    (λ t. links-all _ 256 256 key-below _ _ _ (c .before .loop .inv) over, λ h. refl)
 
 pub no-two-same-spec : {M : Type 1} → statement M
 no-two-same-spec =

@@ -1,5 +1,7 @@
 -- `sound::slots::note` meets its contract. Assumes nothing.
 use mathlib.Core.Path.{sym, ap, _∙_}
+use lib.ListN.{set}
+use lib.Seq.{set-out}
 use Rattle.sound.specs.Slots.{noted}
 use Rattle.sound.proofs.Passes.{slot-held}
 use borrow.Author.Needs.{needs}
@@ -9,14 +11,29 @@ use Rattle.sound.proofs.slots.note.Tie as tie
 returns : tie.Need-returns
 returns c = search needs
 
-set-number-requires : tie.Need-set-number-requires
-set-number-requires c κs = search needs
+key-requires : tie.Need-key-requires
+key-requires c κs = search needs
+
+mul-s : tie.Need-mul-s
+mul-s c = search needs
+
+slice-write-s : tie.Need-slice-write-s
+slice-write-s c = search needs
 
 returns-2 : tie.Need-returns-2
 returns-2 c =
-    let s = c .before .before .before .before in
-    let held = slot-held (s .args .rule) (c .before .before .if1 .left) in
-    c .set-number .ensures ∙ sym (ap (λ o. noted (s .args .last .now) o (s .args .next)) held)
+    let s = c .before .before .before .before .before in
+    let held = slot-held (s .args .rule) (c .before .before .before .if1 .left) in
+    ap (λ k. set (s .args .last .now) k (s .args .next)) (c .before .before .key .ensures)
+    ∙ sym (ap (λ o. noted (s .args .last .now) o (s .args .next)) held)
+
+returns-3 : tie.Need-returns-3
+returns-3 c =
+    let s = c .before .before .before .before .before in
+    let held = slot-held (s .args .rule) (c .before .before .before .if1 .left) in
+    sym (set-out (s .args .last .now) (c .before .before .key .result) (s .args .next) (search needs))
+    ∙ ap (λ k. set (s .args .last .now) k (s .args .next)) (c .before .before .key .ensures)
+    ∙ sym (ap (λ o. noted (s .args .last .now) o (s .args .next)) held)
 
 pub note-spec : {M : Type 1} → statement M
-note-spec = tie.close (tie.spec returns set-number-requires returns-2)
+note-spec = tie.close (tie.spec returns key-requires mul-s slice-write-s returns-2 returns-3)

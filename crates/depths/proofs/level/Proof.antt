@@ -1,15 +1,15 @@
--- `sound::certificate::level` meets its contract. Assumes nothing.
+-- `depths::level` meets its contract. Assumes nothing.
 use Prim.Native.Nat.{_-_}
 use native.Mathlib.Omega.{arith}
 use lib.ListN.{length, length-map}
-use Rattle.theory.proofs.Depths.{greatest}
+use Rattle.theory.specs.Certificate.{greatest}
 use Rattle.table.specs.Sets.{number}
 use Rattle.table.specs.Rules.{ruleOf}
-use Rattle.sound.proofs.Levels.{Walked, walked-start, walked-next, walked-over}
+use Rattle.depths.proofs.Greatest.{Walked, walked-start, walked-next, walked-over}
 use mathlib.Core.Path.{_≡_}
 use borrow.Author.Needs.{needs}
-use Rattle.sound.proofs.certificate.level.Statement.{statement}
-use Rattle.sound.proofs.certificate.level.Tie as tie
+use Rattle.depths.proofs.level.Statement.{statement}
+use Rattle.depths.proofs.level.Tie as tie
 
 abbrev Inv-loop : tie.InvT-loop
 Inv-loop depths rule n most₀ j₀ most j =
