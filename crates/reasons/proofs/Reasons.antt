@@ -38,17 +38,19 @@ use Rattle.calls.specs.declared.Refusal.the-variants.{Buffer}
 use Rattle.calls.specs.Contracts.{ReasonEnds, short, accepted}
 use Rattle.calls.proofs.Asking.{Passes, passes-low}
 use Rattle.sound.proofs.Soundness.{bounded-of}
-use Rattle.reasons.specs.Kept.{KeptIn, depthAt, slotAt, positivesAt, NumbersOf, EntriesOf, Slotted, KeptEntry}
-use Rattle.reasons.specs.Gathering.{Reached, Falling, Gathers}
-use Rattle.reasons.specs.Gathering as gathering
-use Rattle.reasons.specs.Writing.{Appends, below, by-depth}
-use Rattle.reasons.proofs.Kept.{keeps-entries, positives-none, positives-in, past-label, past-slot}
-use Rattle.reasons.proofs.Writing.{overwrite-all, appends-all, by-depth-at, by-depth-of, by-depth-count}
-use Rattle.reasons.proofs.Writing.{by-depth-sorted}
+use Rattle.gathering.specs.Kept.{KeptIn, depthAt, slotAt, positivesAt, NumbersOf, EntriesOf, Slotted, KeptEntry}
+use Rattle.gathering.specs.Gathering.{Leads, Falling, Gathers}
+use Rattle.gathering.specs.Gathering as gathering
+use Rattle.listing.specs.Lists.{below}
+use Rattle.listing.specs.Written.{Appends}
+use Rattle.ordered.specs.Depths.{by-depth}
+use Rattle.gathering.proofs.Kept.{keeps-entries, positives-none, positives-in, past-label, past-slot}
+use Rattle.listing.proofs.Written.{overwrite-all, appends-all}
+use Rattle.ordered.proofs.Depths.{by-depth-at, by-depth-of, by-depth-count, by-depth-sorted}
 
 -- Where steps fall, what is reached is no deeper.
 reached-depth :
-    {S : ℕ → ℕ → Type 0} {a x : ℕ} (d : ℕ → ℕ) → Falling S d → Reached S a x → d x ≤ d a
+    {S : ℕ → ℕ → Type 0} {a x : ℕ} (d : ℕ → ℕ) → Falling S d → Leads S a x → d x ≤ d a
 reached-depth d f (gathering.self e) = omega (arith, ap d e)
 reached-depth d f (gathering.onward {x = x} {y = y} w s) = omega (arith, reached-depth d f w, f x y s)
 
@@ -84,10 +86,16 @@ module _ (labels : List Label) (a : ℕ) where
 
 -- The atom that passed 15 and 10: its refusal 12, and its reason.
 module _ (t : Table) (a : ℕ) (x : Atom) (Q : Passes t a x) where
-  pub refused-12 : getD (t .labels) (x .0) absentLabel .state < 2 → first-no (questions (t .labels) a) ≡ some 12
-  refused-12 h =
-      no-12 (t .labels) a (passes-low t a x Q)
-      (subst (λ (k : ℕ). getD (t .labels) k absentLabel .state < 2) (Q .atom) h)
+  -- its kept label
+  module _ (l : Label) (e : l ≡ getD (t .labels) (x .0) absentLabel) where
+    pub refused-12 : l .state < 2 → first-no (questions (t .labels) a) ≡ some 12
+    refused-12 h =
+        no-12 (t .labels) a (passes-low t a x Q)
+        (subst (λ (k : ℕ). getD (t .labels) k absentLabel .state < 2) (Q .atom)
+        (subst (λ (z : Label). z .state < 2) e h))
+
+    pub is-kept-in : 2 ≤ l .state → KeptIn (t .labels) (x .0)
+    is-kept-in h = subst (λ (z : Label). 2 ≤ z .state) e h
 
   pub ends-asked :
       (before : List ℕ) (r : ListAnswer) (after : List ℕ) → ReasonEnds t (x .0) before r after
@@ -216,7 +224,7 @@ module _ (t : Table) (long : length (t .labels) ≡ document .atoms) (sound : So
           )
 
       -- What is reached by kept entries from an in atom is gathered from it,
-      reached-gathered : {a x : ℕ} → M a ≡ true → Reached (KeptEntry counts entries) a x → Gathered P M a x
+      reached-gathered : {a x : ℕ} → M a ≡ true → Leads (KeptEntry counts entries) a x → Gathered P M a x
       reached-gathered u (gathering.self e) = asked e
       reached-gathered u (gathering.onward {x = x} {y = y} w k) =
           let v = entry-from-in x y k in
@@ -251,11 +259,11 @@ module _ (t : Table) (long : length (t .labels) ≡ document .atoms) (sound : So
               (λ x y s k l. G .closed is-depth falling x y s (all-alike (document .atoms) x false) k
               (omega (arith, length-replicate (document .atoms) false)))
 
-          reached : (x : ℕ) → member seen x ≡ true → Reached (KeptEntry counts entries) a x
+          reached : (x : ℕ) → member seen x ≡ true → Leads (KeptEntry counts entries) a x
           reached x s = ⊎-elim
               (λ (b : member (replicate (document .atoms) false) x ≡ true).
               absurd (clash b (all-alike (document .atoms) x false)))
-              (λ (w : Reached (KeptEntry counts entries) a x). w)
+              (λ (w : Leads (KeptEntry counts entries) a x). w)
               (G .only x s)
 
           seen-in : (x : ℕ) → member seen x ≡ true → M x ≡ true
@@ -310,10 +318,11 @@ module _ (t : Table) (long : length (t .labels) ≡ document .atoms) (sound : So
               }
 
           -- The ends of the call: there are n slots, which do not fit the buffer, or were written.
-          module _ (buffer : List ℕ) (n : ℕ) (counted : n ≡ length (below (member seen) (document .atoms))) where
+          module _ (buffer : List ℕ) (n : ℕ) (counted : n ≡ length (below (member seen) (length seen))) where
             count-is : n ≡ length written
             count-is =
                 counted
+                ∙ ap (λ (k : ℕ). length (below (member seen) k)) (G .long ∙ length-replicate (document .atoms) false)
                 ∙ sym (length-map atoms (number slots)
                 ∙ by-depth-count (member seen) (number depths) (document .atoms) depth (λ x l. seen-depth x))
 

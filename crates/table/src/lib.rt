@@ -4,6 +4,7 @@ ghost use Rattle.table.specs.Clean.{freeRule, emptyTable};
 ghost use Rattle.table.specs.Labels.{absentLabel};
 
 pub mod sets; // sets.rt: sets, numbers and slots of atoms, kept in arrays
+pub mod parts; // parts.rt: the rule in a slot, the label kept for an atom
 
 // The number of an atom, and the number of a slot. One passed where the other is meant does not build:
 // "error[mismatched-types]: expected `Atom`, found `Slot`".

@@ -25,8 +25,11 @@ number-of-requires c κs = search needs
 gather-requires : tie.Need-gather-requires
 gather-requires c κs = search needs
 
-count-requires : tie.Need-count-requires
-count-requires c κs = search needs
+slice-aggregate-count-marked : tie.Need-slice-aggregate-count-marked
+slice-aggregate-count-marked c = search needs
+
+count-marked-requires : tie.Need-count-marked-requires
+count-marked-requires c κs = search needs
 
 returns : tie.Need-returns
 returns c =
@@ -38,7 +41,7 @@ returns c =
     let s = numbers .before .before .before .before in
     ends-short (s .args .table) (long s) (s .pre .0) _ _ _ _ (numbers .kept-numbers .ensures)
     (copied .kept-entries .ensures) (s .args .a .0) (s .pre .1) _ (depth .number-of .ensures) _
-    (gathered .gather .ensures) (s .args .buffer .now) _ (counted .count .ensures) (c .if1 .taken)
+    (gathered .gather .ensures) (s .args .buffer .now) _ (counted .count-marked .ensures) (c .if1 .taken)
 
 write-slots-requires : tie.Need-write-slots-requires
 write-slots-requires c κs = search needs
@@ -56,7 +59,7 @@ returns-2 c =
     let s = numbers .before .before .before .before in
     ends-written (s .args .table) (long s) (s .pre .0) _ _ _ _ (numbers .kept-numbers .ensures)
     (copied .kept-entries .ensures) (s .args .a .0) (s .pre .1) _ (depth .number-of .ensures) _
-    (gathered .gather .ensures) (s .args .buffer .now) _ (counted .count .ensures)
+    (gathered .gather .ensures) (s .args .buffer .now) _ (counted .count-marked .ensures)
     (c .before .before .before .before .before .before .before .if1 .left) _ _
     (c .before .before .write-slots .ensures)
 
@@ -68,7 +71,8 @@ listed-spec =
     kept-entries-requires
     number-of-requires
     gather-requires
-    count-requires
+    slice-aggregate-count-marked
+    count-marked-requires
     returns
     write-slots-requires
     same-length

@@ -8,7 +8,7 @@ use Rattle.theory.specs.Questions.{is-in-label}
 use Rattle.theory.specs.Limits.{document}
 use Rattle.table.specs.Labels.{labelOf, absentLabel}
 use Rattle.sound.specs.Certificate.{slot-in}
-use Rattle.queries.proofs.Copies.{Copied, copied-start, copied-next, copied-all}
+use Rattle.found.proofs.Copies.{Copied, copied-start, copied-next, copied-all}
 use borrow.Author.Needs.{needs}
 use Rattle.queries.proofs.kept.keep.Statement.{statement}
 use Rattle.queries.proofs.kept.keep.Tie as tie
