@@ -1,3 +1,2 @@
 -- Laws about the definitions of specs/. Nothing here needs to be believed: all of it is checked.
-pub mod Copies
 pub mod Passes

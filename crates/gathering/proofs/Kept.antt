@@ -19,7 +19,7 @@ use Rattle.table.specs.Sets.{number}
 use Rattle.table.specs.Rules.{ruleOf, noAtom, pastRule}
 use Rattle.table.specs.Labels.{labelOf, label-in, absentLabel}
 use Rattle.table.proofs.Programs.{label-kept}
-use Rattle.gathering.specs.Kept.{depthAt, slotAt, positivesOf, positivesAt, place, EntriesKept, KeptEntry}
+use Rattle.gathering.specs.Kept.{slotAt, positivesOf, positivesAt, place, EntriesKept, KeptEntry}
 use Rattle.gathering.specs.Kept.{Room, CopiedTo}
 
 -- Members of a list are what stands at its places.
@@ -211,9 +211,6 @@ pub past-label : (labels : List Label) (n : ℕ) → length labels ≡ n → (a 
 past-label labels n l a h = List·getD-eq-default labels absentLabel (omega arith)
 
 module _ (labels : List Label) (n : ℕ) (l : length labels ≡ n) where
-  pub past-depth : (a : ℕ) → n ≤ a → depthAt labels a ≡ 0
-  past-depth a h = ap (λ k. k .depth) (past-label labels n l a h)
-
   pub past-slot : (a : ℕ) → n ≤ a → slotAt labels a ≡ 0
   past-slot a h = ap (λ k. k .slot .0) (past-label labels n l a h)
 

@@ -1,4 +1,4 @@
--- What gathering from an atom adds to a set. Assumes nothing.
+-- Private: what gathering from an atom adds to a set. Assumes nothing.
 use Prim.Native.Nat.{ℕ, _<_}
 use mathlib.Core.Path.{_≡_}
 use mathlib.Core.Logic.{_⊎_}
@@ -7,7 +7,7 @@ use mathlib.Core.List.{List}
 use lib.ListN.{length}
 use Rattle.table.specs.Sets.{member}
 
--- x is a, or reached from a by steps of S.
+-- Steps of S, or none, lead from a to x.
 pub data Leads (S : ℕ → ℕ → Type 0) (a : ℕ) : ℕ → Type 0 where
   self : {x : ℕ} → x ≡ a → Leads S a x
   onward : {x y : ℕ} → Leads S a x → S x y → Leads S a y

@@ -1,4 +1,4 @@
--- The numbers kept of each atom, and the positive entries of its supporting rule, kept in one array. Assumes nothing.
+-- Private: the positive entries of each atom's supporting rule, kept in one array. Assumes nothing.
 use Prim.Native.Nat.{ℕ, _+_, _*_, _≤_, _<_}
 use mathlib.Core.Path.{_≡_}
 use mathlib.Core.Logic.{_⊎_}
@@ -14,10 +14,7 @@ use Rattle.table.specs.Sets.{number}
 use Rattle.table.specs.Rules.{ruleOf, noAtom, pastRule}
 use Rattle.table.specs.Labels.{labelOf, absentLabel}
 
--- The kept depth of an atom, and the kept slot: 0 past the end.
-abbrev pub depthAt : List Label → ℕ → ℕ
-depthAt labels a = getD labels a absentLabel .depth
-
+-- The kept slot of an atom: 0 past the end.
 abbrev pub slotAt : List Label → ℕ → ℕ
 slotAt labels a = getD labels a absentLabel .slot .0
 
@@ -34,11 +31,6 @@ positivesOf (in-at d s) r = ruleOf r .positives
 -- The positive entries of the rule in the kept slot of an in atom.
 abbrev pub positivesAt : List Rule → List Label → ℕ → List ℕ
 positivesAt rules labels a = positivesOf (labelOf (getD labels a absentLabel)) (getD rules (slotAt labels a) pastRule)
-
--- The depths and slots of the labels, as numbers of atoms.
-pub record NumbersOf (labels : List Label) (depths slots : List ℕ) : Type 0 where
-  pub deep : (a : ℕ) → number depths a ≡ depthAt labels a
-  pub slot : (a : ℕ) → number slots a ≡ slotAt labels a
 
 -- The place of entry j of the atom a in the array of all kept entries.
 abbrev pub place : ℕ → ℕ → ℕ

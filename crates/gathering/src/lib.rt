@@ -13,39 +13,17 @@ ghost use lib.ListN.{length};
 ghost use Rattle.theory.specs.Limits.{document};
 ghost use Rattle.table.specs.Sets.{number};
 ghost use Rattle.table.specs.Labels.{labelOf};
-ghost use Rattle.gathering.specs.Kept.{positivesOf, NumbersOf, EntriesOf, Slotted, place, KeptEntry};
+ghost use Rattle.gathering.specs.Kept.{positivesOf, EntriesOf, Slotted, place, KeptEntry};
 ghost use Rattle.gathering.specs.Kept.{Room, CopiedTo};
 ghost use Rattle.gathering.specs.Gathering.{Gathers};
 
 // Room for the positive entries of each atom's supporting rule.
 pub const ROOM: usize = Table::ATOMS * Table::ENTRIES;
 
-// The kept depth and the kept slot of each atom.
-pub struct Numbers {
-    pub depths: [u16; Table::ATOMS],
-    pub slots: [u16; Table::ATOMS],
-}
-
 // The positive entries of each in atom's supporting rule: how many, and from the atom's place on the entries.
 pub struct Entries {
     pub counts: [u16; Table::ATOMS],
     pub entries: [u16; ROOM],
-}
-
-// The kept depth and the kept slot of each atom, apart.
-pub fn kept_numbers(labels: [Label; Table::ATOMS]) -> Numbers
-    ensures { λ r. ⌜ NumbersOf labels (r .depths) (r .slots) ⌝ }
-{
-    let mut depths: [u16; Table::ATOMS] = [0; Table::ATOMS];
-    let mut slots: [u16; Table::ATOMS] = [0; Table::ATOMS];
-    let mut i: usize = 0;
-    while i < Table::ATOMS {
-        let label = labels[i];
-        depths[i] = label.depth;
-        slots[i] = label.slot.0;
-        i += 1;
-    }
-    Numbers { depths, slots }
 }
 
 // How many positive entries the supporting rule of an atom has: 0 where the atom is not in.

@@ -12,16 +12,16 @@ use Rattle.theory.specs.Models.{AtomSet, Admissible}
 use Rattle.theory.specs.Questions as questions
 use Rattle.theory.specs.Limits.{document}
 use Rattle.theory.proofs.Lists.{count-length}
-use Rattle.theory.proofs.Strata.{Strata}
-use Rattle.theory.proofs.Fill.{Filled, begin, done}
-use Rattle.theory.proofs.Rounds.{sweep, adds, adds-none, sweep-stays, heads-in, grows}
-use Rattle.theory.proofs.Rounds.{fill, fill-stop, fill-go, fill-done}
+use Rattle.theory.specs.Strata.{Strata}
+use Rattle.theory.specs.Rounds.{adds, fill, Filled, sweep}
+use Rattle.theory.proofs.Fill.{begin, done}
+use Rattle.theory.proofs.Rounds.{adds-none, sweep-stays, heads-in, grows, fill-stop, fill-go, fill-done}
 use Rattle.table.specs.declared.Rule.{Rule}
 use Rattle.table.specs.Rules.{slotOf, programOf, pastRule}
 use Rattle.table.specs.Sets.{member}
 use Rattle.table.proofs.Members.{all-alike}
 use Rattle.table.proofs.Programs.{program-at, program-length}
-use Rattle.model.specs.Model.{Stratification}
+use Rattle.model.specs.Model.{Stratified}
 use Rattle.model.specs.Rounds.{Ready, Filling, Greatest}
 use Rattle.model.proofs.Visits.{HeadBelow, Round}
 
@@ -119,7 +119,7 @@ module _ (rules : List Rule) (ℓ : ℕ → ℕ) (k n : ℕ) (full : length rule
 none-found : (n : ℕ) → member (replicate n false) ≡ (λ a. false)
 none-found n = fun-ext (λ a. all-alike n a false)
 
-module _ (rules : List Rule) (ℓ : ℕ → ℕ) (S : Stratification (programOf rules) ℓ) where
+module _ (rules : List Rule) (ℓ : ℕ → ℕ) (S : Stratified (programOf rules) ℓ) where
   pub ready-start : (n : ℕ) → n ≡ document .atoms → Ready (programOf rules) ℓ 0 (replicate n false)
   ready-start n e = record {
     stratified = S;

@@ -13,7 +13,7 @@ use Rattle.theory.specs.Rules.{passes}
 use Rattle.theory.specs.Rules as theory
 use Rattle.theory.specs.Models.{AtomSet, valid}
 use Rattle.theory.proofs.Lists.{clash, eqb-of, eqb-not}
-use Rattle.theory.proofs.Rounds.{fires, put, visit, sweep, adds}
+use Rattle.theory.specs.Rounds.{fires, put, visit, sweep, adds}
 use Rattle.table.specs.declared.Rule.{Rule}
 use Rattle.table.specs.Rules.{ruleOf, held-in, slotOf, programOf, pastRule}
 use Rattle.table.specs.Sets.{member}

@@ -1,5 +1,5 @@
--- Which atoms are missing, and what the rounds of a stratum do to the atoms found so far, as the theory's functions
--- have it. Assumes nothing.
+-- What the functions of the crate tell each other (private): which atoms are missing, and what the rounds of a stratum
+-- do to the atoms found so far, as the theory's functions have it. Assumes nothing.
 use Prim.Native.Nat.{ℕ, suc, _≤_}
 use mathlib.Core.Path.{_≡_}
 use mathlib.Core.Bool.{Bool, not, _&&_}
@@ -9,10 +9,9 @@ use lib.ListN.{length}
 use Rattle.theory.specs.Rules.{Program}
 use Rattle.theory.specs.Models.{AtomSet}
 use Rattle.theory.specs.Limits.{document}
-use Rattle.theory.proofs.Fill.{Filled}
-use Rattle.theory.proofs.Rounds.{fill}
+use Rattle.theory.specs.Rounds.{Filled, fill}
 use Rattle.table.specs.Sets.{member}
-use Rattle.model.specs.Model.{Stratification}
+use Rattle.model.specs.Model.{Stratified}
 
 -- An atom is missing if it is of stratum k and not in M.
 abbrev pub missing : (ℕ → ℕ) → ℕ → AtomSet → ℕ → Bool
@@ -20,7 +19,7 @@ missing ℓ k M a = eqb (ℓ a) k && not (M a)
 
 -- The strata below k are done, and there is room for every atom.
 pub record Ready (P : Program) (ℓ : ℕ → ℕ) (k : ℕ) (found : List Bool) : Type 0 where
-  pub stratified : Stratification P ℓ
+  pub stratified : Stratified P ℓ
   pub filled : Filled P ℓ k (member found)
   pub size : length found ≡ document .atoms
 

@@ -12,7 +12,7 @@ ghost use Rattle.theory.specs.Rules.{passes};
 ghost use Rattle.theory.specs.Models.{valid, Admissible};
 ghost use Rattle.table.specs.Rules.{slotOf, programOf};
 ghost use Rattle.table.specs.Sets.{member, number};
-ghost use Rattle.model.specs.Model.{Stratification};
+ghost use Rattle.model.specs.Model.{Stratified};
 ghost use Rattle.model.specs.Rounds.{missing, Ready, Filling, Greatest};
 
 // Is the atom of stratum k and not in yet?
@@ -93,7 +93,7 @@ fn highest(strata: &[u16; Table::ATOMS]) -> u16
 
 // The admissible model of the rules, given the strata of their atoms.
 pub fn in_atoms(rules: [Rule; Table::SLOTS], strata: &[u16; Table::ATOMS]) -> [bool; Table::ATOMS]
-    requires { ⌜ Stratification (programOf rules) (number (now strata)) ⌝ }
+    requires { ⌜ Stratified (programOf rules) (number (now strata)) ⌝ }
     ensures { λ r. ⌜ Admissible (programOf rules) (member r) ⌝ }
 {
     let top = highest(strata);

@@ -1,10 +1,10 @@
 -- How the calls end: what a sound table keeps is what is defined, and what the leaves answer is what the contracts ask.
 -- Assumes nothing.
 use Prim.Native.Nat.{ℕ}
-use mathlib.Core.Path.{_≡_, sym, _∙_, ap, subst, fun-ext}
+use mathlib.Core.Path.{_≡_, sym, _∙_, ap, subst}
 use mathlib.Core.Bool.{Bool, true, false, true≢false}
 use mathlib.Core.List.{List}
-use lib.ListN.{length, getD, List·getD-map}
+use lib.ListN.{length, getD}
 use Rattle.theory.specs.Lists.{Lists}
 use Rattle.theory.specs.Rules.{Bounded}
 use Rattle.theory.specs.Models.{AtomSet, Admissible}
@@ -12,7 +12,8 @@ use Rattle.theory.specs.Labels.{absent, out, in-at, Labelled, is-in, Supporting
 use Rattle.theory.specs.Labels as theory-labels
 use Rattle.theory.specs.Questions.{atom-questions, is-in-label}
 use Rattle.theory.specs.Limits.{document}
-use Rattle.theory.proofs.Certificate.{Certified, certified-admissible, certified-labels, kept-in}
+use Rattle.theory.specs.Certificate.{kept-in, slot-in}
+use Rattle.theory.proofs.Certificate.{Certified, certified-admissible, certified-labels}
 use Rattle.table.specs.declared.Atom.{Atom}
 use Rattle.table.specs.declared.Label.{Label}
 use Rattle.table.specs.declared.Rule.{Rule}
@@ -23,7 +24,9 @@ use Rattle.table.specs.Rules.{ruleOf}
 use Rattle.table.specs.Clean.{freeRule}
 use Rattle.table.specs.Labels.{labelAt, labelOf, absentLabel}
 use Rattle.table.specs.Sound.{Sound}
-use Rattle.sound.specs.Certificate.{slot-in}
+use Rattle.table.specs.declared.kept.Kept.{Kept}
+use Rattle.table.specs.Kept.{KeptOf}
+use Rattle.table.proofs.KeptFields.{flags-are, slots-are}
 use Rattle.sound.proofs.Soundness.{bounded-of, kept-certified, sound-kept, sound-occurrence}
 use Rattle.calls.specs.declared.Refusal.{Refusal}
 use Rattle.calls.specs.declared.Asked.{Asked}
@@ -40,8 +43,6 @@ use Rattle.calls.proofs.Asking.{Passes, passes-low, ask-passed, list-refused, P
 use Rattle.listing.specs.Lists.{below}
 use Rattle.listing.specs.Written.{Written, short, fits}
 use Rattle.listing.proofs.Lists.{flags-list}
-use Rattle.queries.specs.declared.kept.Kept.{Kept}
-use Rattle.queries.specs.Kept.{KeptOf}
 
 -- Every atom of a sound table's rules is below the number of atoms.
 pub sound-bounded : (t : Table) → Sound t → Bounded (held t) (document .atoms)
@@ -74,16 +75,8 @@ module _ (t : Table) (slots : length (t .rules) ≡ document .slots) (atoms : le
 
   -- the same of the arrays
   module _ (k : Kept) (K : KeptOf (t .labels) k) where
-    pub flags-kept : member (k .flags) ≡ kept-in label
-    flags-kept = fun-ext (λ a. ap (λ (xs : List Bool). member xs a) (K .flags)
-        ∙ List·getD-map (λ l. is-in-label (labelOf l)) (t .labels) a absentLabel)
-
-    slots-kept : (a : ℕ) → number (k .slots) a ≡ slot-in (label a)
-    slots-kept a = ap (λ (xs : List ℕ). number xs a) (K .slots)
-        ∙ List·getD-map (λ l. slot-in (labelOf l)) (t .labels) a absentLabel
-
     pub flags-model : Admissible (held t) (member (k .flags))
-    flags-model = rw flags-kept sound-model
+    flags-model = rw (flags-are (t .labels) k K) sound-model
 
     pub spoiler-ends :
         (s : ℕ) (x : Slot) → PassesSlot t s x → (q : Rule) → q ≡ getD (t .rules) (x .0) freeRule → (r : SpoilerAnswer)
@@ -95,8 +88,9 @@ module _ (t : Table) (slots : length (t .rules) ≡ document .slots) (atoms : le
     pub flags-supports :
         (h : ℕ) → member (k .flags) h ≡ true → Supporting (held t) (member (k .flags)) h (number (k .slots) h)
     flags-supports h e =
-        let q : kept-in label h ≡ true = sym (ap (λ (M : AtomSet). M h) flags-kept) ∙ e in
-        rw (flags-kept, slots-kept h) (sound-supports h q)
+        let q : kept-in label h ≡ true = sym (ap (λ (M : AtomSet). M h) (flags-are (t .labels) k K)) ∙ e in
+        let s : number (k .slots) h ≡ slot-in (label h) = ap (λ (f : ℕ → ℕ). f h) (slots-are (t .labels) k K) in
+        rw (flags-are (t .labels) k K, s) (sound-supports h q)
 
 -- How a call on an atom ends that tells its kept label.
 pub label-ends :

@@ -12,13 +12,13 @@ use found::following;
 use found::justifying;
 use listing::write_marked;
 use table::Table;
+use table::kept::keep;
 use table::parts::label_of;
 use table::parts::rule_in;
 ghost use Rattle.calls.specs.Contracts.{LabelEnds, SpoilerEnds};
 ghost use Rattle.calls.specs.Contracts.{JustificationsEnd, ConsequencesEnd, RepercussionsEnd};
 
 mod answers; // answers.rt: one kept label, one spoiler, told as an answer
-mod kept; // kept.rt: what the labels keep, in arrays
 
 // The label of an atom: absent, out, or in with depth and supporting slot. Asks 15, 10.
 pub fn label(table: Table, atom: u32) -> LabelAnswer
@@ -46,7 +46,7 @@ pub fn spoiler(table: Table, slot: u32) -> SpoilerAnswer
             let rules = table.rules;
             let rule = rule_in(rules, s);
             let labels = table.labels;
-            let k = kept::keep(labels);
+            let k = keep(labels);
             let flags = k.flags;
             answers::tell_spoiler(rule, &flags)
         }
@@ -95,7 +95,7 @@ pub fn repercussions(table: Table, atom: u32, buffer: &mut [u32]) -> ListAnswer
         Asked::Passed(a) => {
             let rules = table.rules;
             let labels = table.labels;
-            let k = kept::keep(labels);
+            let k = keep(labels);
             let flags = k.flags;
             let slots = k.slots;
             let all = reached(rules, &flags, &slots, a);

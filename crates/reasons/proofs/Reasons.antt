@@ -16,6 +16,7 @@ use Rattle.theory.specs.Derivations.{Depth}
 use Rattle.theory.specs.Labels.{Supporting, Labelled, is-absent, is-out, is-in}
 use Rattle.theory.specs.Explanations.{Gathered, asked, onward, Before, SlotsOf, Reason}
 use Rattle.theory.specs.Questions.{Question, first-no, reason-questions, is-in-label}
+use Rattle.theory.specs.Certificate.{depth-in, slot-in}
 use Rattle.theory.specs.Limits.{document}
 use Rattle.theory.proofs.Lists.{clash, le-or-lt, lt-ltb}
 use Rattle.theory.proofs.Rules.{held-unique, valid-positive}
@@ -30,6 +31,9 @@ use Rattle.table.specs.Sets.{member, number}
 use Rattle.table.specs.Rules.{programOf, pastRule}
 use Rattle.table.specs.Labels.{label-in, labelAt, absentLabel}
 use Rattle.table.specs.Sound.{Sound}
+use Rattle.table.specs.declared.kept.Kept.{Kept}
+use Rattle.table.specs.Kept.{KeptOf}
+use Rattle.table.proofs.KeptFields.{depths-are, slots-are}
 use Rattle.table.proofs.Members.{all-alike}
 use Rattle.table.proofs.Programs.{held-rule, label-kept}
 use Rattle.calls.specs.declared.ListAnswer.{ListAnswer}
@@ -38,7 +42,7 @@ use Rattle.calls.specs.declared.Refusal.the-variants.{Buffer}
 use Rattle.calls.specs.Contracts.{ReasonEnds, short, accepted}
 use Rattle.calls.proofs.Asking.{Passes, passes-low}
 use Rattle.sound.proofs.Soundness.{bounded-of}
-use Rattle.gathering.specs.Kept.{KeptIn, depthAt, slotAt, positivesAt, NumbersOf, EntriesOf, Slotted, KeptEntry}
+use Rattle.gathering.specs.Kept.{KeptIn, slotAt, positivesAt, EntriesOf, Slotted, KeptEntry}
 use Rattle.gathering.specs.Gathering.{Leads, Falling, Gathers}
 use Rattle.gathering.specs.Gathering as gathering
 use Rattle.listing.specs.Lists.{below}
@@ -147,7 +151,7 @@ module _ (t : Table) (long : length (t .labels) ≡ document .atoms) (sound : So
 
   -- Its kept depth and slot are the defined ones.
   kept : (x : ℕ) → M x ≡ true
-      → (2 ≤ at x .state) × Depth P M x (depthAt (t .labels) x) × Supporting P M x (slotAt (t .labels) x)
+      → (2 ≤ at x .state) × Depth P M x (at x .depth) × Supporting P M x (slotAt (t .labels) x)
   kept x u = state-in P M founded x _ _ _ (sound .labels .labels x (in-below x u)) u
 
   -- Every kept slot is a slot of the table.
@@ -182,15 +186,29 @@ module _ (t : Table) (long : length (t .labels) ≡ document .atoms) (sound : So
   gathered-in u (onward {x = x} {y = y} s r g S h m) = positive-in x (gathered-in u g) s r S h y m
 
   module _
-      (depths slots counts entries : List ℕ) (numbers : NumbersOf (t .labels) depths slots)
+      (k : Kept) (K : KeptOf (t .labels) k) (counts entries : List ℕ)
       (copied : EntriesOf (t .rules) (t .labels) counts entries)
     where
       -- An in atom's depth and slot, as the arrays have them.
+      abbrev depths : List ℕ
+      depths = k .depths
+
+      abbrev slots : List ℕ
+      slots = k .slots
+
       deep : (x : ℕ) → M x ≡ true → Depth P M x (number depths x)
-      deep x u = subst (Depth P M x) (sym (numbers .deep x)) (kept x u .1)
+      deep x u =
+          let w = kept x u in
+          subst (Depth P M x)
+          (sym (ap (λ (f : ℕ → ℕ). f x) (depths-are (t .labels) k K) ∙ ap depth-in (label-kept (at x) (omega (arith, w .0)))))
+          (w .1)
 
       supporting : (x : ℕ) → M x ≡ true → Supporting P M x (number slots x)
-      supporting x u = subst (Supporting P M x) (sym (numbers .slot x)) (kept x u .2)
+      supporting x u =
+          let w = kept x u in
+          subst (Supporting P M x)
+          (sym (ap (λ (f : ℕ → ℕ). f x) (slots-are (t .labels) k K) ∙ ap slot-in (label-kept (at x) (omega (arith, w .0)))))
+          (w .2)
 
       -- Only an in atom has kept entries: the positive entries of its supporting rule.
       entry-from-in : (x y : ℕ) → KeptEntry counts entries x y → M x ≡ true

@@ -11,12 +11,12 @@ use lib.Seq.{getD-set-same, getD-set-other}
 use Rattle.theory.specs.Rules.{Rule, Program, Held}
 use Rattle.theory.specs.Models.{AtomSet, valid}
 use Rattle.theory.proofs.Lists.{clash, le-or-lt}
-use Rattle.theory.proofs.Certificate.{level}
+use Rattle.theory.specs.Certificate.{level}
 use Rattle.table.specs.declared.Rule as table
 use Rattle.table.specs.Sets.{member}
 use Rattle.table.specs.Rules.{slotOf, programOf, pastRule}
 use Rattle.questions.proofs.Cleanness.{is-not}
-use Rattle.sound.specs.Certificate.{Agrees, Backs, Compared, Backed, Supported}
+use Rattle.sound.specs.Certificate.{Agrees, Backs, Compared, Backed, Confirmed}
 use Rattle.sound.proofs.Passes.{equal?, slot-at, head-at}
 
 module _ (M : AtomSet) (d s : ℕ → ℕ) (i : ℕ) (o : Option Rule) (a : ℕ) (before : List Bool) where
@@ -191,12 +191,12 @@ module _ (P : Program) (M : AtomSet) (d s : ℕ → ℕ) (n : ℕ) where
         }
 
   -- A slot that does not agree.
-  pub unsupported : (i : ℕ) → (Agrees M d s i (getD P i none) → ⊥) → (false ≡ true) ↔ Supported P M d s
-  unsupported i f = is-not (λ S. f (S .agrees i))
+  pub unconfirmed : (i : ℕ) → (Agrees M d s i (getD P i none) → ⊥) → (false ≡ true) ↔ Confirmed P M d s
+  unconfirmed i f = is-not (λ S. f (S .agrees i))
 
   -- The end of the pass: all are found exactly if all are supported.
   pub checked-all : (found : List Bool) (i : ℕ) → length P ≤ i → Checked P M d s n found i
-      → (t : Bool) → (t ≡ true) ↔ ((a : ℕ) → M a ≡ true → member found a ≡ true) → (t ≡ true) ↔ Supported P M d s
+      → (t : Bool) → (t ≡ true) ↔ ((a : ℕ) → M a ≡ true → member found a ≡ true) → (t ≡ true) ↔ Confirmed P M d s
   checked-all found i l C t told = (
     λ u. record { agrees = agree; backed = λ a m. C .found-at a (told .0 u a m) },
     λ S. told .1 (λ a m. C .found-of a m (low a (S .backed a m)) (S .backed a m)),
@@ -225,8 +225,8 @@ module _ (rules : List table.Rule) (M : AtomSet) (d s : ℕ → ℕ) (i : ℕ) (
       (λ (o : Option Rule). Compared M d s i o (getD rules i pastRule .head .0) before after t)
       (sym (slot-at rules i)) K
 
-  pub slot-fails : t ≡ false → (false ≡ true) ↔ Supported (programOf rules) M d s
-  slot-fails u = unsupported (programOf rules) M d s 0 i (λ A. clash (compared .test .1 A) u)
+  pub slot-fails : t ≡ false → (false ≡ true) ↔ Confirmed (programOf rules) M d s
+  slot-fails u = unconfirmed (programOf rules) M d s 0 i (λ A. clash (compared .test .1 A) u)
 
   pub slot-passes :
       (n : ℕ) → ((a : ℕ) → M a ≡ true → a < n) → Checked (programOf rules) M d s n before i → t ≡ true

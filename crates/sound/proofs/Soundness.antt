@@ -15,16 +15,16 @@ use Rattle.theory.specs.Labels.{Label, absent, out, in-at, Labelled, is-absent}
 use Rattle.theory.specs.Limits.{Limits}
 use Rattle.theory.specs.Questions.{Question, first-no, rule-questions, is-in-label}
 use Rattle.theory.specs.Limits.{document}
+use Rattle.theory.specs.Certificate.{kept-in, kept-depth, kept-slot, depth-in, slot-in}
 use Rattle.theory.proofs.Lists.{test, ltb-lt, every-at, le-or-lt}
 use Rattle.theory.proofs.Certificate.{Certified, certified-admissible, certified-labels, labels-certified}
-use Rattle.theory.proofs.Certificate.{kept-in, kept-depth, depth-in}
 use Rattle.table.specs.declared.Table.{Table}
 use Rattle.table.specs.Rules.{programOf, pastRule}
 use Rattle.table.specs.Labels.{labelAt, labelOf, absentLabel}
 use Rattle.table.specs.Clean.{WellFormed, CleanLabel}
 use Rattle.table.specs.Sound.{Sound}
 use Rattle.sound.specs.Slots.{Single}
-use Rattle.sound.specs.Certificate.{slot-in, Supported, OccurrenceKept}
+use Rattle.sound.specs.Certificate.{Confirmed, OccurrenceKept}
 use Rattle.sound.proofs.Passes.{slot-at}
 
 -- Where no question is answered no, the first is answered yes, and none of the rest is answered no.
@@ -54,8 +54,8 @@ bounded-of limits P f s r h x m =
 
 -- The local conditions, slot by slot and atom by atom.
 module _ (P : Program) (label : ℕ → Label) where
-  abbrev pub Kept : Type 0
-  Kept = Supported P (kept-in label) (kept-depth label) (λ a. slot-in (label a))
+  abbrev pub KeptConfirmed : Type 0
+  KeptConfirmed = Confirmed P (kept-in label) (kept-depth label) (kept-slot label)
 
   in-is : (l : Label) → is-in-label l ≡ true → l ≡ in-at (depth-in l) (slot-in l)
   in-is absent t = absurd (let y : _≡_ {A = ℕ} 0 1 = cc in omega arith)
@@ -63,7 +63,7 @@ module _ (P : Program) (label : ℕ → Label) where
   in-is (in-at d s) t = refl
 
   -- Certified labels agree with every slot, and each in atom is backed.
-  pub certified-kept : Certified P label → Kept
+  pub certified-kept : Certified P label → KeptConfirmed
   certified-kept C = record {
     agrees = λ i. record {
       closed = C .closed i;
@@ -90,7 +90,7 @@ module _ (P : Program) (label : ℕ → Label) where
           record { slot = s; rule = w .0; held = w .1; there = List·Memᴰ·head (sym (w .2)) }
 
   -- And back.
-  pub kept-certified : Kept → OccurrenceKept P label → Certified P label
+  pub kept-certified : KeptConfirmed → OccurrenceKept P label → Certified P label
   kept-certified K O = record {
     closed = λ s. K .agrees s .closed;
     least = λ s. K .agrees s .least;
@@ -158,7 +158,7 @@ module _ (t : Table) (slots : length (t .rules) ≡ document .slots) (atoms : le
     sound-certified : Certified P label
     sound-certified = labels-certified P (S .labels .model) label (S .labels .admissible) all-labelled
 
-    pub sound-kept : Kept P label
+    pub sound-kept : KeptConfirmed P label
     sound-kept = certified-kept P label sound-certified
 
     pub sound-occurrence : OccurrenceKept P label
@@ -166,7 +166,7 @@ module _ (t : Table) (slots : length (t .rules) ≡ document .slots) (atoms : le
 
   -- And what makes a table sound.
   pub sound-of :
-      WellFormedSlots → CleanLabels → Kept P label → OccurrenceKept P label → Single P → (NegativeCycle P → ⊥) → Sound t
+      WellFormedSlots → CleanLabels → KeptConfirmed P label → OccurrenceKept P label → Single P → (NegativeCycle P → ⊥) → Sound t
   sound-of W L K O U A =
       let C = kept-certified P label K O in
       record {

@@ -1,32 +1,16 @@
--- What is kept of the atoms, compared with one slot. Assumes nothing.
-use Prim.Native.Nat.{ℕ, zero, _≤_}
+-- What is kept of the atoms, compared with the slots: what the passes of question 15 tell each other. Assumes nothing.
+use Prim.Native.Nat.{ℕ, _≤_}
 use mathlib.Core.Path.{_≡_}
 use mathlib.Core.Bool.{Bool, true}
-use mathlib.Core.List.{List, map}
+use mathlib.Core.List.{List}
 use mathlib.Core.Logic.{_⊎_, _↔_}
 use mathlib.Core.Option.{Option, none, some}
 use lib.ListN.{getD, set}
 use Rattle.theory.specs.Rules.{Rule, Program, Held, Occurs}
 use Rattle.theory.specs.Models.{AtomSet, valid}
 use Rattle.theory.specs.Labels as theory
-use Rattle.theory.specs.Labels.{absent, out, in-at}
-use Rattle.theory.specs.Questions.{is-in-label}
-use Rattle.theory.proofs.Certificate.{level, depth-in}
-use Rattle.table.specs.declared.Label.{Label}
-use Rattle.table.specs.Labels.{labelOf}
-use Rattle.sound.specs.declared.certificate.Kept.{Kept}
-
--- The supporting slot that a label keeps, 0 if it is not in.
-abbrev pub slot-in : theory.Label → ℕ
-slot-in absent = zero
-slot-in out = zero
-slot-in (in-at d s) = s
-
--- What is kept of each atom: is it in, its depth, its supporting slot.
-pub record KeptOf (labels : List Label) (k : Kept) : Type 0 where
-  pub flags : k .flags ≡ map (λ l. is-in-label (labelOf l)) labels
-  pub depths : k .depths ≡ map (λ l. depth-in (labelOf l)) labels
-  pub slots : k .slots ≡ map (λ l. slot-in (labelOf l)) labels
+use Rattle.theory.specs.Labels.{absent}
+use Rattle.theory.specs.Certificate.{level}
 
 -- Slot i, which is o, agrees with the in atoms M, their depths d and their slots s: if it holds a valid rule, the head
 -- is in and not deeper than the rule's level, and if it is as deep, its slot is not a later one.
@@ -59,8 +43,8 @@ pub record Backed (P : Program) (M : AtomSet) (d s : ℕ → ℕ) (a : ℕ) : Ty
   pub good : valid M rule ≡ true
   pub deep : level d rule ≡ d a
 
--- Every slot agrees, and every in atom is backed.
-pub record Supported (P : Program) (M : AtomSet) (d s : ℕ → ℕ) : Type 0 where
+-- The rules confirm what is kept: every slot agrees, and every in atom is backed.
+pub record Confirmed (P : Program) (M : AtomSet) (d s : ℕ → ℕ) : Type 0 where
   pub agrees : (i : ℕ) → Agrees M d s i (getD P i none)
   pub backed : (a : ℕ) → M a ≡ true → Backed P M d s a
 

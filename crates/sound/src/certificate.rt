@@ -4,72 +4,23 @@ use rule::valid;
 use table::Atom;
 use table::Label;
 use table::Rule;
+use table::Slot;
 use table::Table;
+use table::kept::keep;
 use table::sets::has;
+use table::sets::larger;
 use table::sets::mark;
 use table::sets::number_of;
+use table::sets::slot_of;
 ghost use mathlib.Core.Path.{_≡_};
 ghost use mathlib.Core.Bool.{true};
 ghost use mathlib.Core.Logic.{_↔_};
-ghost use Prim.Native.Nat.{ℕ, max};
-ghost use Rattle.theory.specs.Questions.{is-in-label};
-ghost use Rattle.theory.proofs.Certificate.{level, depth-in, kept-in, kept-depth};
+ghost use Prim.Native.Nat.{ℕ};
+ghost use Rattle.theory.specs.Certificate.{level, kept-in, kept-depth, kept-slot};
 ghost use Rattle.table.specs.Sets.{member, number};
 ghost use Rattle.table.specs.Rules.{slotOf, ruleOf, programOf};
-ghost use Rattle.table.specs.Labels.{labelOf, labelAt};
-ghost use Rattle.sound.specs.Certificate.{slot-in, KeptOf, Compared, Supported};
-
-// What is kept of each atom: is it in, its depth and its supporting slot (both 0 where it is not in)?
-struct Kept {
-    flags: [bool; Table::ATOMS],
-    depths: [u16; Table::ATOMS],
-    slots: [u16; Table::ATOMS],
-}
-
-fn is_in(label: Label) -> bool
-    ensures { λ r. ⌜ r ≡ is-in-label (labelOf label) ⌝ }
-{
-    label.state > 1
-}
-
-fn depth_in(label: Label) -> u16
-    ensures { λ r. ⌜ r ≡ depth-in (labelOf label) ⌝ }
-{
-    if label.state > 1 { label.depth } else { 0 }
-}
-
-fn slot_in(label: Label) -> u16
-    ensures { λ r. ⌜ r ≡ slot-in (labelOf label) ⌝ }
-{
-    if label.state > 1 { label.slot.0 } else { 0 }
-}
-
-fn apart(labels: [Label; Table::ATOMS]) -> Kept
-    ensures { λ r. ⌜ KeptOf labels r ⌝ }
-{
-    let mut flags: [bool; Table::ATOMS] = [false; Table::ATOMS];
-    let mut depths: [u16; Table::ATOMS] = [0; Table::ATOMS];
-    let mut slots: [u16; Table::ATOMS] = [0; Table::ATOMS];
-    let mut a: usize = 0;
-    while a < Table::ATOMS {
-        let label = labels[a];
-        flags[a] = is_in(label);
-        depths[a] = depth_in(label);
-        slots[a] = slot_in(label);
-        a += 1;
-    }
-    Kept {
-        flags: flags,
-        depths: depths,
-        slots: slots,
-    }
-}
-
-fn larger(x: usize, y: usize) -> usize
-    ensures { λ r. ⌜ r ≡ max x y ⌝ }
-{
-    if x < y { y } else { x }
-}
+ghost use Rattle.table.specs.Labels.{labelAt};
+ghost use Rattle.sound.specs.Certificate.{Compared, Confirmed};
 
 // The level of a rule: 1 more than the greatest depth of its positive entries.
 fn level(rule: Rule, depths: &[u16; Table::ATOMS]) -> usize
@@ -91,14 +42,14 @@ fn level(rule: Rule, depths: &[u16; Table::ATOMS]) -> usize
 // where it is as deep, the slot is not before the head's kept slot. The head of a kept slot comes into `found`.
 fn agrees(
     rule: Rule,
-    slot: u16,
+    slot: Slot,
     flags: &[bool; Table::ATOMS],
     depths: &[u16; Table::ATOMS],
     slots: &[u16; Table::ATOMS],
     found: &mut [bool; Table::ATOMS],
 ) -> bool
     ensures { λ r. ⌜ Compared (member (now (flags .entry))) (number (now (depths .entry)))
-        (number (now (slots .entry))) slot (slotOf rule) (rule .head .0)
+        (number (now (slots .entry))) (slot .0) (slotOf rule) (rule .head .0)
         (now (found .entry)) (now (found .exit)) r ⌝ }
 {
     if rule.state == 0 {
@@ -119,11 +70,11 @@ fn agrees(
     if depth < reach {
         return true;
     }
-    let kept = number_of(slots, head);
-    if kept < slot {
+    let kept = slot_of(slots, head);
+    if kept.0 < slot.0 {
         return true;
     }
-    if kept > slot {
+    if kept.0 > slot.0 {
         return false;
     }
     mark(found, head);
@@ -150,10 +101,10 @@ fn all_found(flags: &[bool; Table::ATOMS], found: &[bool; Table::ATOMS]) -> bool
 // Are the kept depths and supporting slots those that the rules ask for?
 pub fn certified(rules: [Rule; Table::SLOTS], labels: [Label; Table::ATOMS]) -> bool
     ensures { λ r. ⌜ (r ≡ true)
-        ↔ Supported (programOf rules) (kept-in (labelAt labels)) (kept-depth (labelAt labels))
-        (λ a. slot-in (labelAt labels a)) ⌝ }
+        ↔ Confirmed (programOf rules) (kept-in (labelAt labels)) (kept-depth (labelAt labels))
+        (kept-slot (labelAt labels)) ⌝ }
 {
-    let k = apart(labels);
+    let k = keep(labels);
     let flags = k.flags;
     let depths = k.depths;
     let slots = k.slots;
@@ -161,7 +112,8 @@ pub fn certified(rules: [Rule; Table::SLOTS], labels: [Label; Table::ATOMS]) -> 
     let mut i: usize = 0;
     while i < Table::SLOTS {
         let rule = rules[i];
-        if !agrees(rule, i as u16, &flags, &depths, &slots, &mut found) {
+        let n = i as u16;
+        if !agrees(rule, Slot(n), &flags, &depths, &slots, &mut found) {
             return false;
         }
         i += 1;

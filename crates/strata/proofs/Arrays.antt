@@ -1,5 +1,5 @@
--- The rounds over the table's own slots and numbers, and the answers that they end with. Assumes nothing.
--- The numbers of slots and atoms are parameters of each law.
+-- The rounds over the table's own slots and numbers, upwards or downwards, and the answers that they end with. Assumes
+-- nothing. The numbers of slots and atoms are parameters of each law.
 use Prim.Native.Nat.{ℕ, _+_, _≤_, _<_}
 use native.Mathlib.Omega.{arith}
 use mathlib.Core.Path.{_≡_, refl, sym, _∙_, ap, subst}
@@ -12,13 +12,15 @@ use Rattle.theory.specs.Rules as theory
 use Rattle.theory.specs.Questions.{rules}
 use Rattle.table.specs.declared.Rule.{Rule}
 use Rattle.table.specs.Sets.{number}
+use Rattle.table.specs.Turns.{slotAt}
 use Rattle.table.specs.Rules.{slotOf, programOf, pastRule}
 use Rattle.table.proofs.Members.{all-alike}
+use Rattle.table.proofs.SlotsInTurn.{slot-at-each}
 use Rattle.table.proofs.Programs.{program-at, program-length, held-rule}
 use Rattle.strata.specs.Answer.{StrataOf}
 use Rattle.strata.specs.Needed.{needed, Raised}
 use Rattle.strata.proofs.Answer.{told-strata, told-cycle}
-use Rattle.strata.proofs.Rounds.{Rounds, Slots, rounds-start, slots-start, slot-next}
+use Rattle.strata.proofs.Rounds.{ComesToAll, Rounds, Slots, rounds-start, slots-start, slot-next}
 use Rattle.strata.proofs.Rounds.{slots-over, slots-rest, slots-passed}
 
 -- No more rules are held than there are slots.
@@ -36,45 +38,60 @@ module _ (rows : List Rule) (S : ℕ) (long : length rows ≡ S) where
   pub start : (b : ℕ) → Rounds (programOf rows) S 0 (number (replicate b 0))
   start b = rounds-start (programOf rows) S few (number (replicate b 0)) (λ a. all-alike b a 0)
 
-  pub begin : (k : ℕ) (xs : List ℕ) → Rounds (programOf rows) S k (number xs)
-      → Slots (programOf rows) S k 0 (number xs) false
-  begin k xs R = slots-start (programOf rows) S few k (number xs) R
+  pub begin : (down : Bool) (k : ℕ) (xs : List ℕ) → Rounds (programOf rows) S k (number xs)
+      → Slots (programOf rows) (slotAt S down) S k 0 (number xs) false
+  begin down k xs R = slots-start (programOf rows) S few (slotAt S down) k (number xs) R
 
-  module _ (k i : ℕ) (xs : List ℕ) (raised : Bool) (T : Slots (programOf rows) S k i (number xs) raised) where
+  -- A whole round has come to every slot.
+  comes : (down : Bool) (i : ℕ) → S ≤ i → ComesToAll (programOf rows) (slotAt S down) i
+  comes down i l s m =
+      let w = slot-at-each S down s (omega (arith, program-length rows)) in
+      (w .0, omega (arith, w .1), w .2)
+
+  module _ (down : Bool) (k i : ℕ) (xs : List ℕ) (raised : Bool)
+      (T : Slots (programOf rows) (slotAt S down) S k i (number xs) raised) where
+    abbrev at : ℕ → ℕ
+    at = slotAt S down
+
+    -- What the slot come to needs.
+    needs : (s n : ℕ) → s ≡ at i → n ≡ needed (number xs) (slotOf (getD rows s pastRule))
+        → n ≡ needed (number xs) (slotOf (getD rows (at i) pastRule))
+    needs s n q e = e ∙ ap (λ (z : ℕ). needed (number xs) (slotOf (getD rows z pastRule))) q
+
     -- A slot needs a number above S.
-    pub passed : (n : ℕ) → n ≡ needed (number xs) (slotOf (getD rows i pastRule)) → S < n
+    pub passed : (s n : ℕ) → s ≡ at i → n ≡ needed (number xs) (slotOf (getD rows s pastRule)) → S < n
         → StrataOf (programOf rows) (record { acyclic = false; of = xs })
-    passed n e l =
+    passed s n q e l =
         told-cycle (programOf rows) xs
-        (slots-passed (programOf rows) S few k (number xs) i raised T
-        (omega (arith, ap (needed (number xs)) (program-at rows i))))
+        (slots-passed (programOf rows) S few at k (number xs) i raised T
+        (omega (arith, ap (needed (number xs)) (program-at rows (at i)), needs s n q e)))
 
     -- One slot.
     pub next :
-        (b : ℕ) → length xs ≡ b → Bounded (programOf rows) b → (n : ℕ) (ys : List ℕ) (flag : Bool)
-        → n ≡ needed (number xs) (slotOf (getD rows i pastRule))
-        → Raised xs (getD rows i pastRule .head .0) n ys flag
-        → Slots (programOf rows) S k (i + 1) (number ys) (flag || raised)
-    next b wide B n ys flag e R =
-        slot-next (programOf rows) S few k i xs ys raised flag _ n T
-        (e ∙ ap (needed (number xs)) (sym (program-at rows i)))
+        (b : ℕ) → length xs ≡ b → Bounded (programOf rows) b → (s n : ℕ) (ys : List ℕ) (flag : Bool) → s ≡ at i
+        → n ≡ needed (number xs) (slotOf (getD rows s pastRule))
+        → Raised xs (getD rows s pastRule .head .0) n ys flag
+        → Slots (programOf rows) at S k (i + 1) (number ys) (flag || raised)
+    next b wide B s n ys flag q e R =
+        slot-next (programOf rows) S few at k i xs ys raised flag _ n T
+        (needs s n q e ∙ ap (needed (number xs)) (sym (program-at rows (at i))))
         (λ r h. (
-        let q : r .head ≡ getD rows i pastRule .head .0 =
-        sym (ap (λ (p : theory.Rule). p .head) (held-rule rows i r h)) in
-        (q, omega (arith, q, B i r h (r .head) (List·Memᴰ·head refl)))))
-        R
+        let y : r .head ≡ getD rows (at i) pastRule .head .0 =
+        sym (ap (λ (p : theory.Rule). p .head) (held-rule rows (at i) r h)) in
+        (y, omega (arith, y, B (at i) r h (r .head) (List·Memᴰ·head refl)))))
+        (subst (λ (z : ℕ). Raised xs (getD rows z pastRule .head .0) n ys flag) q R)
 
     -- A round is over that raised none, or one.
     pub rest : raised ≡ false → S ≤ i → StrataOf (programOf rows) (record { acyclic = true; of = xs })
     rest t l =
         told-strata (programOf rows) xs
-        (slots-rest (programOf rows) S few k (number xs) i (omega (arith, program-length rows))
-        (subst (λ u. Slots (programOf rows) S k i (number xs) u) t T))
+        (slots-rest (programOf rows) S few at k (number xs) i (comes down i l)
+        (subst (λ u. Slots (programOf rows) at S k i (number xs) u) t T))
 
     pub more : raised ≡ true → S ≤ i → Rounds (programOf rows) S (k + 1) (number xs)
     more t l =
-        slots-over (programOf rows) S few k (number xs) i (omega (arith, program-length rows))
-        (subst (λ u. Slots (programOf rows) S k i (number xs) u) t T)
+        slots-over (programOf rows) S few at k (number xs) i (comes down i l)
+        (subst (λ u. Slots (programOf rows) at S k i (number xs) u) t T)
 
   -- S + 1 rounds each raised a number.
   pub over : (k : ℕ) (xs : List ℕ) → Rounds (programOf rows) S k (number xs) → S < k

@@ -17,7 +17,8 @@ use Rattle.theory.specs.Questions.{rules}
 use Rattle.theory.proofs.Lists.{le-or-lt}
 use Rattle.theory.proofs.Rules.{held-unique}
 use Rattle.theory.proofs.Cycles.{negative-cycle?}
-use Rattle.theory.proofs.Strata.{Strata, strata-exact, few-negatives}
+use Rattle.theory.specs.Strata.{Strata}
+use Rattle.theory.proofs.Strata.{strata-exact, few-negatives}
 use Rattle.table.specs.Sets.{number}
 use Rattle.table.proofs.Members.{number-same, number-other}
 use Rattle.strata.specs.Needed.{needed, Raised}
@@ -61,13 +62,18 @@ pub record Rounds (P : Program) (S k : ℕ) (ℓ : ℕ → ℕ) : Type 0 where
   pub covers : Covers P k ℓ
   pub late : S < k → NegativeCycle P
 
--- After k rounds and i slots of the next, in which a number was raised or none was.
-pub record Slots (P : Program) (S k i : ℕ) (ℓ : ℕ → ℕ) (raised : Bool) : Type 0 where
+-- After k rounds and i slots of the next, in which a number was raised or none was. The next round comes to the slots
+-- `at 0`, `at 1`, ..: in which order does not matter.
+pub record Slots (P : Program) (at : ℕ → ℕ) (S k i : ℕ) (ℓ : ℕ → ℕ) (raised : Bool) : Type 0 where
   pub attained : Attained P ℓ
   pub covers : Covers P k ℓ
-  pub visited : (s : ℕ) (r : Rule) → s < i → Held P s r → Visited P k ℓ r
-  pub resting : raised ≡ false → (s : ℕ) (r : Rule) → s < i → Held P s r → Resting ℓ r
+  pub visited : (j : ℕ) (r : Rule) → j < i → Held P (at j) r → Visited P k ℓ r
+  pub resting : raised ≡ false → (j : ℕ) (r : Rule) → j < i → Held P (at j) r → Resting ℓ r
   pub late : raised ≡ true → S ≤ k → NegativeCycle P
+
+-- The first i places of a round have come to every slot.
+abbrev pub ComesToAll : Program → (ℕ → ℕ) → ℕ → Type 0
+ComesToAll P at i = (s : ℕ) → s < length P → (j : ℕ) × (j < i) × (at j ≡ s)
 
 -- A path from a rule's head that weighs what the rule needs.
 pub needed-path :
@@ -136,8 +142,8 @@ module _ (P : Program) (S : ℕ) (few : length (rules P) ≤ S) where
       none-heavy l (stay e) = omega arith
       none-heavy l (step o d v q) = absurd (omega arith)
 
-  module _ (k : ℕ) (ℓ : ℕ → ℕ) where
-    pub slots-start : Rounds P S k ℓ → Slots P S k 0 ℓ false
+  module _ (at : ℕ → ℕ) (k : ℕ) (ℓ : ℕ → ℕ) where
+    pub slots-start : Rounds P S k ℓ → Slots P at S k 0 ℓ false
     slots-start R = record {
       attained = R .attained;
       covers = R .covers;
@@ -147,7 +153,7 @@ module _ (P : Program) (S : ℕ) (few : length (rules P) ≤ S) where
     }
 
     -- The end of a round that raised a number.
-    pub slots-over : (i : ℕ) → length P ≤ i → Slots P S k i ℓ true → Rounds P S (k + 1) ℓ
+    pub slots-over : (i : ℕ) → ComesToAll P at i → Slots P at S k i ℓ true → Rounds P S (k + 1) ℓ
     slots-over i l T = record {
       attained = T .attained;
       covers = λ a c n j m v. further m v;
@@ -157,19 +163,22 @@ module _ (P : Program) (S : ℕ) (few : length (rules P) ≤ S) where
         further : {a c n j : ℕ} → n ≤ k + 1 → Walk P everywhere a c n j → j ≤ ℓ a
         further m (stay e) = omega arith
         further m (step {x = x} {c = c} {w = w} {n = n} {j = j} o d v q) =
-            let b = held-below P (d .slot) (d .rule) (d .held) in
+            let y = l (d .slot) (held-below P (d .slot) (d .rule) (d .held)) in
+            let there = subst (λ (z : ℕ). Held P z (d .rule)) (sym (y .2)) (d .held) in
             omega (
               arith,
               ap ℓ (d .heads),
-              T .visited (d .slot) (d .rule) (omega arith) (d .held) x w (d .entry) c n j (omega arith) v,
+              T .visited (y .0) (d .rule) (y .1) there x w (d .entry) c n j (omega arith) v,
             )
 
     -- The end of a round that raised none: the numbers are the strata.
-    pub slots-rest : (i : ℕ) → length P ≤ i → Slots P S k i ℓ false → (a : ℕ) → Stratum P a (ℓ a)
+    pub slots-rest : (i : ℕ) → ComesToAll P at i → Slots P at S k i ℓ false → (a : ℕ) → Stratum P a (ℓ a)
     slots-rest i l T a = strata-exact P ℓ at-rest a (T .attained a .0) (T .attained a .1)
       where
         below : (s : ℕ) (r : Rule) → Held P s r → Resting ℓ r
-        below s r h = (let b = held-below P s r h in T .resting refl s r (omega arith) h)
+        below s r h =
+            let y = l s (held-below P s r h) in
+            T .resting refl (y .0) r (y .1) (subst (λ (z : ℕ). Held P z r) (sym (y .2)) h)
 
         at-rest : Strata P ℓ
         at-rest = record {
@@ -178,45 +187,48 @@ module _ (P : Program) (S : ℕ) (few : length (rules P) ≤ S) where
         }
 
     -- A number needed that is above S.
-    pub slots-passed : (i : ℕ) (raised : Bool) → Slots P S k i ℓ raised → S < needed ℓ (getD P i none) → NegativeCycle P
-    slots-passed i raised T l = go (getD P i none) refl l
+    pub slots-passed :
+        (i : ℕ) (raised : Bool) → Slots P at S k i ℓ raised → S < needed ℓ (getD P (at i) none) → NegativeCycle P
+    slots-passed i raised T l = go (getD P (at i) none) refl l
       where
-        go : (o : Option Rule) → getD P i none ≡ o → S < needed ℓ o → NegativeCycle P
+        go : (o : Option Rule) → getD P (at i) none ≡ o → S < needed ℓ o → NegativeCycle P
         go none e l = absurd (omega arith)
-        go (some r) e l = heavy (needed-path P ℓ (T .attained) i r e .1) l
+        go (some r) e l = heavy (needed-path P ℓ (T .attained) (at i) r e .1) l
 
     -- The next slot, at which nothing is raised, or the number of its rule's head.
-    module _ (i : ℕ) (raised : Bool) (T : Slots P S k i ℓ raised) where
-      slot-kept : ((r : Rule) → Held P i r → needed ℓ (some r) ≤ ℓ (r .head)) → Slots P S k (i + 1) ℓ raised
+    module _ (i : ℕ) (raised : Bool) (T : Slots P at S k i ℓ raised) where
+      slot-kept :
+          ((r : Rule) → Held P (at i) r → needed ℓ (some r) ≤ ℓ (r .head)) → Slots P at S k (i + 1) ℓ raised
       slot-kept enough = record {
         attained = T .attained;
         covers = T .covers;
-        visited = λ s r l. one-more s i l (λ j. Held P j r → Visited P k ℓ r) (λ j. T .visited s r j)
+        visited = λ s r l. one-more s i l (λ j. Held P (at j) r → Visited P k ℓ r) (λ j. T .visited s r j)
             (λ h x w t c n j m v. omega (arith, rests r h x w t, T .covers x c n j m v));
-        resting = λ t s r l. one-more s i l (λ j. Held P j r → Resting ℓ r) (λ j. T .resting t s r j) (rests r);
+        resting = λ t s r l. one-more s i l (λ j. Held P (at j) r → Resting ℓ r) (λ j. T .resting t s r j) (rests r);
         late = T .late;
       }
         where
-          rests : (r : Rule) → Held P i r → Resting ℓ r
+          rests : (r : Rule) → Held P (at i) r → Resting ℓ r
           rests r h x w t = omega (arith, enough r h, needed-enough ℓ r x w t)
 
       slot-raised :
-          (m : ℕ → ℕ) (q : Rule) → Held P i q → Higher ℓ m (q .head) (needed ℓ (some q)) → Slots P S k (i + 1) m true
+          (m : ℕ → ℕ) (q : Rule) → Held P (at i) q → Higher ℓ m (q .head) (needed ℓ (some q))
+          → Slots P at S k (i + 1) m true
       slot-raised m q held H = record {
-        attained = higher-attained P ℓ m (q .head) _ H (T .attained) (needed-path P ℓ (T .attained) i q held);
+        attained = higher-attained P ℓ m (q .head) _ H (T .attained) (needed-path P ℓ (T .attained) (at i) q held);
         covers = λ a c n j l v. omega (arith, up a, T .covers a c n j l v);
-        visited = λ s r l. one-more s i l (λ j. Held P j r → Visited P k m r)
+        visited = λ s r l. one-more s i l (λ j. Held P (at j) r → Visited P k m r)
             (λ z h x w t c n j l v. omega (arith, up (r .head), T .visited s r z h x w t c n j l v))
             (λ h x w t c n j l v. omega (
               arith,
               T .covers x c n j l v,
               needed-enough ℓ r x w t,
               H .there,
-              ap (λ (p : Rule). m (p .head)) (held-unique P i q r held h),
-              ap (λ (p : Rule). needed ℓ (some p)) (held-unique P i q r held h),
+              ap (λ (p : Rule). m (p .head)) (held-unique P (at i) q r held h),
+              ap (λ (p : Rule). needed ℓ (some p)) (held-unique P (at i) q r held h),
             ));
         resting = λ t. absurd (true≢false t);
-        late = λ t l. uncovered k ℓ (T .covers) l (needed-path P ℓ (T .attained) i q held .1) (H .more);
+        late = λ t l. uncovered k ℓ (T .covers) l (needed-path P ℓ (T .attained) (at i) q held .1) (H .more);
       }
         where
           up : (x : ℕ) → ℓ x ≤ m x
@@ -224,24 +236,24 @@ module _ (P : Program) (S : ℕ) (few : length (rules P) ≤ S) where
 
   -- The next slot, in the words of the code: `a` is its rule's head, if it holds one.
   pub slot-next :
-      (k i : ℕ) (xs ys : List ℕ) (raised flag : Bool) (a n : ℕ) → Slots P S k i (number xs) raised
-      → n ≡ needed (number xs) (getD P i none)
-      → ((r : Rule) → Held P i r → (r .head ≡ a) × (a < length xs))
-      → Raised xs a n ys flag → Slots P S k (i + 1) (number ys) (flag || raised)
-  slot-next k i xs ys raised false a n T e heads R =
+      (at : ℕ → ℕ) (k i : ℕ) (xs ys : List ℕ) (raised flag : Bool) (a n : ℕ) → Slots P at S k i (number xs) raised
+      → n ≡ needed (number xs) (getD P (at i) none)
+      → ((r : Rule) → Held P (at i) r → (r .head ≡ a) × (a < length xs))
+      → Raised xs a n ys flag → Slots P at S k (i + 1) (number ys) (flag || raised)
+  slot-next at k i xs ys raised false a n T e heads R =
       let t = R .kept refl in
-      subst (λ (zs : List ℕ). Slots P S k (i + 1) (number zs) raised) (sym (t .1))
-      (slot-kept k (number xs) i raised T (λ r h.
+      subst (λ (zs : List ℕ). Slots P at S k (i + 1) (number zs) raised) (sym (t .1))
+      (slot-kept at k (number xs) i raised T (λ r h.
       omega (arith, t .0, e, ap (needed (number xs)) h, ap (number xs) (heads r h .0))))
-  slot-next k i xs ys raised true a n T e heads R = go (getD P i none) refl
+  slot-next at k i xs ys raised true a n T e heads R = go (getD P (at i) none) refl
     where
-      go : (o : Option Rule) → getD P i none ≡ o → Slots P S k (i + 1) (number ys) true
+      go : (o : Option Rule) → getD P (at i) none ≡ o → Slots P at S k (i + 1) (number ys) true
       go none h = absurd (omega (arith, R .higher refl .0, e, ap (needed (number xs)) h))
       go (some r) h =
           let t = R .higher refl in
           let q = heads r h in
           let same : n ≡ needed (number xs) (some r) = e ∙ ap (needed (number xs)) h in
-          slot-raised k (number xs) i raised T (number ys) r h (record {
+          slot-raised at k (number xs) i raised T (number ys) r h (record {
             there = ap₂ number (t .1) (q .0) ∙ number-same xs a n (q .1) ∙ same;
             elsewhere = λ x d. ap (λ zs. number zs x) (t .1) ∙ number-other xs a n x (λ z. d (z ∙ sym (q .0)));
             more = omega (arith, t .0, same, ap (number xs) (q .0));

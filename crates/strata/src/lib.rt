@@ -4,10 +4,12 @@ use rule::positive_end;
 use table::Atom;
 use table::Rule;
 use table::Table;
+use table::sets::larger;
 use table::sets::number_of;
 use table::sets::set_number;
+use table::turns::slot_at;
 ghost use mathlib.Core.Path.{_≡_};
-ghost use Prim.Native.Nat.{_≤_, max};
+ghost use Prim.Native.Nat.{_≤_};
 ghost use lib.Seq.{slice};
 ghost use Rattle.theory.specs.Rules.{Bounded};
 ghost use Rattle.theory.specs.Limits.{document};
@@ -20,13 +22,6 @@ ghost use Rattle.strata.specs.Needed.{greatest, needed, Raised};
 pub struct Stratification {
     pub acyclic: bool,
     pub of: [u16; Table::ATOMS],
-}
-
-// The greater of the two.
-fn larger(x: usize, y: usize) -> usize
-    ensures { λ r. ⌜ r ≡ max x y ⌝ }
-{
-    if x < y { y } else { x }
 }
 
 // The greatest number among the entries from `from` to below `to`, each `step` more than is kept for it; 0 if none.
@@ -72,6 +67,7 @@ fn raise(kept: &mut [u16; Table::ATOMS], a: Atom, n: u16) -> bool
 
 // Rounds over the slots, each of which raises heads to what their rules need, up to the first that raises none.
 // Only a negative cycle lets a number pass SLOTS, or a round that SLOTS others came before still raise one.
+// Every fourth round walks downwards: a chain against the order of the slots settles in it.
 pub fn strata(rules: [Rule; Table::SLOTS]) -> Stratification
     requires { ⌜ Bounded (programOf rules) (document .atoms) ⌝ }
     ensures { λ r. ⌜ StrataOf (programOf rules) r ⌝ }
@@ -79,10 +75,12 @@ pub fn strata(rules: [Rule; Table::SLOTS]) -> Stratification
     let mut of: [u16; Table::ATOMS] = [0; Table::ATOMS];
     let mut round: usize = 0;
     while round <= Table::SLOTS {
+        let down = round % 4 == 3;
         let mut raised = false;
         let mut i: usize = 0;
         while i < Table::SLOTS {
-            let rule = rules[i];
+            let s = slot_at(down, i);
+            let rule = rules[s];
             let n = needed(rule, &of);
             if n > Table::SLOTS {
                 return Stratification {

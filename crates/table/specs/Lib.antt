@@ -2,6 +2,8 @@
 pub mod Sets
 pub mod Rules
 pub mod Labels
+pub mod Kept
+pub mod Turns
 pub mod Questions
 pub mod Clean
 pub mod Sound

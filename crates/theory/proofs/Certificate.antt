@@ -18,10 +18,11 @@ use Rattle.theory.specs.Derivations.{also, by, Depth, Derivation, Deriva
 use Rattle.theory.specs.Labels.{absent, in-at, is-absent, is-in, is-out, Label, Labelled, out, Supporting}
 use Rattle.theory.specs.Labels.{Supports}
 use Rattle.theory.specs.Questions.{is-in-label, rules}
+use Rattle.theory.specs.Certificate.{depth-in, greatest, kept-depth, kept-in, level}
 use Rattle.theory.proofs.Lists.{clash, in-mem, le-or-lt, mem, mem-in, test, unless}
 use Rattle.theory.proofs.Rules.{rules-of, valid-positive}
 use Rattle.theory.proofs.Derivations.{entry, last}
-use Rattle.theory.proofs.Depths.{depth-unique, greatest, greatest-le, settled-depth}
+use Rattle.theory.proofs.Depths.{depth-unique, greatest-le, settled-depth}
 use Rattle.theory.proofs.Labels.{in-occurs}
 
 -- The greatest of some atoms' numbers.
@@ -33,10 +34,6 @@ greatest-at d (y ∷ ys) x m = ⊎-elim
     (λ (e : x ≡ y). omega (arith, ap d e))
     (λ (m′ : x ∈ ys). omega (arith, greatest-at d ys x m′))
     (List·Memᴰ·cases-cons m)
-
--- The level of a rule: 1 more than the greatest depth of its positive entries.
-abbrev pub level : (ℕ → ℕ) → Rule → ℕ
-level d r = suc (greatest d (r .positives))
 
 -- The local equation of depths: no valid rule has a level below its head's depth, and each in atom has a valid rule
 -- whose level is its depth.
@@ -201,19 +198,6 @@ module _ (P : Program) (M : AtomSet) (d : ℕ → ℕ) where
           ordered = w .1 .ordered;
           exactly = λ a. ((λ t. w .1 .all a t (depth-bound a t)), (λ m. w .1 .inside a m));
         }
-
--- What is kept of an atom: is it in, and at which depth (0 where it is not in)?
-
-abbrev pub kept-in : (ℕ → Label) → AtomSet
-kept-in label = λ a. is-in-label (label a)
-
-abbrev pub depth-in : Label → ℕ
-depth-in absent = zero
-depth-in out = zero
-depth-in (in-at d s) = d
-
-abbrev pub kept-depth : (ℕ → Label) → ℕ → ℕ
-kept-depth label = λ a. depth-in (label a)
 
 -- The conditions, each on one rule or one atom.
 pub record Certified (P : Program) (label : ℕ → Label) : Type 0 where

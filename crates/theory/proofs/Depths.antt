@@ -15,6 +15,7 @@ use Rattle.theory.specs.Lists.{_∈_, every}
 use Rattle.theory.specs.Rules.{any-rule, Held, Program, Rule}
 use Rattle.theory.specs.Models.{AtomSet, Closed, Founded, next, Ordered, start, valid}
 use Rattle.theory.specs.Derivations.{by, Depth, Derivation}
+use Rattle.theory.specs.Certificate.{greatest}
 use Rattle.theory.proofs.Lists.{and-l, and-of, and-r, clash, count, count-length, count-lt, eqb-eq, eqb-of}
 use Rattle.theory.proofs.Lists.{every-at, every-of, in-mem, le-or-lt, mem, mem-in, test, unless}
 use Rattle.theory.proofs.Rules.{any-rule-at, any-rule-of}
@@ -164,11 +165,6 @@ module _ (P : Program) (M : AtomSet) where
       (λ p mp. (level-end k d low c xs o p (earlier p mp), low p)) in omega (arith, ap d (e ∙ sym q))))
       (λ (m′ : x ∈ xs). level-end k d low c xs o x m′)
       (List·Memᴰ·cases-cons m)
-
--- The greatest of some atoms' numbers, 0 where there is none.
-unfoldable pub greatest : (ℕ → ℕ) → List ℕ → ℕ
-greatest d [] = zero
-greatest d (x ∷ xs) = max (d x) (greatest d xs)
 
 pub greatest-le : (d : ℕ → ℕ) (h : ℕ) (xs : List ℕ) → ((x : ℕ) → x ∈ xs → d x ≤ h) → greatest d xs ≤ h
 unfolding greatest

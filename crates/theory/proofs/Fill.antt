@@ -10,13 +10,11 @@ use lib.Dec.{eqb}
 use Rattle.theory.specs.Lists.{_∈_}
 use Rattle.theory.specs.Rules.{Held, Program, Rule}
 use Rattle.theory.specs.Models.{Admissible, AtomSet, Founded, next, Ordered, start, valid}
+use Rattle.theory.specs.Strata.{Strata}
+use Rattle.theory.specs.Rounds.{ClosedBelow, Filled, with}
 use Rattle.theory.proofs.Lists.{clash, eqb-eq, eqb-of, or-cases, or-l, or-r, unless}
 use Rattle.theory.proofs.Rules.{valid-negative, valid-of, valid-positive}
-use Rattle.theory.proofs.Strata.{agree-below, ClosedBelow, order-within, Strata}
-
--- The set M and one more atom.
-abbrev pub with : ℕ → AtomSet → AtomSet
-with a M = λ x. eqb x a || M x
+use Rattle.theory.proofs.Strata.{agree-below, order-within}
 
 pub with-self : (a : ℕ) (M : AtomSet) → with a M a ≡ true
 with-self a M = or-l _ _ (eqb-of a a refl)
@@ -30,12 +28,6 @@ with-cases a M x h = ⊎-elim (λ (p : eqb x a ≡ true). inl (eqb-eq x a p))
 
 pub with-other : (a : ℕ) (M : AtomSet) (x : ℕ) → (x ≡ a → ⊥) → with a M x ≡ M x
 with-other a M x ne = rw (unless (eqb x a) (λ t. ne (eqb-eq x a t)))
-
--- The strata below k are done, and M has nothing above k.
-pub record Filled (P : Program) (ℓ : ℕ → ℕ) (k : ℕ) (M : AtomSet) : Type 0 where
-  pub founded : Founded P M
-  pub low : (a : ℕ) → M a ≡ true → ℓ a ≤ k
-  pub shut : ClosedBelow P ℓ k M
 
 module _ (P : Program) (ℓ : ℕ → ℕ) (L : Strata P ℓ) where
   pub begin : Filled P ℓ zero (λ a. false)

@@ -8,9 +8,11 @@ use Rattle.theory.specs.Rules.{Held, Program, Rule}
 use Rattle.theory.specs.Models.{Admissible, AtomSet}
 use Rattle.theory.specs.Dependencies.{NegativeCycle}
 use Rattle.theory.specs.Questions.{rules}
-use Rattle.theory.proofs.Strata.{acyclic-strata, model-unique, rules-below, rules-below-bound, Strata}
-use Rattle.theory.proofs.Fill.{begin, done, Filled}
-use Rattle.theory.proofs.Rounds.{fill, fill-done}
+use Rattle.theory.specs.Strata.{Strata}
+use Rattle.theory.specs.Rounds.{fill, Filled}
+use Rattle.theory.proofs.Strata.{acyclic-strata, model-unique, rules-below, rules-below-bound}
+use Rattle.theory.proofs.Fill.{begin, done}
+use Rattle.theory.proofs.Rounds.{fill-done}
 
 -- The strata from k on, j of them; at most f rounds each.
 unfoldable pub climb : ℕ → (ℕ → ℕ) → Program → ℕ → ℕ → AtomSet → AtomSet

@@ -15,40 +15,13 @@ use Rattle.theory.specs.Rules.{Held, Program, Rule}
 use Rattle.theory.specs.Models.{Admissible, AtomSet, next, Ordered, start, valid}
 use Rattle.theory.specs.Derivations.{Derivation}
 use Rattle.theory.specs.Questions.{rules}
+use Rattle.theory.specs.Strata.{Strata}
+use Rattle.theory.specs.Rounds.{adds, fill, Filled, fires, put, sweep, visit, with}
 use Rattle.theory.proofs.Lists.{and-l, and-of, and-r, clash, count, count-length, count-lt, eqb-eq, eqb-of}
 use Rattle.theory.proofs.Lists.{false-not, le-or-lt, not-true, or-false-l, or-false-r, test, unless}
 use Rattle.theory.proofs.Rules.{rules-of, valid-negative, valid-of, valid-positive}
-use Rattle.theory.proofs.Strata.{Strata}
-use Rattle.theory.proofs.Fill.{Filled, inside, mark, meets, rise, with, with-keep, with-self}
+use Rattle.theory.proofs.Fill.{inside, mark, meets, rise, with-keep, with-self}
 use Rattle.theory.proofs.Derivations.{entry, last}
-
--- The page has a rule of stratum k that is valid and whose head is not in yet.
-unfoldable pub fires : (ℕ → ℕ) → ℕ → AtomSet → Option Rule → Bool
-fires ℓ k M none = false
-fires ℓ k M (some r) = eqb (ℓ (r .head)) k && (not (M (r .head)) && valid M r)
-
-abbrev pub put : Bool → Option Rule → AtomSet → AtomSet
-put false o M = M
-put true none M = M
-put true (some r) M = with (r .head) M
-
-unfoldable pub visit : (ℕ → ℕ) → ℕ → AtomSet → Option Rule → AtomSet
-visit ℓ k M o = put (fires ℓ k M o) o M
-
--- One round, and whether it adds any.
-unfoldable pub sweep : (ℕ → ℕ) → ℕ → AtomSet → Program → AtomSet
-sweep ℓ k M [] = M
-sweep ℓ k M (o ∷ P) = sweep ℓ k (visit ℓ k M o) P
-
-unfoldable pub adds : (ℕ → ℕ) → ℕ → AtomSet → Program → Bool
-adds ℓ k M [] = false
-adds ℓ k M (o ∷ P) = fires ℓ k M o || adds ℓ k (visit ℓ k M o) P
-
--- Rounds up to the first that adds none, and their number; the first argument bounds it.
-unfoldable pub fill : ℕ → (ℕ → ℕ) → Program → ℕ → AtomSet → AtomSet × ℕ
-fill zero ℓ P k M = (M, zero)
-fill (suc f) ℓ P k M = elim
-    (adds ℓ k M P) [ false ↦ (M, 1) | true ↦ (let w = fill f ℓ P k (sweep ℓ k M P) in (w .0, suc (w .1))) ]
 
 module _ (ℓ : ℕ → ℕ) (k : ℕ) where
   put-keeps : (t : Bool) (o : Option Rule) (M : AtomSet) (x : ℕ) → M x ≡ true → put t o M x ≡ true

@@ -20,9 +20,8 @@ use Rattle.theory.specs.Tables.{Each, Example, Line, Shows, tables}
 use Rattle.theory.proofs.Lists.{and-l, and-of, and-r, clash, eqb-eq, eqb-of, every-at, le-or-lt, leb-le, mem}
 use Rattle.theory.proofs.Lists.{mem-in, not-true, or-cases, test}
 use Rattle.theory.proofs.Rules.{any-rule-of, occurs-at, occurs-test}
-use Rattle.theory.proofs.Depths.{greatest}
-use Rattle.theory.proofs.Certificate.{Certified, certified-admissible, certified-labels, kept-depth, kept-in}
-use Rattle.theory.proofs.Certificate.{level}
+use Rattle.theory.specs.Certificate.{greatest, kept-depth, kept-in, level}
+use Rattle.theory.proofs.Certificate.{Certified, certified-admissible, certified-labels}
 
 -- The label that the lines give an atom: absent if no line names it.
 lookup : List Line → ℕ → Label

@@ -4,10 +4,13 @@ pub mod Limits
 pub mod Rules
 pub mod Models
 pub mod Dependencies
+pub mod Strata
+pub mod Rounds
 pub mod Derivations
 pub mod Labels
 pub mod Explanations
 pub mod Questions
+pub mod Certificate
 pub mod Sound
 pub mod Book
 pub mod Tables

@@ -8,7 +8,7 @@ use lib.ListN.{length}
 use Rattle.theory.specs.Rules.{passes}
 use Rattle.theory.specs.Limits.{document}
 use Rattle.table.specs.Rules.{slotOf, pastRule}
-use Rattle.found.proofs.Copies.{Copied, copied-start, copied-next, copied-all}
+use Rattle.table.proofs.Copies.{Copied, copied-start, copied-next, copied-all}
 use Rattle.found.proofs.Passes.{justified}
 use borrow.Author.Needs.{needs}
 use Rattle.found.proofs.justifying.Statement.{statement}

@@ -7,7 +7,7 @@ use mathlib.Core.Path.{_≡_, refl, sym, _∙_}
 use lib.ListN.{length}
 use Rattle.theory.specs.Limits.{document}
 use Rattle.theory.proofs.Lists.{not-true, not-false}
-use Rattle.theory.proofs.Rounds.{fill}
+use Rattle.theory.specs.Rounds.{fill}
 use Rattle.table.specs.Rules.{programOf}
 use Rattle.table.specs.Sets.{member, number}
 use Rattle.model.proofs.Visits.{Left, left-start, left-over, left-stop, left-add, left-end}

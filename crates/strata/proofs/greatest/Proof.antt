@@ -14,7 +14,7 @@ use Rattle.strata.proofs.greatest.Statement.{statement}
 use Rattle.strata.proofs.greatest.Tie as tie
 use Rattle.strata.proofs.greatest.Reads as reads
 use Rattle.strata.proofs.greatest.Lts as lts
-use Rattle.strata.proofs.larger.Reads as larger-reads
+use Rattle.table.proofs.sets.larger.Reads as larger-reads
 use Rattle.table.proofs.sets.number_of.Reads as number-of-reads
 
 abbrev Inv-loop : tie.InvT-loop

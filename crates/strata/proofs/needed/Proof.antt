@@ -8,7 +8,7 @@ use Rattle.strata.proofs.needed.Tie as tie
 use Rattle.strata.proofs.needed.Reads as reads
 use Rattle.strata.proofs.needed.Lts as lts
 use Rattle.strata.proofs.greatest.Reads as greatest-reads
-use Rattle.strata.proofs.larger.Reads as larger-reads
+use Rattle.table.proofs.sets.larger.Reads as larger-reads
 use Rattle.rule.proofs.negative_end.Reads as negative-end-reads
 use Rattle.rule.proofs.positive_end.Reads as positive-end-reads
 

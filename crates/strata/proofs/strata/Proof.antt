@@ -1,5 +1,5 @@
 -- `strata::strata` meets its contract: by what the rounds keep. Assumes nothing.
-use Prim.Native.Nat.{_+_, _-_, _≤_}
+use Prim.Native.Nat.{_+_, _-_, _≤_, _<_}
 use native.Mathlib.Omega.{arith}
 use mathlib.Core.Path.{_≡_, refl, _∙_}
 use lib.ListN.{length}
@@ -8,6 +8,8 @@ use Rattle.theory.specs.Limits.{document}
 use Rattle.theory.proofs.Lists.{not-true, not-false}
 use Rattle.table.specs.Sets.{number}
 use Rattle.table.specs.Rules.{programOf}
+use Rattle.table.specs.Turns.{slotAt}
+use Rattle.table.proofs.SlotsInTurn.{slot-at-below}
 use Rattle.strata.proofs.Rounds.{Rounds, Slots}
 use Rattle.strata.proofs.Numbers.{raised-length}
 use Rattle.strata.proofs.Arrays.{start, begin, passed, next, rest, more, over}
@@ -19,12 +21,12 @@ use Rattle.strata.proofs.needed.Reads as needed-reads
 use Rattle.strata.proofs.raise.Reads as raise-reads
 
 abbrev Inv-loop2 : tie.InvT-loop2
-Inv-loop2 rules of₀ round raised₀ i₀ of raised i =
+Inv-loop2 rules of₀ round down raised₀ i₀ of raised i =
     (i ≤ document .slots) × (length of ≡ document .atoms)
-    × Slots (programOf rules) (document .slots) round i (number of) raised
+    × Slots (programOf rules) (slotAt (document .slots) down) (document .slots) round i (number of) raised
 
 abbrev μ-loop2 : tie.MeasureT-loop2
-μ-loop2 rules of₀ round raised₀ i₀ of raised i = document .slots - i
+μ-loop2 rules of₀ round down raised₀ i₀ of raised i = document .slots - i
 
 abbrev Inv-loop : tie.InvT-loop
 Inv-loop rules of₀ round₀ of round =
@@ -42,25 +44,33 @@ loop2-holds : tie.Need-loop2-holds Inv-loop2 μ-loop2 Inv-loop μ-loop
 loop2-holds c = (
   omega arith,
   c .before .loop .inv .1,
-  begin (c .before .before .args .t1) (document .slots) (search needs) _ (c .before .loop .of)
+  begin (c .before .before .args .t1) (document .slots) (search needs) _ _ (c .before .loop .of)
       (c .before .loop .inv .2),
 )
 
+slot-at-requires : tie.Need-slot-at-requires Inv-loop2 μ-loop2 Inv-loop μ-loop
+slot-at-requires c κs = search needs
+
+-- the slot come to is one of the table's
+below : (c : tie.After-slot-at Inv-loop2 μ-loop2 Inv-loop μ-loop) → c .slot-at .result < document .slots
+below c = slot-at-below _ _ _ _ (c .slot-at .ensures) (c .before .loop2-test .taken)
+
 mul-rule : tie.Need-mul-rule Inv-loop2 μ-loop2 Inv-loop μ-loop
-mul-rule c = search needs
+mul-rule c = (let l = below c in search needs)
 
 array-copy-out-rule : tie.Need-array-copy-out-rule Inv-loop2 μ-loop2 Inv-loop μ-loop
-array-copy-out-rule c = search needs
+array-copy-out-rule c = (let l = below c in search needs)
 
 needed-requires : tie.Need-needed-requires Inv-loop2 μ-loop2 Inv-loop μ-loop
 needed-requires c κs = search needs
 
 returns : tie.Need-returns Inv-loop2 μ-loop2 Inv-loop μ-loop
 returns c =
-    let t = c .before .before .before .before .before .loop2 in
-    let a = c .before .before .before .before .before .before .before .before .args in
-    passed (a .t1) (document .slots) (search needs) _ (t .i) (t .of) (t .raised) (t .inv .2) _
-    (c .before .needed .ensures) (c .if1 .taken)
+    let w = c .before .before .before .before in
+    let t = w .before .before .loop2 in
+    let a = w .before .before .before .before .before .args in
+    passed (a .t1) (document .slots) (search needs) _ _ (t .i) (t .of) (t .raised) (t .inv .2) _ _
+    (w .slot-at .ensures) (c .before .needed .ensures) (c .if1 .taken)
 
 cast-raise : tie.Need-cast-raise Inv-loop2 μ-loop2 Inv-loop μ-loop
 cast-raise c = search needs
@@ -76,18 +86,20 @@ loop2-less c = search needs
 
 loop2-again : tie.Need-loop2-again Inv-loop2 μ-loop2 Inv-loop μ-loop
 loop2-again c =
-    let t = c .before .before .before .before .before .before .before .loop2 in
-    let s = c .before .before .before .before .before .before .before .before .before .before in (
+    let w = c .before .before .before .before .before .before in
+    let t = w .before .before .loop2 in
+    let s = w .before .before .before .before .before in (
       omega arith,
       raised-length _ _ _ _ _ (c .raise .ensures) ∙ t .inv .1,
-      next (s .args .t1) (document .slots) (search needs) _ (t .i) (t .of) (t .raised) (t .inv .2) (document .atoms)
-          (t .inv .1) (s .pre) _ _ _ (c .before .before .before .needed .ensures) (c .raise .ensures),
+      next (s .args .t1) (document .slots) (search needs) _ _ (t .i) (t .of) (t .raised) (t .inv .2) (document .atoms)
+          (t .inv .1) (s .pre) _ _ _ _ (w .slot-at .ensures) (c .before .before .before .needed .ensures)
+          (c .raise .ensures),
     )
 
 returns-2 : tie.Need-returns-2 Inv-loop2 μ-loop2 Inv-loop μ-loop
 returns-2 c =
     let t = c .before .before .loop2 in
-    rest (c .before .before .before .before .before .args .t1) (document .slots) (search needs) _ (t .i) (t .of)
+    rest (c .before .before .before .before .before .args .t1) (document .slots) (search needs) _ _ (t .i) (t .of)
     (t .raised) (t .inv .2) (not-true _ (c .if2 .taken)) (c .before .loop2-test .left)
 
 add-round : tie.Need-add-round Inv-loop2 μ-loop2 Inv-loop μ-loop
@@ -101,7 +113,7 @@ loop-again c =
     let t = c .before .before .loop2 in (
       omega arith,
       t .inv .1,
-      more (c .before .before .before .before .before .args .t1) (document .slots) (search needs) _ (t .i) (t .of)
+      more (c .before .before .before .before .before .args .t1) (document .slots) (search needs) _ _ (t .i) (t .of)
           (t .raised) (t .inv .2) (not-false _ (c .if2 .left)) (c .before .loop2-test .left),
     )
 
@@ -120,6 +132,7 @@ strata-spec =
     μ-loop
     loop-holds
     loop2-holds
+    slot-at-requires
     mul-rule
     array-copy-out-rule
     needed-requires

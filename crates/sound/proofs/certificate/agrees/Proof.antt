@@ -75,45 +75,35 @@ returns-5 c =
     compared-shallow _ _ _ _ _ _ _ _ (held e) (good g) (inside i)
     (omega (arith, k .level .ensures, d))
 
-number-of-requires-2 : tie.Need-number-of-requires-2
-number-of-requires-2 c κs = search needs
+slot-of-requires : tie.Need-slot-of-requires
+slot-of-requires c κs = search needs
 
 returns-6 : tie.Need-returns-6
 returns-6 c =
-    let e = c .before .before .before .before .before .before .before .before .before .before .before in
-    let g = c .before .before .before .before .before .before .before .before .before in
-    let k = c .before .before .before .before .before in
-    let d = c .before .before .before .before .number-of .ensures in
-    let i = c .before .before .before .before .before .before in
-    compared-later _ _ _ _ _ _ _ _ (held e) (good g) (inside i)
-    (omega (arith, k .level .ensures, d)) (omega (arith, c .before .number-of2 .ensures))
+    let l = c .before .before .before .before .before .before .before in
+    let d = c .before .before .before .before .before .before .number-of .ensures in
+    compared-later _ _ _ _ _ _ _ _ (held (l .before .before .before .before .before .before)) (good (l .before .before .before .before)) (inside (l .before))
+    (omega (arith, l .level .ensures, d)) (omega (arith, c .before .before .before .slot-of .ensures))
 
 returns-7 : tie.Need-returns-7
 returns-7 c =
-    let e = c .before .before .before .before .before .before .before .before .before .before .before .before in
-    let g = c .before .before .before .before .before .before .before .before .before .before in
-    let k = c .before .before .before .before .before .before in
-    let d = c .before .before .before .before .before .number-of .ensures in
-    let i = c .before .before .before .before .before .before .before in
-    compared-earlier _ _ _ _ _ _ _ _ (held e) (good g) (inside i)
-    (omega (arith, k .level .ensures, d)) (omega (arith, c .before .before .number-of2 .ensures))
+    let o = c .before .before .before in
+    let l = o .before .before .before .before .before .before .before in
+    let d = o .before .before .before .before .before .before .number-of .ensures in
+    compared-earlier _ _ _ _ _ _ _ _ (held (l .before .before .before .before .before .before)) (good (l .before .before .before .before)) (inside (l .before))
+    (omega (arith, l .level .ensures, d)) (omega (arith, o .before .before .before .slot-of .ensures))
 
 mark-requires : tie.Need-mark-requires
 mark-requires c κs = search needs
 
 returns-8 : tie.Need-returns-8
 returns-8 c =
-    let z = c .before .before .before .before .before in
+    let o = c .before .before .before .before .before in
+    let z = o .before .before .before .before in
     let w = z .before .before in
-    compared-kept _ _ _ _ _ _ _ _ (held (w .before .before .before .before .before .before .before))
-    (good (w .before .before .before .before .before)) (inside (w .before .before))
+    compared-kept _ _ _ _ _ _ _ _ (held (w .before .before .before .before .before .before .before)) (good (w .before .before .before .before .before)) (inside (w .before .before))
     (omega (arith, z .before .if4 .left, z .if5 .left, w .before .level .ensures, w .number-of .ensures))
-    (omega (
-      arith,
-      c .before .before .if7 .left,
-      c .before .before .before .if6 .left,
-      c .before .before .before .before .number-of2 .ensures,
-    ))
+    (omega (arith, c .before .before .if7 .left, o .if6 .left, o .before .before .before .slot-of .ensures))
     _ (c .mark .ensures)
 
 pub agrees-spec : {M : Type 1} → statement M
@@ -130,7 +120,7 @@ agrees-spec =
     cast-depth
     returns-4
     returns-5
-    number-of-requires-2
+    slot-of-requires
     returns-6
     returns-7
     mark-requires

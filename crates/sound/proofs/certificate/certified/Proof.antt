@@ -11,7 +11,8 @@ use mathlib.Core.Bool.{false}
 use lib.ListN.{length, length-map}
 use Rattle.theory.proofs.Lists.{not-true, not-false}
 use Rattle.sound.proofs.Passes.{all-one, member-below}
-use Rattle.sound.proofs.Apart.{flags-long, of-labels}
+use Rattle.table.proofs.KeptFields.{flags-long}
+use Rattle.sound.proofs.Apart.{of-labels}
 use borrow.Author.Needs.{needs}
 use Rattle.sound.proofs.certificate.certified.Statement.{statement}
 use Rattle.sound.proofs.certificate.certified.Tie as tie
@@ -23,8 +24,8 @@ Inv-loop rules flags depths slots found₀ i₀ found i =
 abbrev μ-loop : tie.MeasureT-loop
 μ-loop rules flags depths slots found₀ i₀ found i = document .slots - i
 
-apart-requires : tie.Need-apart-requires Inv-loop μ-loop
-apart-requires c κs = search needs
+keep-requires : tie.Need-keep-requires Inv-loop μ-loop
+keep-requires c κs = search needs
 
 loop-holds : tie.Need-loop-holds Inv-loop μ-loop
 loop-holds c = checked-start _ _ _ _ _ _ refl (λ a. all-one 256 a false)
@@ -35,8 +36,8 @@ mul-rule c = search needs
 array-copy-out-rule : tie.Need-array-copy-out-rule Inv-loop μ-loop
 array-copy-out-rule c = search needs
 
-cast-agrees : tie.Need-cast-agrees Inv-loop μ-loop
-cast-agrees c = search needs
+cast-n : tie.Need-cast-n Inv-loop μ-loop
+cast-n c = search needs
 
 agrees-requires : tie.Need-agrees-requires Inv-loop μ-loop
 agrees-requires c κs = search needs
@@ -46,7 +47,7 @@ returns c =
     let o = c .before .before .before .before .before .before .before .before in
     let a = c .before .before .before .before .before .before .before .before .before .before .before .before in
     let s = a .before in
-    of-labels (s .args .labels) _ (a .apart .ensures) _ _
+    of-labels (s .args .labels) _ (a .keep .ensures) _ _
     (slot-fails (s .args .t1) _ _ _ (o .loop .i) _ _ _ (c .before .agrees .ensures) (not-true _ (c .if1 .taken)))
 
 add-i : tie.Need-add-i Inv-loop μ-loop
@@ -62,7 +63,7 @@ loop-again c =
     let s = a .before in
     let long : length (s .args .labels) ≡ 256 = search needs in
     slot-passes (s .args .t1) _ _ _ (o .loop .i) _ _ _ (c .before .agrees .ensures) 256
-    (member-below (a .apart .result .flags) 256 (flags-long (s .args .labels) _ (a .apart .ensures) ∙ long))
+    (member-below (a .keep .result .flags) 256 (flags-long (s .args .labels) _ (a .keep .ensures) ∙ long))
     (o .loop .inv) (not-false _ (c .if1 .left))
 
 all-found-requires : tie.Need-all-found-requires Inv-loop μ-loop
@@ -75,7 +76,7 @@ returns-2 c =
     let s = a .before in
     let long : length (s .args .t1) ≡ 256 = search needs in
     let over : length (programOf (s .args .t1)) ≤ o .loop .i = simp length-map (omega arith) in
-    of-labels (s .args .labels) _ (a .apart .ensures) _ _
+    of-labels (s .args .labels) _ (a .keep .ensures) _ _
     (checked-all _ _ _ _ 256 _ _ over (o .loop .inv) _ (c .all-found .ensures))
 
 pub certified-spec : {M : Type 1} → statement M
@@ -84,11 +85,11 @@ certified-spec =
     (tie.spec
     Inv-loop
     μ-loop
-    apart-requires
+    keep-requires
     loop-holds
     mul-rule
     array-copy-out-rule
-    cast-agrees
+    cast-n
     agrees-requires
     returns
     add-i

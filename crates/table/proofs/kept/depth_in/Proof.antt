@@ -1,9 +1,9 @@
--- `sound::certificate::depth_in` meets its contract. Assumes nothing.
+-- `table::kept::depth_in` meets its contract. Assumes nothing.
 use mathlib.Core.Path.{refl, sym, ap}
-use Rattle.theory.proofs.Certificate.{depth-in}
-use Rattle.sound.proofs.Apart.{label-is-in, label-not-in}
-use Rattle.sound.proofs.certificate.depth_in.Statement.{statement}
-use Rattle.sound.proofs.certificate.depth_in.Tie as tie
+use Rattle.theory.specs.Certificate.{depth-in}
+use Rattle.table.proofs.KeptFields.{label-is-in, label-not-in}
+use Rattle.table.proofs.kept.depth_in.Statement.{statement}
+use Rattle.table.proofs.kept.depth_in.Tie as tie
 
 returns : tie.Need-returns
 returns c = sym (ap depth-in (label-is-in (c .before .before .args .label) (c .if1 .taken)))

@@ -1,18 +1,17 @@
--- `sound::certificate::apart` meets its contract. Assumes nothing.
+-- `table::kept::keep` meets its contract. Assumes nothing.
 use Prim.Native.Nat.{_-_}
 use native.Mathlib.Omega.{arith}
 use Rattle.theory.specs.Questions.{is-in-label}
 use Rattle.theory.specs.Limits.{document}
-use Rattle.theory.proofs.Certificate.{depth-in}
-use Rattle.table.specs.Labels.{labelOf}
-use Rattle.sound.specs.Certificate.{slot-in}
-use Rattle.sound.proofs.Apart.{Copied, copied-start, copied-next, copied-all}
+use Rattle.theory.specs.Certificate.{depth-in, slot-in}
+use Rattle.table.specs.Labels.{labelOf, absentLabel}
+use Rattle.table.proofs.Copies.{Copied, copied-start, copied-next, copied-all}
 use Prim.Native.Nat.{_≤_, _<_}
 use mathlib.Core.Path.{_≡_, sym}
 use lib.ListN.{length}
 use borrow.Author.Needs.{needs}
-use Rattle.sound.proofs.certificate.apart.Statement.{statement}
-use Rattle.sound.proofs.certificate.apart.Tie as tie
+use Rattle.table.proofs.kept.keep.Statement.{statement}
+use Rattle.table.proofs.kept.keep.Tie as tie
 
 abbrev Inv-loop : tie.InvT-loop
 Inv-loop labels flags₀ depths₀ slots₀ a₀ flags depths slots a =
@@ -70,9 +69,9 @@ loop-again c =
     let l = c .before .before .before .before .before .loop in
     let long : length (s .args .t1) ≡ 256 = search needs in
     let low : l .a < length (s .args .t1) = omega arith in (
-      copied-next _ _ _ (l .a) _ low (l .inv .0) (c .before .before .is-in .ensures),
-      copied-next _ _ _ (l .a) _ low (l .inv .1) (c .before .depth-in .ensures),
-      copied-next _ _ _ (l .a) _ low (l .inv .2) (c .slot-in .ensures),
+      copied-next _ _ _ (l .a) absentLabel _ low (l .inv .0) (c .before .before .is-in .ensures),
+      copied-next _ _ _ (l .a) absentLabel _ low (l .inv .1) (c .before .depth-in .ensures),
+      copied-next _ _ _ (l .a) absentLabel _ low (l .inv .2) (c .slot-in .ensures),
     )
 
 returns : tie.Need-returns Inv-loop μ-loop
@@ -87,8 +86,8 @@ returns c =
       slots = copied-all _ _ _ (l .a) over (l .inv .2);
     }
 
-pub apart-spec : {M : Type 1} → statement M
-apart-spec =
+pub keep-spec : {M : Type 1} → statement M
+keep-spec =
     tie.close
     (tie.spec
     Inv-loop
