@@ -1,26 +1,39 @@
--- What the answer to questions 15 and 10 tells a call that starts with them. Assumes nothing.
-use Prim.Native.Nat.{ℕ, _<_}
-use mathlib.Core.Path.{_≡_, refl, sym, _∙_, subst}
+-- What the answer to questions 15 and 10, or 15, 8 and 9, tells a call that starts with them. Assumes nothing.
+use Prim.Native.Nat.{ℕ, _≤_, _<_}
+use native.Mathlib.Omega.{arith}
+use mathlib.Core.Path.{_≡_, refl, sym, _∙_, ap, subst}
 use mathlib.Core.Logic.{⊎-elim}
 use mathlib.Core.Bool.{Bool, true, false, not}
 use mathlib.Core.List.{List, [], _∷_}
-use mathlib.Core.Option.{none, some, Option·none-ne-some}
+use mathlib.Core.Option.{Option, none, some, Option·none-ne-some}
 use lib.Dec.{ltb}
+use lib.ListN.{getD, List·getD-map}
+use Rattle.theory.specs.Rules.{Held}
+use Rattle.theory.specs.Rules as theory
 use Rattle.theory.specs.Models.{AtomSet}
-use Rattle.theory.specs.Questions.{Question, first-no, asks, atom-questions}
+use Rattle.theory.specs.Questions.{Question, first-no, asks, atom-questions, slot-questions, is-some}
 use Rattle.theory.specs.Limits.{document}
-use Rattle.theory.proofs.Lists.{test, ltb-lt, not-true, not-false}
+use Rattle.theory.proofs.Lists.{test, clash, ltb-lt, lt-ltb, unless, not-true, not-false}
 use Rattle.theory.proofs.Questions.{first-no-yes, first-no-here, first-no-none}
 use Rattle.table.specs.declared.Atom.{Atom}
+use Rattle.table.specs.declared.Rule.{Rule}
+use Rattle.table.specs.declared.Slot.{Slot}
 use Rattle.table.specs.declared.Table.{Table}
+use Rattle.table.specs.Rules.{ruleOf, slotOf}
+use Rattle.table.specs.Clean.{freeRule}
 use Rattle.table.specs.Sound.{Sound}
+use Rattle.table.proofs.Programs.{slot-free, slot-held}
 use Rattle.calls.specs.declared.Refusal.{Refusal}
 use Rattle.calls.specs.declared.Asked.{Asked}
 use Rattle.calls.specs.declared.Asked.the-variants.{Passed, Refused}
+use Rattle.calls.specs.declared.AskedSlot.{AskedSlot}
+use Rattle.calls.specs.declared.AskedSlot.the-variants as slot
 use Rattle.calls.specs.declared.LabelAnswer.the-variants as label
 use Rattle.calls.specs.declared.ListAnswer.the-variants as listed
-use Rattle.calls.specs.Asking.{AskEnds, unsound, refused, passed}
-use Rattle.calls.specs.Contracts.{LabelEnds, ListEnds}
+use Rattle.calls.specs.declared.RemoveAnswer.the-variants as removed
+use Rattle.calls.specs.declared.SpoilerAnswer.the-variants as spoilt
+use Rattle.calls.specs.Asking.{AskEnds, AskSlotEnds, unsound, refused, passed}
+use Rattle.calls.specs.Contracts.{held, LabelEnds, ListEnds, RemoveEnds, SpoilerEnds}
 use Rattle.calls.specs.Contracts as contract
 
 -- Question 10, where b tests it.
@@ -78,3 +91,70 @@ module _ (t : Table) (a : ℕ) (r : Asked) (E : AskEnds t a r) where
         go : (f : Refusal) → AskEnds t a (Refused f) → ListEnds questions Is t before (listed.Refused f) before
         go f (unsound n) = contract.unsound n
         go f (refused g S q) = contract.refused g S (more _ q)
+
+-- Questions 8 and 9, of the slot s, which holds r.
+module _ (t : Table) (s : ℕ) where
+  abbrev rule-asked : Question
+  rule-asked = asks 9 (is-some (getD (held t) s none))
+
+  pub slot-past : document .slots ≤ s → first-no (slot-questions document (held t) s) ≡ some 8
+  slot-past l =
+      first-no-here (asks 8 (ltb s (document .slots))) (rule-asked ∷ [])
+      (unless _ (λ u. omega (arith, ltb-lt s (document .slots) u)))
+
+  module _ (r : Rule) (e : r ≡ getD (t .rules) s freeRule) where
+    slot-is : getD (held t) s none ≡ slotOf r
+    slot-is = List·getD-map slotOf (t .rules) s freeRule ∙ ap slotOf (sym e)
+
+    module _ (l : s < document .slots) where
+      low-next : first-no (slot-questions document (held t) s) ≡ first-no (rule-asked ∷ [])
+      low-next = first-no-yes (asks 8 (ltb s (document .slots))) (rule-asked ∷ []) (lt-ltb s (document .slots) l)
+
+      pub slot-empty : r .state ≡ 0 → first-no (slot-questions document (held t) s) ≡ some 9
+      slot-empty z = low-next ∙ first-no-here rule-asked [] (ap is-some (slot-is ∙ slot-free r z))
+
+      pub slot-yes : (r .state ≡ 0 → ⊥) → first-no (slot-questions document (held t) s) ≡ none
+      unfolding first-no
+      slot-yes n = low-next ∙ first-no-yes rule-asked [] (ap is-some (slot-is ∙ slot-held r n))
+
+    -- Where both were answered yes, s is a slot, and it holds this rule.
+    module _ (yes : first-no (slot-questions document (held t) s) ≡ none) where
+      pub slot-holds : Held (held t) s (ruleOf r)
+      slot-holds =
+          let w = first-no-none (asks 8 (ltb s (document .slots))) (rule-asked ∷ []) yes in
+          let v = first-no-none rule-asked [] (w .1) in
+          slot-is ∙ slot-held r (λ z. clash (v .0) (ap is-some (slot-is ∙ slot-free r z)))
+
+-- All three were answered yes of the slot x.
+pub record PassesSlot (t : Table) (s : ℕ) (x : Slot) : Type 0 where
+  pub sound : Sound t
+  pub yes : first-no (slot-questions document (held t) s) ≡ none
+  pub slot : x .0 ≡ s
+
+pub slot-low : (t : Table) (s : ℕ) (x : Slot) → PassesSlot t s x → s < document .slots
+slot-low t s x Q =
+    ltb-lt s (document .slots)
+    (first-no-none (asks 8 (ltb s (document .slots))) (rule-asked t s ∷ []) (Q .yes) .0)
+
+module _ (t : Table) (s : ℕ) (r : AskedSlot) (E : AskSlotEnds t s r) where
+  pub slot-passed : (x : Slot) → r ≡ slot.Passed x → PassesSlot t s x
+  slot-passed x e = go x (subst (AskSlotEnds t s) e E)
+    where
+      go : (x : Slot) → AskSlotEnds t s (slot.Passed x) → PassesSlot t s x
+      go x (passed S q) = record { sound = S; yes = q; slot = refl }
+
+  -- One was answered no: so ends a call that starts with these questions.
+  module _ (f : Refusal) (e : r ≡ slot.Refused f) where
+    pub remove-refused : RemoveEnds t s (removed.Refused f) t
+    remove-refused = go f (subst (AskSlotEnds t s) e E)
+      where
+        go : (f : Refusal) → AskSlotEnds t s (slot.Refused f) → RemoveEnds t s (removed.Refused f) t
+        go f (unsound n) = contract.unsound n
+        go f (refused g S q) = contract.refused g S q
+
+    pub spoiler-refused : SpoilerEnds t s (spoilt.Refused f)
+    spoiler-refused = go f (subst (AskSlotEnds t s) e E)
+      where
+        go : (f : Refusal) → AskSlotEnds t s (slot.Refused f) → SpoilerEnds t s (spoilt.Refused f)
+        go f (unsound n) = contract.unsound n
+        go f (refused g S q) = contract.refused g S q

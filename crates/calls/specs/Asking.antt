@@ -1,15 +1,19 @@
--- Questions 15 and 10, with which each call on an atom starts. Assumes nothing.
+-- The questions with which each call on an atom starts, 15 and 10, and each call on a slot, 15, 8 and 9. Assumes
+-- nothing.
 use Prim.Native.Nat.{ℕ}
 use mathlib.Core.Path.{_≡_}
 use mathlib.Core.Option.{none, some}
-use Rattle.theory.specs.Questions.{first-no, atom-questions}
+use Rattle.theory.specs.Questions.{first-no, atom-questions, slot-questions}
 use Rattle.theory.specs.Limits.{document}
 use Rattle.table.specs.declared.Table.{Table}
+use Rattle.table.specs.Rules.{programOf}
 use Rattle.table.specs.Sound.{Sound}
 use Rattle.calls.specs.declared.Refusal.{Refusal}
 use Rattle.calls.specs.declared.Refusal.the-variants.{Unsound}
 use Rattle.calls.specs.declared.Asked.{Asked}
 use Rattle.calls.specs.declared.Asked.the-variants as asked
+use Rattle.calls.specs.declared.AskedSlot.{AskedSlot}
+use Rattle.calls.specs.declared.AskedSlot.the-variants as asked-slot
 use Rattle.calls.specs.Answers.{numberOf}
 
 -- The table is not sound (15), the first question of the atom is answered no, or that atom passes.
@@ -20,3 +24,13 @@ pub data AskEnds (t : Table) (a : ℕ) : Asked → Type 0 where
       → AskEnds t a (asked.Refused f)
   passed :
       Sound t → first-no (atom-questions document a) ≡ none → AskEnds t a (asked.Passed (record { 0 = a }))
+
+-- The same of a slot: the slot that passes holds a rule.
+pub data AskSlotEnds (t : Table) (s : ℕ) : AskedSlot → Type 0 where
+  unsound : (Sound t → ⊥) → AskSlotEnds t s (asked-slot.Refused Unsound)
+  refused :
+      (f : Refusal) → Sound t → first-no (slot-questions document (programOf (t .rules)) s) ≡ some (numberOf f)
+      → AskSlotEnds t s (asked-slot.Refused f)
+  passed :
+      Sound t → first-no (slot-questions document (programOf (t .rules)) s) ≡ none
+      → AskSlotEnds t s (asked-slot.Passed (record { 0 = s }))

@@ -1,5 +1,5 @@
-// The calls on a table: what they answer, what they hand back, and the questions that a call on an atom asks first.
-// Arguments are bare numbers; no call asks anything of its caller.
+// The calls on a table: what they answer, what they hand back, and the questions that a call on an atom, or on a slot,
+// asks first. Arguments are bare numbers; no call asks anything of its caller.
 use questions::head_fits;
 use sound::sound;
 use table::Atom;
@@ -8,6 +8,8 @@ use table::Table;
 ghost use mathlib.Core.Path.{_≡_};
 ghost use Rattle.calls.specs.Answers.{numberOf};
 ghost use Rattle.calls.specs.Asking.{AskEnds};
+
+pub mod slots; // slots.rt: the questions that a call on a slot asks first
 
 // A refusal: a case for each question that a call can answer no. Its number is document 01's (specs/Answers).
 pub enum Refusal {
@@ -72,6 +74,12 @@ pub enum ListAnswer {
 // What questions 15 and 10 answer: the atom asked about, or the refusal.
 pub enum Asked {
     Passed(Atom),
+    Refused(Refusal),
+}
+
+// What questions 15, 8 and 9 answer: the slot asked about, which holds a rule, or the refusal.
+pub enum AskedSlot {
+    Passed(Slot),
     Refused(Refusal),
 }
 

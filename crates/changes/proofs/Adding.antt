@@ -34,7 +34,7 @@ use Rattle.calls.specs.Contracts as contract
 use Rattle.calls.specs.Contracts.{held, Sized, AddEnds}
 use Rattle.labels.specs.declared.Labelling.{Labelling}
 use Rattle.labels.specs.Labelling.{LabellingOf}
-use Rattle.changes.specs.Parts.{Made}
+use Rattle.making.specs.Parts.{SlotWith}
 use Rattle.changes.proofs.OneSlot.{program-after, bounded-after, sound-after, sized-after}
 
 -- Where a question is answered no, those asked after it change nothing.
@@ -49,7 +49,7 @@ first-no-before (x ∷ xs) ys k e = ⊎-elim
 
 -- A test for the same rule as in a slot that was made for q.
 pub same-told :
-    (q : theory.Rule) (r : Rule) → Made q r → (P : Program) (b v : Bool) → b ≡ any-rule (same (ruleOf r)) P → b ≡ v
+    (q : theory.Rule) (r : Rule) → SlotWith q r → (P : Program) (b v : Bool) → b ≡ any-rule (same (ruleOf r)) P → b ≡ v
     → any-rule (same q) P ≡ v
 same-told q r R P b v e u =
     ap (λ (z : theory.Rule). any-rule (same z) P) (sym (slot-rule r q (R .held))) ∙ sym e ∙ u
@@ -107,7 +107,7 @@ module _ (t : Table) (S : Sound t) (q : theory.Rule) where
       refused-full e = contract.refused refusal.Full S (five ∙ first-no-here _ _ (ap is-some e))
 
       -- the rule is put into the lowest free slot
-      module _ (s : ℕ) (inside : s < document .slots) (low : lowest-free (held t) ≡ some s) (r : Rule) (R : Made q r)
+      module _ (s : ℕ) (inside : s < document .slots) (low : lowest-free (held t) ≡ some s) (r : Rule) (R : SlotWith q r)
         where
           six : first-no (add-questions document (held t) q)
               ≡ first-no (asks 7 (stratified (set (held t) s (some q))) ∷ [])
@@ -128,16 +128,16 @@ module _ (t : Table) (S : Sound t) (q : theory.Rule) where
           fresh k p h i =
               clash (any-rule-of (same q) (held t) k p i (ap (same q) (sym (one p h)) ∙ same-refl q)) other
 
-          pub bounded-put : Bounded (programOf (set (t .rules) s r)) (document .atoms)
+          bounded-put : Bounded (programOf (set (t .rules) s r)) (document .atoms)
           bounded-put = bounded-after t S s inside r (R .clean) passes fresh
 
           module _ (l : Labelling) (L : LabellingOf (programOf (set (t .rules) s r)) l) where
-            pub refused-cycle : l .acyclic ≡ false → AddEnds t q (added.Refused refusal.NegativeCycle) t
-            refused-cycle e =
+            refused-cyclic : l .acyclic ≡ false → AddEnds t q (added.Refused refusal.NegativeCycle) t
+            refused-cyclic e =
                 contract.refused refusal.NegativeCycle S
                 (six ∙ first-no-here _ _ (cycle-found _ (subst NegativeCycle program-put (L .cyclic e))))
 
-            pub taken :
+            taken :
                 l .acyclic ≡ true → Sized t → length (r .entries) ≡ document .entries
                 → length (l .labels) ≡ document .atoms
                 → AddEnds t q (added.Taken (record { 0 = s }))
@@ -149,3 +149,21 @@ module _ (t : Table) (S : Sound t) (q : theory.Rule) where
                 ∙ (unfold first-no in refl))
                 low (sized-after t S s inside r Z n (l .labels) m) program-put
                 (sound-after t S s inside r (R .clean) passes fresh (l .labels) (w .0) (w .1 .0) (w .1 .1))
+
+          -- the slots with that rule
+          module _ (changed : List Rule) (put : changed ≡ set (t .rules) s r) where
+            pub bounded-changed : Bounded (programOf changed) (document .atoms)
+            bounded-changed = rw put bounded-put
+
+            module _ (l : Labelling) (L : LabellingOf (programOf changed) l) where
+              L′ : LabellingOf (programOf (set (t .rules) s r)) l
+              L′ = rw put at L
+
+              pub refused-cycle : l .acyclic ≡ false → AddEnds t q (added.Refused refusal.NegativeCycle) t
+              refused-cycle e = refused-cyclic l L′ e
+
+              pub add-ends :
+                  l .acyclic ≡ true → Sized t → length (r .entries) ≡ document .entries
+                  → length (l .labels) ≡ document .atoms
+                  → AddEnds t q (added.Taken (record { 0 = s })) (record { rules = changed; labels = l .labels })
+              add-ends e Z n m = rw put (taken l L′ e Z n m)

@@ -1,6 +1,4 @@
 -- Laws behind the two calls. Nothing here needs to be believed.
-pub mod Making
-pub mod Slots
 pub mod Sizes
 pub mod OneSlot
 pub mod Adding

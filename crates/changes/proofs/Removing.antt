@@ -1,90 +1,79 @@
 -- How a removal from a sound table ends, from the answers of its questions. Assumes nothing.
-use Prim.Native.Nat.{ℕ, _≤_, _<_}
-use native.Mathlib.Omega.{arith}
-use mathlib.Core.Path.{_≡_, refl, _∙_, ap}
+use Prim.Native.Nat.{ℕ, _<_}
+use mathlib.Core.Path.{_≡_, refl, _∙_, ap₂}
 use mathlib.Core.Logic.{⊎-elim}
 use mathlib.Core.Bool.{Bool, true, false}
-use mathlib.Core.List.{[], _∷_}
+use mathlib.Core.List.{List}
 use mathlib.Core.Option.{none, some, Option·none-ne-some}
-use lib.ListN.{length, getD, set}
+use lib.ListN.{length, set}
 use Rattle.theory.specs.Rules.{Held, Bounded}
 use Rattle.theory.specs.Rules as theory
 use Rattle.theory.specs.Dependencies.{NegativeCycle}
-use Rattle.theory.specs.Questions.{asks, first-no, rule-questions, slot-questions, is-some}
+use Rattle.theory.specs.Questions.{first-no, rule-questions, slot-questions}
 use Rattle.theory.specs.Limits.{document}
-use Rattle.theory.proofs.Lists.{unless, lt-ltb, ltb-lt}
-use Rattle.theory.proofs.Questions.{first-no-yes, first-no-here}
+use Rattle.table.specs.declared.Rule.{Rule}
+use Rattle.table.specs.declared.Slot.{Slot}
 use Rattle.table.specs.declared.Table.{Table}
-use Rattle.table.specs.Rules.{programOf, slotOf, pastRule, noAtom}
-use Rattle.table.specs.Clean.{freeRule, CleanRule}
+use Rattle.table.specs.Rules.{programOf, slotOf}
+use Rattle.table.specs.Clean.{freeRule}
 use Rattle.table.specs.Sound.{Sound}
-use Rattle.table.proofs.Members.{all-alike}
-use Rattle.table.proofs.Programs.{program-at, slot-free, slot-held}
-use Rattle.calls.specs.declared.Refusal.the-variants as refusal
+use Rattle.table.proofs.Empty.{free-clean}
 use Rattle.calls.specs.declared.RemoveAnswer.the-variants as removed
 use Rattle.calls.specs.Contracts as contract
 use Rattle.calls.specs.Contracts.{held, Sized, RemoveEnds}
+use Rattle.calls.proofs.Asking.{PassesSlot, slot-low}
 use Rattle.labels.specs.declared.Labelling.{Labelling}
 use Rattle.labels.specs.Labelling.{LabellingOf}
 use Rattle.changes.proofs.OneSlot.{fewer-cycle, program-after, held-after, bounded-after, sound-after}
 use Rattle.changes.proofs.OneSlot.{sized-after}
 
--- The free slot of the empty table is clean.
-pub free-clean : CleanRule freeRule
-free-clean = record {
-  known = omega arith;
-  free = λ e. refl;
-  fits = omega arith;
-  filler = λ i l. all-alike (document .entries) i noAtom;
-}
-
 -- A removal of the rule in slot s of the table t.
-module _ (t : Table) (S : Sound t) (s : ℕ) where
-  pub refused-slot : document .slots ≤ s → RemoveEnds t s (removed.Refused refusal.SlotNumber) t
-  refused-slot l =
-      contract.refused refusal.SlotNumber S
-      (first-no-here _ _ (unless _ (λ u. omega (arith, ltb-lt s (document .slots) u))))
+module _ (t : Table) (S : Sound t) (s : ℕ) (inside : s < document .slots) where
+  passes : (p : theory.Rule) → slotOf freeRule ≡ some p → first-no (rule-questions document p) ≡ none
+  passes p h = absurd (Option·none-ne-some p h)
 
-  module _ (inside : s < document .slots) where
-    eight : first-no (slot-questions document (held t) s) ≡ first-no (asks 9 (is-some (getD (held t) s none)) ∷ [])
-    eight = first-no-yes _ _ (lt-ltb _ _ inside)
+  fresh : (k : ℕ) (p : theory.Rule) → slotOf freeRule ≡ some p → Held (held t) k p → ⊥
+  fresh k p h i = Option·none-ne-some p h
 
-    pub refused-free :
-        getD (t .rules) s pastRule .state ≡ 0 → RemoveEnds t s (removed.Refused refusal.Free) t
-    refused-free e =
-        contract.refused refusal.Free S
-        (eight ∙ first-no-here _ _ (ap is-some (program-at (t .rules) s ∙ slot-free (getD (t .rules) s pastRule) e)))
+  bounded-freed : Bounded (programOf (set (t .rules) s freeRule)) (document .atoms)
+  bounded-freed = bounded-after t S s inside freeRule free-clean passes fresh
 
-    passes : (p : theory.Rule) → slotOf freeRule ≡ some p → first-no (rule-questions document p) ≡ none
-    passes p h = absurd (Option·none-ne-some p h)
+  -- every rule of the rest was held before
+  rest-acyclic : NegativeCycle (programOf (set (t .rules) s freeRule)) → ⊥
+  rest-acyclic c = S .labels .acyclic (fewer-cycle (held t) (programOf (set (t .rules) s freeRule))
+      (λ k p h. ⊎-elim
+      (λ w. absurd (Option·none-ne-some p (w .1)))
+      (λ w. w .1)
+      (held-after t S s inside freeRule k p h)) c)
 
-    fresh : (k : ℕ) (p : theory.Rule) → slotOf freeRule ≡ some p → Held (held t) k p → ⊥
-    fresh k p h i = Option·none-ne-some p h
+  freed :
+      first-no (slot-questions document (held t) s) ≡ none → (l : Labelling)
+      → LabellingOf (programOf (set (t .rules) s freeRule)) l → Sized t → length (l .labels) ≡ document .atoms
+      → RemoveEnds t s removed.Removed (record { rules = set (t .rules) s freeRule; labels = l .labels })
+  freed asked l L Z m =
+      let w = L .acyclic (not-cyclic (l .acyclic) refl) in
+      contract.accepted _ S asked (sized-after t S s inside freeRule Z refl (l .labels) m)
+      (program-after t S s inside freeRule)
+      (sound-after t S s inside freeRule free-clean passes fresh (l .labels) (w .0) (w .1 .0) (w .1 .1))
+    where
+      not-cyclic : (b : Bool) → l .acyclic ≡ b → l .acyclic ≡ true
+      not-cyclic true e = e
+      not-cyclic false e = absurd (rest-acyclic (L .cyclic e))
 
-    pub bounded-rest : Bounded (programOf (set (t .rules) s freeRule)) (document .atoms)
-    bounded-rest = bounded-after t S s inside freeRule free-clean passes fresh
+-- The slots left, where slot x, which passed its questions, holds what a free slot does.
+module _
+    (t : Table) (s : ℕ) (x : Slot) (Q : PassesSlot t s x) (f : Rule) (is-free : f ≡ freeRule) (rest : List Rule)
+    (put : rest ≡ set (t .rules) (x .0) f)
+  where
+    left : rest ≡ set (t .rules) s freeRule
+    left = put ∙ ap₂ (λ (k : ℕ) (r : Rule). set (t .rules) k r) (Q .slot) is-free
 
-    -- every rule of the rest was held before
-    rest-acyclic : NegativeCycle (programOf (set (t .rules) s freeRule)) → ⊥
-    rest-acyclic c = S .labels .acyclic (fewer-cycle (held t) (programOf (set (t .rules) s freeRule))
-        (λ k p h. ⊎-elim
-        (λ w. absurd (Option·none-ne-some p (w .1)))
-        (λ w. w .1)
-        (held-after t S s inside freeRule k p h)) c)
+    pub bounded-rest : Bounded (programOf rest) (document .atoms)
+    bounded-rest = rw left (bounded-freed t (Q .sound) s (slot-low t s x Q))
 
-    pub freed :
-        (getD (t .rules) s pastRule .state ≡ 0 → ⊥) → (l : Labelling)
-        → LabellingOf (programOf (set (t .rules) s freeRule)) l → Sized t → length (l .labels) ≡ document .atoms
-        → RemoveEnds t s removed.Removed (record { rules = set (t .rules) s freeRule; labels = l .labels })
-    freed n l L Z m =
-        let w = L .acyclic (not-cyclic (l .acyclic) refl) in
-        contract.accepted _ S
-        (eight
-        ∙ first-no-yes _ _ (ap is-some (program-at (t .rules) s ∙ slot-held (getD (t .rules) s pastRule) n))
-        ∙ (unfold first-no in refl))
-        (sized-after t S s inside freeRule Z refl (l .labels) m) (program-after t S s inside freeRule)
-        (sound-after t S s inside freeRule free-clean passes fresh (l .labels) (w .0) (w .1 .0) (w .1 .1))
-      where
-        not-cyclic : (b : Bool) → l .acyclic ≡ b → l .acyclic ≡ true
-        not-cyclic true e = e
-        not-cyclic false e = absurd (rest-acyclic (L .cyclic e))
+    pub remove-ends :
+        (l : Labelling) → LabellingOf (programOf rest) l → Sized t → length (l .labels) ≡ document .atoms
+        → RemoveEnds t s removed.Removed (record { rules = rest; labels = l .labels })
+    remove-ends l L Z m =
+        let L′ : LabellingOf (programOf (set (t .rules) s freeRule)) l = rw left at L in
+        rw left (freed t (Q .sound) s (slot-low t s x Q) (Q .yes) l L′ Z m)

@@ -1,21 +1,24 @@
 // The calls that ask a table and change nothing. Each asks question 15 first, so that the kept labels are the defined
 // ones, then those of its argument; the first answered no is the refusal.
+use affected::reached;
 use calls::Asked;
+use calls::AskedSlot;
 use calls::LabelAnswer;
 use calls::ListAnswer;
-use calls::Refusal;
 use calls::SpoilerAnswer;
 use calls::ask;
-use sound::sound;
+use calls::slots::ask_slot;
+use found::following;
+use found::justifying;
+use listing::write_marked;
 use table::Table;
+use table::kept::keep;
+use table::parts::label_of;
+use table::parts::rule_in;
 ghost use Rattle.calls.specs.Contracts.{LabelEnds, SpoilerEnds};
 ghost use Rattle.calls.specs.Contracts.{JustificationsEnd, ConsequencesEnd, RepercussionsEnd};
 
 mod answers; // answers.rt: one kept label, one spoiler, told as an answer
-mod kept; // kept.rt: what the labels keep, in arrays
-mod written; // written.rt: a set of numbers written into a lent buffer
-mod found; // found.rt: the sets of justifications and of consequences
-mod affected; // affected.rt: the steps from an atom to those that it affects
 
 // The label of an atom: absent, out, or in with depth and supporting slot. Asks 15, 10.
 pub fn label(table: Table, atom: u32) -> LabelAnswer
@@ -26,8 +29,7 @@ pub fn label(table: Table, atom: u32) -> LabelAnswer
         Asked::Refused(why) => LabelAnswer::Refused(why),
         Asked::Passed(a) => {
             let labels = table.labels;
-            let i = a.0 as usize;
-            let kept = labels[i];
+            let kept = label_of(labels, a);
             answers::tell_label(kept)
         }
     }
@@ -37,22 +39,18 @@ pub fn label(table: Table, atom: u32) -> LabelAnswer
 pub fn spoiler(table: Table, slot: u32) -> SpoilerAnswer
     ensures { λ r. ⌜ SpoilerEnds table slot r ⌝ }
 {
-    if !sound(table) {
-        return SpoilerAnswer::Refused(Refusal::Unsound);
+    let asked = ask_slot(table, slot);
+    match asked {
+        AskedSlot::Refused(why) => SpoilerAnswer::Refused(why),
+        AskedSlot::Passed(s) => {
+            let rules = table.rules;
+            let rule = rule_in(rules, s);
+            let labels = table.labels;
+            let k = keep(labels);
+            let flags = k.flags;
+            answers::tell_spoiler(rule, &flags)
+        }
     }
-    let s = slot as usize;
-    if s >= Table::SLOTS {
-        return SpoilerAnswer::Refused(Refusal::SlotNumber);
-    }
-    let rules = table.rules;
-    let rule = rules[s];
-    if rule.state == 0 {
-        return SpoilerAnswer::Refused(Refusal::Free);
-    }
-    let labels = table.labels;
-    let k = kept::keep(labels);
-    let flags = k.flags;
-    answers::tell_spoiler(rule, &flags)
 }
 
 // Justifications of an atom: the slots of the rules with this head, written ascending from the start of the buffer;
@@ -65,8 +63,8 @@ pub fn justifications(table: Table, atom: u32, buffer: &mut [u32]) -> ListAnswer
         Asked::Refused(why) => ListAnswer::Refused(why),
         Asked::Passed(a) => {
             let rules = table.rules;
-            let flags = found::justifying(rules, a);
-            written::write_marked(&flags, buffer)
+            let flags = justifying(rules, a);
+            write_marked(&flags, buffer)
         }
     }
 }
@@ -80,8 +78,8 @@ pub fn consequences(table: Table, atom: u32, buffer: &mut [u32]) -> ListAnswer
         Asked::Refused(why) => ListAnswer::Refused(why),
         Asked::Passed(a) => {
             let rules = table.rules;
-            let flags = found::following(rules, a);
-            written::write_marked(&flags, buffer)
+            let flags = following(rules, a);
+            write_marked(&flags, buffer)
         }
     }
 }
@@ -97,11 +95,11 @@ pub fn repercussions(table: Table, atom: u32, buffer: &mut [u32]) -> ListAnswer
         Asked::Passed(a) => {
             let rules = table.rules;
             let labels = table.labels;
-            let k = kept::keep(labels);
+            let k = keep(labels);
             let flags = k.flags;
             let slots = k.slots;
-            let reached = affected::reached(rules, &flags, &slots, a);
-            written::write_marked(&reached, buffer)
+            let all = reached(rules, &flags, &slots, a);
+            write_marked(&all, buffer)
         }
     }
 }

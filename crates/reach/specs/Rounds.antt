@@ -1,4 +1,4 @@
--- What the parts of `reach` promise one another: an edge followed, and a round over the edges. Assumes nothing.
+-- Private: what the parts of `reach` promise one another, an edge followed and a round over the edges. Assumes nothing.
 use Prim.Native.Nat.{ℕ, zero, suc, _+_, _≤_, _<_}
 use mathlib.Core.Path.{_≡_}
 use mathlib.Core.Bool.{Bool, true, false, _||_}
@@ -7,7 +7,7 @@ use lib.Dec.{eqb}
 use lib.ListN.{length, set}
 use Rattle.theory.specs.Lists.{Steps}
 use Rattle.theory.specs.Limits.{document}
-use Rattle.table.specs.Sets.{member}
+use Rattle.table.specs.Sets.{member, one-if}
 use Rattle.reach.specs.Edges.{Edge}
 
 -- An edge that leaves a source is followed: the start is one, and so is each member of the set.
@@ -34,27 +34,23 @@ Followed start a c before after true = Marks start a c before after
 Followed start a c before after false = Rests start a c before after
 
 -- How many places are not in the set.
-unfoldable pub missing : List Bool → ℕ
-missing [] = zero
-missing (true ∷ flags) = missing flags
-missing (false ∷ flags) = suc (missing flags)
-
-abbrev pub one-if : Bool → ℕ
-one-if true = 1
-one-if false = 0
+unfoldable pub outside : List Bool → ℕ
+outside [] = zero
+outside (true ∷ flags) = outside flags
+outside (false ∷ flags) = suc (outside flags)
 
 -- Every member of the set is reached from the start.
-abbrev pub Sound : (from to : List ℕ) (count start : ℕ) → List Bool → Type 0
-Sound from to count start flags = (x : ℕ) → member flags x ≡ true → Steps (Edge from to count) start x
+abbrev pub OnlyReached : (from to : List ℕ) (count start : ℕ) → List Bool → Type 0
+OnlyReached from to count start flags = (x : ℕ) → member flags x ≡ true → Steps (Edge from to count) start x
 
 -- The set holds every atom that an edge leads to from the start or from a member.
-abbrev pub Closed : (from to : List ℕ) (count start : ℕ) → List Bool → Type 0
-Closed from to count start flags =
+abbrev pub AllFollowed : (from to : List ℕ) (count start : ℕ) → List Bool → Type 0
+AllFollowed from to count start flags =
     (a c : ℕ) → Edge from to count a c → source start flags a ≡ true → member flags c ≡ true
 
 -- Of `count` edges the first i were followed, one after another; b says whether an atom came into the set.
 pub record Round (from to : List ℕ) (count start i : ℕ) (before after : List Bool) (b : Bool) : Type 0 where
-  pub sound : Sound from to count start before → Sound from to count start after
-  pub fewer : missing after + one-if b ≤ missing before
+  pub only : OnlyReached from to count start before → OnlyReached from to count start after
+  pub fewer : outside after + one-if b ≤ outside before
   pub same : b ≡ false → after ≡ before
-  pub closed : b ≡ false → Closed from to i start before
+  pub all : b ≡ false → AllFollowed from to i start before

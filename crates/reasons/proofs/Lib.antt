@@ -1,5 +1,2 @@
--- Laws about the definitions of specs/. Nothing here needs to be believed: all of it is checked.
-pub mod Kept
-pub mod Gathering
-pub mod Writing
+-- Laws behind the call's proof. Nothing here needs to be believed: all of it is checked.
 pub mod Reasons

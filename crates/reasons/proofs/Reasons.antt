@@ -16,6 +16,7 @@ use Rattle.theory.specs.Derivations.{Depth}
 use Rattle.theory.specs.Labels.{Supporting, Labelled, is-absent, is-out, is-in}
 use Rattle.theory.specs.Explanations.{Gathered, asked, onward, Before, SlotsOf, Reason}
 use Rattle.theory.specs.Questions.{Question, first-no, reason-questions, is-in-label}
+use Rattle.theory.specs.Certificate.{depth-in, slot-in}
 use Rattle.theory.specs.Limits.{document}
 use Rattle.theory.proofs.Lists.{clash, le-or-lt, lt-ltb}
 use Rattle.theory.proofs.Rules.{held-unique, valid-positive}
@@ -30,6 +31,9 @@ use Rattle.table.specs.Sets.{member, number}
 use Rattle.table.specs.Rules.{programOf, pastRule}
 use Rattle.table.specs.Labels.{label-in, labelAt, absentLabel}
 use Rattle.table.specs.Sound.{Sound}
+use Rattle.table.specs.declared.kept.Kept.{Kept}
+use Rattle.table.specs.Kept.{KeptOf}
+use Rattle.table.proofs.KeptFields.{depths-are, slots-are}
 use Rattle.table.proofs.Members.{all-alike}
 use Rattle.table.proofs.Programs.{held-rule, label-kept}
 use Rattle.calls.specs.declared.ListAnswer.{ListAnswer}
@@ -38,17 +42,19 @@ use Rattle.calls.specs.declared.Refusal.the-variants.{Buffer}
 use Rattle.calls.specs.Contracts.{ReasonEnds, short, accepted}
 use Rattle.calls.proofs.Asking.{Passes, passes-low}
 use Rattle.sound.proofs.Soundness.{bounded-of}
-use Rattle.reasons.specs.Kept.{KeptIn, depthAt, slotAt, positivesAt, NumbersOf, EntriesOf, Slotted, KeptEntry}
-use Rattle.reasons.specs.Gathering.{Reached, Falling, Gathers}
-use Rattle.reasons.specs.Gathering as gathering
-use Rattle.reasons.specs.Writing.{Appends, below, by-depth}
-use Rattle.reasons.proofs.Kept.{keeps-entries, positives-none, positives-in, past-label, past-slot}
-use Rattle.reasons.proofs.Writing.{overwrite-all, appends-all, by-depth-at, by-depth-of, by-depth-count}
-use Rattle.reasons.proofs.Writing.{by-depth-sorted}
+use Rattle.gathering.specs.Kept.{KeptIn, slotAt, positivesAt, EntriesOf, Slotted, KeptEntry}
+use Rattle.gathering.specs.Gathering.{Leads, Falling, Gathers}
+use Rattle.gathering.specs.Gathering as gathering
+use Rattle.listing.specs.Lists.{below}
+use Rattle.listing.specs.Written.{Appends}
+use Rattle.ordered.specs.Depths.{by-depth}
+use Rattle.gathering.proofs.Kept.{keeps-entries, positives-none, positives-in, past-label, past-slot}
+use Rattle.listing.proofs.Written.{overwrite-all, appends-all}
+use Rattle.ordered.proofs.Depths.{by-depth-at, by-depth-of, by-depth-count, by-depth-sorted}
 
 -- Where steps fall, what is reached is no deeper.
 reached-depth :
-    {S : ℕ → ℕ → Type 0} {a x : ℕ} (d : ℕ → ℕ) → Falling S d → Reached S a x → d x ≤ d a
+    {S : ℕ → ℕ → Type 0} {a x : ℕ} (d : ℕ → ℕ) → Falling S d → Leads S a x → d x ≤ d a
 reached-depth d f (gathering.self e) = omega (arith, ap d e)
 reached-depth d f (gathering.onward {x = x} {y = y} w s) = omega (arith, reached-depth d f w, f x y s)
 
@@ -84,10 +90,16 @@ module _ (labels : List Label) (a : ℕ) where
 
 -- The atom that passed 15 and 10: its refusal 12, and its reason.
 module _ (t : Table) (a : ℕ) (x : Atom) (Q : Passes t a x) where
-  pub refused-12 : getD (t .labels) (x .0) absentLabel .state < 2 → first-no (questions (t .labels) a) ≡ some 12
-  refused-12 h =
-      no-12 (t .labels) a (passes-low t a x Q)
-      (subst (λ (k : ℕ). getD (t .labels) k absentLabel .state < 2) (Q .atom) h)
+  -- its kept label
+  module _ (l : Label) (e : l ≡ getD (t .labels) (x .0) absentLabel) where
+    pub refused-12 : l .state < 2 → first-no (questions (t .labels) a) ≡ some 12
+    refused-12 h =
+        no-12 (t .labels) a (passes-low t a x Q)
+        (subst (λ (k : ℕ). getD (t .labels) k absentLabel .state < 2) (Q .atom)
+        (subst (λ (z : Label). z .state < 2) e h))
+
+    pub is-kept-in : 2 ≤ l .state → KeptIn (t .labels) (x .0)
+    is-kept-in h = subst (λ (z : Label). 2 ≤ z .state) e h
 
   pub ends-asked :
       (before : List ℕ) (r : ListAnswer) (after : List ℕ) → ReasonEnds t (x .0) before r after
@@ -139,7 +151,7 @@ module _ (t : Table) (long : length (t .labels) ≡ document .atoms) (sound : So
 
   -- Its kept depth and slot are the defined ones.
   kept : (x : ℕ) → M x ≡ true
-      → (2 ≤ at x .state) × Depth P M x (depthAt (t .labels) x) × Supporting P M x (slotAt (t .labels) x)
+      → (2 ≤ at x .state) × Depth P M x (at x .depth) × Supporting P M x (slotAt (t .labels) x)
   kept x u = state-in P M founded x _ _ _ (sound .labels .labels x (in-below x u)) u
 
   -- Every kept slot is a slot of the table.
@@ -174,15 +186,29 @@ module _ (t : Table) (long : length (t .labels) ≡ document .atoms) (sound : So
   gathered-in u (onward {x = x} {y = y} s r g S h m) = positive-in x (gathered-in u g) s r S h y m
 
   module _
-      (depths slots counts entries : List ℕ) (numbers : NumbersOf (t .labels) depths slots)
+      (k : Kept) (K : KeptOf (t .labels) k) (counts entries : List ℕ)
       (copied : EntriesOf (t .rules) (t .labels) counts entries)
     where
       -- An in atom's depth and slot, as the arrays have them.
+      abbrev depths : List ℕ
+      depths = k .depths
+
+      abbrev slots : List ℕ
+      slots = k .slots
+
       deep : (x : ℕ) → M x ≡ true → Depth P M x (number depths x)
-      deep x u = subst (Depth P M x) (sym (numbers .deep x)) (kept x u .1)
+      deep x u =
+          let w = kept x u in
+          subst (Depth P M x)
+          (sym (ap (λ (f : ℕ → ℕ). f x) (depths-are (t .labels) k K) ∙ ap depth-in (label-kept (at x) (omega (arith, w .0)))))
+          (w .1)
 
       supporting : (x : ℕ) → M x ≡ true → Supporting P M x (number slots x)
-      supporting x u = subst (Supporting P M x) (sym (numbers .slot x)) (kept x u .2)
+      supporting x u =
+          let w = kept x u in
+          subst (Supporting P M x)
+          (sym (ap (λ (f : ℕ → ℕ). f x) (slots-are (t .labels) k K) ∙ ap slot-in (label-kept (at x) (omega (arith, w .0)))))
+          (w .2)
 
       -- Only an in atom has kept entries: the positive entries of its supporting rule.
       entry-from-in : (x y : ℕ) → KeptEntry counts entries x y → M x ≡ true
@@ -216,7 +242,7 @@ module _ (t : Table) (long : length (t .labels) ≡ document .atoms) (sound : So
           )
 
       -- What is reached by kept entries from an in atom is gathered from it,
-      reached-gathered : {a x : ℕ} → M a ≡ true → Reached (KeptEntry counts entries) a x → Gathered P M a x
+      reached-gathered : {a x : ℕ} → M a ≡ true → Leads (KeptEntry counts entries) a x → Gathered P M a x
       reached-gathered u (gathering.self e) = asked e
       reached-gathered u (gathering.onward {x = x} {y = y} w k) =
           let v = entry-from-in x y k in
@@ -251,11 +277,11 @@ module _ (t : Table) (long : length (t .labels) ≡ document .atoms) (sound : So
               (λ x y s k l. G .closed is-depth falling x y s (all-alike (document .atoms) x false) k
               (omega (arith, length-replicate (document .atoms) false)))
 
-          reached : (x : ℕ) → member seen x ≡ true → Reached (KeptEntry counts entries) a x
+          reached : (x : ℕ) → member seen x ≡ true → Leads (KeptEntry counts entries) a x
           reached x s = ⊎-elim
               (λ (b : member (replicate (document .atoms) false) x ≡ true).
               absurd (clash b (all-alike (document .atoms) x false)))
-              (λ (w : Reached (KeptEntry counts entries) a x). w)
+              (λ (w : Leads (KeptEntry counts entries) a x). w)
               (G .only x s)
 
           seen-in : (x : ℕ) → member seen x ≡ true → M x ≡ true
@@ -310,10 +336,11 @@ module _ (t : Table) (long : length (t .labels) ≡ document .atoms) (sound : So
               }
 
           -- The ends of the call: there are n slots, which do not fit the buffer, or were written.
-          module _ (buffer : List ℕ) (n : ℕ) (counted : n ≡ length (below (member seen) (document .atoms))) where
+          module _ (buffer : List ℕ) (n : ℕ) (counted : n ≡ length (below (member seen) (length seen))) where
             count-is : n ≡ length written
             count-is =
                 counted
+                ∙ ap (λ (k : ℕ). length (below (member seen) k)) (G .long ∙ length-replicate (document .atoms) false)
                 ∙ sym (length-map atoms (number slots)
                 ∙ by-depth-count (member seen) (number depths) (document .atoms) depth (λ x l. seen-depth x))
 

@@ -30,6 +30,12 @@ use Rattle.table.specs.Rules.{numbers, ruleOf, spoilerOf, noAtom}
 pub past : {A : Type 0} (xs : List A) (i : ℕ) (d : A) → length xs ≤ i → d ≡ getD xs i d
 past xs i d l = sym (List·getD-eq-default xs d l)
 
+-- At a place that it has, an array reads the same whatever it reads as past its end.
+pub there : {A : Type 0} (xs : List A) (i : ℕ) (d e : A) → i < length xs → getD xs i d ≡ getD xs i e
+there [] i d e l = absurd (omega arith)
+there (x ∷ xs) zero d e l = refl
+there (x ∷ xs) (suc i) d e l = there xs i d e (omega arith)
+
 -- The entries from j to below n: none, or entry j and the rest.
 module _ (xs : List Atom) (j n : ℕ) where
   pub part-over : n ≤ j → numbers (slice j n xs) ≡ []

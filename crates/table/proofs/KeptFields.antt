@@ -1,14 +1,12 @@
 -- Laws of what the labels keep, taken field by field into arrays. Assumes nothing.
-use Prim.Native.Nat.{ℕ, zero, suc, _+_, _≤_, _<_}
+use Prim.Native.Nat.{ℕ, zero, suc, _≤_, _<_}
 use native.Mathlib.Omega.{arith}
-use native.Mathlib.Numerals.{add-one}
-use mathlib.Core.Path.{_≡_, refl, sym, _∙_, ap, ap₂, fun-ext}
+use mathlib.Core.Path.{_≡_, refl, sym, _∙_, ap, fun-ext}
 use mathlib.Core.Bool.{false}
-use mathlib.Core.List.{List, [], _∷_, _++_, map}
+use mathlib.Core.List.{List}
 use mathlib.Core.Logic.{⊎-elim}
 use lib.Dec.{ltb}
-use lib.ListN.{length, getD, take, set, length-map, length-set, List·getD-map}
-use lib.Seq.{take-suc, take-suc-set, take-all}
+use lib.ListN.{length, length-map, List·getD-map}
 use Rattle.theory.specs.Labels as theory
 use Rattle.theory.specs.Labels.{in-at}
 use Rattle.theory.specs.Questions.{is-in-label}
@@ -48,34 +46,6 @@ module _ (l : Label) where
       ∙ sym (label-not-in is-in-label false refl refl h))
       (λ (h : 1 < l .state). lt-ltb 1 (l .state) h ∙ sym (ap is-in-label (label-is-in h)))
       (le-or-lt (l .state) 1)
-
--- The first i places of xs have what f makes of the first i labels.
-pub record Copied {A : Type 0} (f : Label → A) (labels : List Label) (xs : List A) (i : ℕ) : Type 0 where
-  pub size : length xs ≡ length labels
-  pub front : take i xs ≡ take i (map f labels)
-
-module _ {A : Type 0} (f : Label → A) (labels : List Label) (xs : List A) where
-  pub copied-start : length xs ≡ length labels → Copied f labels xs 0
-  copied-start l = record { size = l; front = refl }
-
-  pub copied-next :
-      (i : ℕ) (v : A) → i < length labels → Copied f labels xs i → v ≡ f (getD labels i absentLabel)
-      → Copied f labels (set xs i v) (i + 1)
-  copied-next i v l C e =
-      let long : i < length (map f labels) = simp length-map (l) in
-      let here : i < length xs = omega (arith, C .size) in
-      record {
-        size = length-set xs i v ∙ C .size;
-        front = rw add-one
-            (take-suc-set xs i v here
-            ∙ ap₂ (λ ys y. ys ++ (y ∷ [])) (C .front) (e ∙ sym (List·getD-map f labels i absentLabel))
-            ∙ sym (take-suc (map f labels) i (f absentLabel) long));
-      }
-
-  pub copied-all : (i : ℕ) → length labels ≤ i → Copied f labels xs i → xs ≡ map f labels
-  copied-all i l C =
-      let long : length (map f labels) ≤ i = simp length-map (l) in
-      sym (take-all i xs (omega (arith, C .size))) ∙ C .front ∙ take-all i (map f labels) long
 
 -- What was taken apart is what is kept.
 module _ (labels : List Label) (k : Kept) (K : KeptOf labels k) where

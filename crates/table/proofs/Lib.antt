@@ -5,5 +5,6 @@ pub mod Programs
 pub mod Walks
 pub mod Empty
 pub mod Arrays
+pub mod Copies
 pub mod KeptFields
 pub mod SlotsInTurn

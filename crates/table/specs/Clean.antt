@@ -9,19 +9,12 @@ use Rattle.theory.specs.Limits.{document}
 use Rattle.table.specs.declared.Rule.{Rule}
 use Rattle.table.specs.declared.Label.{Label}
 use Rattle.table.specs.declared.Table.{Table}
-use Rattle.table.specs.Rules.{noAtom, slotOf, pastRule}
+use Rattle.table.specs.Rules.{noAtom, noRule, slotOf, pastRule}
 use Rattle.table.specs.Labels.{absentLabel}
 
 -- A free slot of the empty table.
 abbrev pub freeRule : Rule
-freeRule =
-    record {
-      state = 0;
-      head = noAtom;
-      positives = 0;
-      negatives = 0;
-      entries = replicate (document .entries) noAtom;
-    }
+freeRule = noRule (replicate (document .entries) noAtom)
 
 -- The empty table, in which every slot is free and every atom absent.
 abbrev pub emptyTable : Table

@@ -44,9 +44,14 @@ spoilerOf Nothing = none
 spoilerOf (Positive i a) = some (record { side = positive; place = i; atom = a .0 })
 spoilerOf (Negative i a) = some (record { side = negative; place = i; atom = a .0 })
 
--- What an array of slots, or of entries, reads as past its end.
+-- What an array of entries reads as past its end: atom 0, which also stands where there is no entry.
 abbrev pub noAtom : Atom
 noAtom = record { 0 = 0 }
 
+-- A slot that holds no rule, with these entries.
+abbrev pub noRule : List Atom → Rule
+noRule entries = record { state = 0; head = noAtom; positives = 0; negatives = 0; entries = entries }
+
+-- What an array of slots reads as past its end.
 abbrev pub pastRule : Rule
-pastRule = record { state = 0; head = noAtom; positives = 0; negatives = 0; entries = [] }
+pastRule = noRule []

@@ -11,8 +11,9 @@ use Rattle.theory.proofs.Lists.{not-true, not-false}
 use Rattle.table.specs.Questions.{ruleFrom}
 use Rattle.questions.proofs.Refusals.{none-refused}
 use Rattle.calls.specs.Contracts.{held}
+use Rattle.making.proofs.Slots.{lowest-at, lowest-none}
 use Rattle.changes.proofs.Adding.{same-told, refused-early, refused-same, refused-full, refused-cycle}
-use Rattle.changes.proofs.Adding.{bounded-put, taken, handed-back}
+use Rattle.changes.proofs.Adding.{bounded-changed, add-ends, handed-back}
 use Rattle.changes.proofs.Sizes.{table-sized, rule-sized, labels-sized}
 use borrow.Author.Needs.{needs}
 use Rattle.changes.proofs.add_to_sound.Statement.{statement}
@@ -77,31 +78,37 @@ returns-2 c =
 lowest-free-requires : tie.Need-lowest-free-requires
 lowest-free-requires c κs = search needs
 
+enum-known-lowest : tie.Need-enum-known-lowest
+enum-known-lowest c = search needs
+
+enum-told : tie.Need-enum-told
+enum-told c = search needs
+
 refuse-requires-3 : tie.Need-refuse-requires-3
 refuse-requires-3 c κs = search needs
 
 returns-3 : tie.Need-returns-3
 returns-3 c =
-    let low = c .before .before in
+    let full = c .before in
+    let low = full .before .before in
     let made = low .before .before .before .before in
     let s = made .before .before .before .before .before in
     handed-back (s .args .table) (named s) _ _ (c .refuse3 .ensures)
     (refused-full (s .args .table) (s .pre) (named s) (pass (made .before)) (other (low .before))
-    (low .lowest-free .ensures .full (c .before .if3 .taken)))
+    (lowest-none _ _ (low .lowest-free .ensures) (full .enum-told .given .1)))
 
-mul-changed : tie.Need-mul-changed
-mul-changed c = search needs
-
-array-set-from-changed : tie.Need-array-set-from-changed
-array-set-from-changed c = search needs
+with-rule-requires : tie.Need-with-rule-requires
+with-rule-requires c κs = search needs
 
 labels-of-requires : tie.Need-labels-of-requires
 labels-of-requires c κs =
-    let low = c .before in
+    let at = c .before .before in
+    let low = at .before .before in
+    let free = lowest-at _ _ (low .lowest-free .ensures) _ (at .lowest .given .1) in
     let made = low .before .before .before .before in
     let s = made .before .before .before .before .before in
-    bounded-put (s .args .table) (s .pre) (named s) (pass (made .before)) (other (low .before)) _ (c .if3 .left)
-    (low .lowest-free .ensures .found (c .if3 .left)) (made .make-rule .result) (made .make-rule .ensures)
+    bounded-changed (s .args .table) (s .pre) (named s) (pass (made .before)) (other (low .before)) _ (free .0)
+    (free .1) (made .make-rule .result) (made .make-rule .ensures) _ (c .with-rule .ensures)
 
 refuse-requires-4 : tie.Need-refuse-requires-4
 refuse-requires-4 c κs = search needs
@@ -110,27 +117,28 @@ returns-4 : tie.Need-returns-4
 returns-4 c =
     let told = c .before .before .before in
     let put = told .before in
-    let low = put .before in
+    let at = put .before .before in
+    let low = at .before .before in
+    let free = lowest-at _ _ (low .lowest-free .ensures) _ (at .lowest .given .1) in
     let made = low .before .before .before .before in
     let s = made .before .before .before .before .before in
     handed-back (s .args .table) (named s) _ _ (c .refuse4 .ensures)
-    (refused-cycle (s .args .table) (s .pre) (named s) (pass (made .before)) (other (low .before)) _ (put .if3 .left)
-    (low .lowest-free .ensures .found (put .if3 .left)) (made .make-rule .result) (made .make-rule .ensures)
-    (told .labels-of .result) (told .labels-of .ensures) (not-true _ (c .before .if4 .taken)))
-
-cast-taken : tie.Need-cast-taken
-cast-taken c = search needs
+    (refused-cycle (s .args .table) (s .pre) (named s) (pass (made .before)) (other (low .before)) _ (free .0)
+    (free .1) (made .make-rule .result) (made .make-rule .ensures) _ (put .with-rule .ensures)
+    (told .labels-of .result) (told .labels-of .ensures) (not-true _ (c .before .if3 .taken)))
 
 returns-5 : tie.Need-returns-5
 returns-5 c =
     let told = c .before .before .before in
     let put = told .before in
-    let low = put .before in
+    let at = put .before .before in
+    let low = at .before .before in
+    let free = lowest-at _ _ (low .lowest-free .ensures) _ (at .lowest .given .1) in
     let made = low .before .before .before .before in
     let s = made .before .before .before .before .before in
-    taken (s .args .table) (s .pre) (named s) (pass (made .before)) (other (low .before)) _ (put .if3 .left)
-    (low .lowest-free .ensures .found (put .if3 .left)) (made .make-rule .result) (made .make-rule .ensures)
-    (told .labels-of .result) (told .labels-of .ensures) (not-false _ (c .before .if4 .left))
+    add-ends (s .args .table) (s .pre) (named s) (pass (made .before)) (other (low .before)) _ (free .0)
+    (free .1) (made .make-rule .result) (made .make-rule .ensures) _ (put .with-rule .ensures)
+    (told .labels-of .result) (told .labels-of .ensures) (not-false _ (c .before .if3 .left))
     (table-sized _ _ (s .good .0)) (rule-sized (made .make-rule .result) _ (made .make-rule .ok))
     (labels-sized (told .labels-of .result) _ (told .labels-of .ok))
 
@@ -147,12 +155,12 @@ add-to-sound-spec =
     refuse-requires-2
     returns-2
     lowest-free-requires
+    enum-known-lowest
+    enum-told
     refuse-requires-3
     returns-3
-    mul-changed
-    array-set-from-changed
+    with-rule-requires
     labels-of-requires
     refuse-requires-4
     returns-4
-    cast-taken
     returns-5)

@@ -1,8 +1,8 @@
 -- `queries::consequences` meets its contract. Assumes nothing.
 use Rattle.theory.specs.Explanations.{Consequence}
 use Rattle.calls.specs.Contracts.{held}
-use Rattle.calls.proofs.Asking.{ask-passed, list-refused}
-use Rattle.queries.proofs.Ends.{sound-bounded, set-ends}
+use Rattle.calls.proofs.Asking.{ask-passed}
+use Rattle.queries.proofs.Ends.{sound-bounded, set-refused, set-ends}
 use borrow.Author.Needs.{needs}
 use Rattle.queries.proofs.consequences.Statement.{statement}
 use Rattle.queries.proofs.consequences.Tie as tie
@@ -34,7 +34,8 @@ returns c =
     let asked = c .before in
     let ask = asked .before .before in
     let s = ask .before .before in
-    list-refused (s .args .table) (s .args .atom) _ (ask .ask .ensures) _ (asked .asked .given .1) _ _ _ (λ k e. e)
+    let t = s .args .table in
+    set-refused t (s .args .atom) _ (ask .ask .ensures) (λ M. Consequence (held t)) _ (asked .asked .given .1) _
 
 same-length : tie.Need-same-length
 same-length c = search needs
@@ -48,8 +49,9 @@ returns-2 c =
     let s = ask .before .before in
     let t = s .args .table in
     let passes = ask-passed t (s .args .atom) _ (ask .ask .ensures) _ (asked .asked2 .given .1) in
-    set-ends t (s .args .atom) _ (λ M. Consequence (held t)) _ (find .following .result) _ _ _ passes
-    (passes .sound .labels .admissible) (find .following .ensures) (write .write-marked .ensures)
+    set-ends t (s .args .atom) _ (ask .ask .ensures) (λ M. Consequence (held t)) _ (asked .asked2 .given .1) _
+    (passes .sound .labels .admissible) (find .following .result) (find .following .ensures) _ _ _
+    (write .write-marked .ensures)
 
 pub consequences-spec : {M : Type 1} → statement M
 consequences-spec =

@@ -1,8 +1,8 @@
 -- `queries::justifications` meets its contract. Assumes nothing.
 use Rattle.theory.specs.Explanations.{Justification}
 use Rattle.calls.specs.Contracts.{held}
-use Rattle.calls.proofs.Asking.{ask-passed, list-refused}
-use Rattle.queries.proofs.Ends.{set-ends}
+use Rattle.calls.proofs.Asking.{ask-passed}
+use Rattle.queries.proofs.Ends.{set-refused, set-ends}
 use borrow.Author.Needs.{needs}
 use Rattle.queries.proofs.justifications.Statement.{statement}
 use Rattle.queries.proofs.justifications.Tie as tie
@@ -30,7 +30,8 @@ returns c =
     let asked = c .before in
     let ask = asked .before .before in
     let s = ask .before .before in
-    list-refused (s .args .table) (s .args .atom) _ (ask .ask .ensures) _ (asked .asked .given .1) _ _ _ (λ k e. e)
+    let t = s .args .table in
+    set-refused t (s .args .atom) _ (ask .ask .ensures) (λ M. Justification (held t)) _ (asked .asked .given .1) _
 
 same-length : tie.Need-same-length
 same-length c = search needs
@@ -44,8 +45,9 @@ returns-2 c =
     let s = ask .before .before in
     let t = s .args .table in
     let passes = ask-passed t (s .args .atom) _ (ask .ask .ensures) _ (asked .asked2 .given .1) in
-    set-ends t (s .args .atom) _ (λ M. Justification (held t)) _ (find .justifying .result) _ _ _ passes
-    (passes .sound .labels .admissible) (find .justifying .ensures) (write .write-marked .ensures)
+    set-ends t (s .args .atom) _ (ask .ask .ensures) (λ M. Justification (held t)) _ (asked .asked2 .given .1) _
+    (passes .sound .labels .admissible) (find .justifying .result) (find .justifying .ensures) _ _ _
+    (write .write-marked .ensures)
 
 pub justifications-spec : {M : Type 1} → statement M
 justifications-spec =

@@ -1,5 +1,5 @@
 -- `queries::label` meets its contract. Assumes nothing.
-use Rattle.calls.proofs.Asking.{passes-low, ask-passed, label-refused}
+use Rattle.calls.proofs.Asking.{ask-passed, label-refused}
 use Rattle.queries.proofs.Ends.{label-ends}
 use borrow.Author.Needs.{needs}
 use Rattle.queries.proofs.label.Statement.{statement}
@@ -14,21 +14,8 @@ enum-known-asked c = search needs
 enum-known-asked-2 : tie.Need-enum-known-asked-2
 enum-known-asked-2 c = search needs
 
-cast-i : tie.Need-cast-i
-cast-i c = search needs
-
-mul-kept : tie.Need-mul-kept
-mul-kept c = search needs
-
-array-copy-out-kept : tie.Need-array-copy-out-kept
-array-copy-out-kept c =
-    let asked = c .before .before .before in
-    let ask = asked .before .before in
-    let s = ask .before in
-    let passes = ask-passed (s .args .table) (s .args .atom) _ (ask .ask .ensures) _ (asked .asked2 .given .1) in
-    let low = passes-low _ _ _ passes in
-    let atom = passes .atom in
-    search needs
+label-of-requires : tie.Need-label-of-requires
+label-of-requires c κs = search needs
 
 tell-label-requires : tie.Need-tell-label-requires
 tell-label-requires c κs = search needs
@@ -42,11 +29,13 @@ returns c =
 
 returns-2 : tie.Need-returns-2
 returns-2 c =
-    let asked = c .before .before .before .before .before in
+    let read = c .before in
+    let asked = read .before .before .before in
     let ask = asked .before .before in
     let s = ask .before in
-    label-ends (s .args .table) (s .args .atom) _ _
-    (ask-passed _ _ _ (ask .ask .ensures) _ (asked .asked2 .given .1)) (c .tell-label .ensures)
+    label-ends (s .args .table) (s .args .atom) _ _ _
+    (ask-passed _ _ _ (ask .ask .ensures) _ (asked .asked2 .given .1)) (read .label-of .ensures)
+    (c .tell-label .ensures)
 
 pub label-spec : {M : Type 1} → statement M
 label-spec =
@@ -55,9 +44,7 @@ label-spec =
     ask-requires
     enum-known-asked
     enum-known-asked-2
-    cast-i
-    mul-kept
-    array-copy-out-kept
+    label-of-requires
     tell-label-requires
     returns
     returns-2)

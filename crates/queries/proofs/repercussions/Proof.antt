@@ -4,8 +4,8 @@ use lib.ListN.{length, length-map}
 use Rattle.theory.specs.Limits.{document}
 use Rattle.theory.specs.Explanations.{Repercussion}
 use Rattle.calls.specs.Contracts.{held}
-use Rattle.calls.proofs.Asking.{ask-passed, list-refused}
-use Rattle.queries.proofs.Ends.{sound-bounded, flags-model, flags-supports, set-ends}
+use Rattle.calls.proofs.Asking.{ask-passed}
+use Rattle.queries.proofs.Ends.{sound-bounded, flags-model, flags-supports, set-refused, set-ends}
 use borrow.Author.Needs.{needs}
 use Rattle.queries.proofs.repercussions.Statement.{statement}
 use Rattle.queries.proofs.repercussions.Tie as tie
@@ -50,7 +50,8 @@ returns c =
     let asked = c .before in
     let ask = asked .before .before in
     let s = ask .before .before in
-    list-refused (s .args .table) (s .args .atom) _ (ask .ask .ensures) _ (asked .asked .given .1) _ _ _ (λ k e. e)
+    let t = s .args .table in
+    set-refused t (s .args .atom) _ (ask .ask .ensures) (λ M. Repercussion (held t) M) _ (asked .asked .given .1) _
 
 same-length : tie.Need-same-length
 same-length c = search needs
@@ -65,9 +66,9 @@ returns-2 c =
     let s = ask .before .before in
     let t = s .args .table in
     let passes = ask-passed t (s .args .atom) _ (ask .ask .ensures) _ (asked .asked2 .given .1) in
-    set-ends t (s .args .atom) _ (λ M. Repercussion (held t) M) _ (find .reached .result) _ _ _ passes
+    set-ends t (s .args .atom) _ (ask .ask .ensures) (λ M. Repercussion (held t) M) _ (asked .asked2 .given .1) _
     (flags-model t (rules-long s) (labels-long s) (passes .sound) _ (keep .keep .ensures))
-    (find .reached .ensures) (write .write-marked .ensures)
+    (find .reached .result) (find .reached .ensures) _ _ _ (write .write-marked .ensures)
 
 pub repercussions-spec : {M : Type 1} → statement M
 repercussions-spec =

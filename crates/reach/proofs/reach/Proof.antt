@@ -1,9 +1,10 @@
--- `reach::reach` meets its contract. The loop's invariant: each member is reached, and once a round brings none in, the
--- set is closed. The measure: the atoms that are missing, and the last round. Assumes nothing.
+-- `reach::reach` meets its contract. The loop's invariant: each member is reached, and once a round brings none in, every
+-- edge was followed. The measure: the atoms outside the set, and the last round. Assumes nothing.
 use Prim.Native.Nat.{_+_}
 use borrow.Author.Needs.{needs}
 use Rattle.theory.specs.Limits.{document}
-use Rattle.reach.specs.Rounds.{missing, one-if}
+use Rattle.table.specs.Sets.{one-if}
+use Rattle.reach.specs.Rounds.{outside}
 use Rattle.reach.proofs.Rounds.{Rounds, rounds-start, rounds-next, rounds-fewer, rounds-over}
 use Rattle.reach.proofs.reach.Statement.{statement}
 use Rattle.reach.proofs.reach.Tie as tie
@@ -12,7 +13,7 @@ abbrev Inv-loop : tie.InvT-loop
 Inv-loop from to count start flags₀ again₀ flags again = Rounds from to count (start .0) flags again
 
 abbrev μ-loop : tie.MeasureT-loop
-μ-loop from to count start flags₀ again₀ flags again = missing flags + one-if again
+μ-loop from to count start flags₀ again₀ flags again = outside flags + one-if again
 
 loop-holds : tie.Need-loop-holds Inv-loop μ-loop
 loop-holds c = rounds-start _ _ _ _ (document .atoms)

@@ -11,8 +11,8 @@ use Rattle.reasons.proofs.listed.Tie as tie
 long : (s : tie.Start) → length (s .args .table .labels) ≡ document .atoms
 long s = simp length-map at (s .good .0 .1 .1 .1 .0 .1 .0 .1)
 
-kept-numbers-requires : tie.Need-kept-numbers-requires
-kept-numbers-requires c κs = search needs
+keep-requires : tie.Need-keep-requires
+keep-requires c κs = search needs
 
 kept-entries-requires : tie.Need-kept-entries-requires
 kept-entries-requires c κs =
@@ -25,8 +25,11 @@ number-of-requires c κs = search needs
 gather-requires : tie.Need-gather-requires
 gather-requires c κs = search needs
 
-count-requires : tie.Need-count-requires
-count-requires c κs = search needs
+slice-aggregate-count-marked : tie.Need-slice-aggregate-count-marked
+slice-aggregate-count-marked c = search needs
+
+count-marked-requires : tie.Need-count-marked-requires
+count-marked-requires c κs = search needs
 
 returns : tie.Need-returns
 returns c =
@@ -34,11 +37,11 @@ returns c =
     let gathered = counted .before .before in
     let depth = gathered .before .before .before .before .before in
     let copied = depth .before .before .before .before in
-    let numbers = copied .before .before .before in
-    let s = numbers .before .before .before .before in
-    ends-short (s .args .table) (long s) (s .pre .0) _ _ _ _ (numbers .kept-numbers .ensures)
+    let kept = copied .before .before .before in
+    let s = kept .before .before .before .before in
+    ends-short (s .args .table) (long s) (s .pre .0) (kept .keep .result) (kept .keep .ensures) _ _
     (copied .kept-entries .ensures) (s .args .a .0) (s .pre .1) _ (depth .number-of .ensures) _
-    (gathered .gather .ensures) (s .args .buffer .now) _ (counted .count .ensures) (c .if1 .taken)
+    (gathered .gather .ensures) (s .args .buffer .now) _ (counted .count-marked .ensures) (c .if1 .taken)
 
 write-slots-requires : tie.Need-write-slots-requires
 write-slots-requires c κs = search needs
@@ -52,11 +55,11 @@ returns-2 c =
     let gathered = counted .before .before in
     let depth = gathered .before .before .before .before .before in
     let copied = depth .before .before .before .before in
-    let numbers = copied .before .before .before in
-    let s = numbers .before .before .before .before in
-    ends-written (s .args .table) (long s) (s .pre .0) _ _ _ _ (numbers .kept-numbers .ensures)
+    let kept = copied .before .before .before in
+    let s = kept .before .before .before .before in
+    ends-written (s .args .table) (long s) (s .pre .0) (kept .keep .result) (kept .keep .ensures) _ _
     (copied .kept-entries .ensures) (s .args .a .0) (s .pre .1) _ (depth .number-of .ensures) _
-    (gathered .gather .ensures) (s .args .buffer .now) _ (counted .count .ensures)
+    (gathered .gather .ensures) (s .args .buffer .now) _ (counted .count-marked .ensures)
     (c .before .before .before .before .before .before .before .if1 .left) _ _
     (c .before .before .write-slots .ensures)
 
@@ -64,11 +67,12 @@ pub listed-spec : {M : Type 1} → statement M
 listed-spec =
     tie.close
     (tie.spec
-    kept-numbers-requires
+    keep-requires
     kept-entries-requires
     number-of-requires
     gather-requires
-    count-requires
+    slice-aggregate-count-marked
+    count-marked-requires
     returns
     write-slots-requires
     same-length

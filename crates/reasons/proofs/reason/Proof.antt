@@ -1,8 +1,8 @@
 -- `reasons::reason` meets its contract: each refusal is that of the first question answered no. Assumes nothing.
 use Rattle.calls.specs.declared.Refusal.the-variants.{NotIn}
 use Rattle.calls.specs.Contracts.{refused}
-use Rattle.calls.proofs.Asking.{asked-first, passes-low, ask-passed, list-refused}
-use Rattle.reasons.proofs.Reasons.{refused-12, ends-asked}
+use Rattle.calls.proofs.Asking.{asked-first, ask-passed, list-refused}
+use Rattle.reasons.proofs.Reasons.{refused-12, is-kept-in, ends-asked}
 use borrow.Author.Needs.{needs}
 use Rattle.reasons.proofs.reason.Statement.{statement}
 use Rattle.reasons.proofs.reason.Tie as tie
@@ -16,36 +16,30 @@ enum-known-asked c = search needs
 enum-known-asked-2 : tie.Need-enum-known-asked-2
 enum-known-asked-2 c = search needs
 
-cast-i : tie.Need-cast-i
-cast-i c = search needs
-
-mul-kept : tie.Need-mul-kept
-mul-kept c = search needs
-
-array-copy-out-kept : tie.Need-array-copy-out-kept
-array-copy-out-kept c =
-    let asked = c .before .before .before in
-    let ask = asked .before .before in
-    let s = ask .before .before in
-    let passes = ask-passed (s .args .table) (s .args .atom) _ (ask .ask .ensures) _ (asked .asked2 .given .1) in
-    let low = passes-low _ _ _ passes in
-    let atom = passes .atom in
-    search needs
+label-of-requires : tie.Need-label-of-requires
+label-of-requires c κs = search needs
 
 returns : tie.Need-returns
 returns c =
-    let asked = c .before .before .before .before .before .before in
+    let read = c .before .before in
+    let asked = read .before .before .before in
     let ask = asked .before .before in
     let s = ask .before .before in
     let passes = ask-passed (s .args .table) (s .args .atom) _ (ask .ask .ensures) _ (asked .asked2 .given .1) in
     refused NotIn (passes .sound)
-    (refused-12 (s .args .table) (s .args .atom) _ passes (c .if1 .taken))
+    (refused-12 (s .args .table) (s .args .atom) _ passes _ (read .label-of .ensures) (c .if1 .taken))
 
 listed-requires : tie.Need-listed-requires
 listed-requires c κs =
-    let asked = c .before .before .before .before .before .before .before in
+    let is-in = c .before in
+    let read = is-in .before .before in
+    let asked = read .before .before .before in
     let ask = asked .before .before in
-    (ask-passed _ _ _ (ask .ask .ensures) _ (asked .asked2 .given .1) .sound, c .before .if1 .left)
+    let s = ask .before .before in
+    let passes = ask-passed (s .args .table) (s .args .atom) _ (ask .ask .ensures) _ (asked .asked2 .given .1) in (
+      passes .sound,
+      is-kept-in (s .args .table) (s .args .atom) _ passes _ (read .label-of .ensures) (is-in .if1 .left),
+    )
 
 returns-2 : tie.Need-returns-2
 returns-2 c =
@@ -61,7 +55,8 @@ same-length c = search needs
 returns-3 : tie.Need-returns-3
 returns-3 c =
     let listed = c .before .before in
-    let asked = listed .before .before .before .before .before .before .before .before in
+    let read = listed .before .before .before .before in
+    let asked = read .before .before .before in
     let ask = asked .before .before in
     let s = ask .before .before in
     let passes = ask-passed (s .args .table) (s .args .atom) _ (ask .ask .ensures) _ (asked .asked2 .given .1) in
@@ -74,9 +69,7 @@ reason-spec =
     ask-requires
     enum-known-asked
     enum-known-asked-2
-    cast-i
-    mul-kept
-    array-copy-out-kept
+    label-of-requires
     returns
     listed-requires
     returns-2

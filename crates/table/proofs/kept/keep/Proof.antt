@@ -4,8 +4,8 @@ use native.Mathlib.Omega.{arith}
 use Rattle.theory.specs.Questions.{is-in-label}
 use Rattle.theory.specs.Limits.{document}
 use Rattle.theory.specs.Certificate.{depth-in, slot-in}
-use Rattle.table.specs.Labels.{labelOf}
-use Rattle.table.proofs.KeptFields.{Copied, copied-start, copied-next, copied-all}
+use Rattle.table.specs.Labels.{labelOf, absentLabel}
+use Rattle.table.proofs.Copies.{Copied, copied-start, copied-next, copied-all}
 use Prim.Native.Nat.{_≤_, _<_}
 use mathlib.Core.Path.{_≡_, sym}
 use lib.ListN.{length}
@@ -69,9 +69,9 @@ loop-again c =
     let l = c .before .before .before .before .before .loop in
     let long : length (s .args .t1) ≡ 256 = search needs in
     let low : l .a < length (s .args .t1) = omega arith in (
-      copied-next _ _ _ (l .a) _ low (l .inv .0) (c .before .before .is-in .ensures),
-      copied-next _ _ _ (l .a) _ low (l .inv .1) (c .before .depth-in .ensures),
-      copied-next _ _ _ (l .a) _ low (l .inv .2) (c .slot-in .ensures),
+      copied-next _ _ _ (l .a) absentLabel _ low (l .inv .0) (c .before .before .is-in .ensures),
+      copied-next _ _ _ (l .a) absentLabel _ low (l .inv .1) (c .before .depth-in .ensures),
+      copied-next _ _ _ (l .a) absentLabel _ low (l .inv .2) (c .slot-in .ensures),
     )
 
 returns : tie.Need-returns Inv-loop μ-loop

@@ -1,0 +1,2 @@
+-- What the functions of this crate promise one another and `reasons`.
+pub mod Depths

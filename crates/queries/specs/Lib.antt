@@ -1,4 +1,0 @@
--- What the parts promise one another. A reader of the calls believes the contracts of crate `calls` alone.
-pub mod Kept
-pub mod Places
-pub mod Edges
