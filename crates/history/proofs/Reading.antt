@@ -111,15 +111,16 @@ module _ (ws : List ℕ) (at : ℕ) where
         let n = getD ws (at + 3) 0 in
         let u : at + 4 + p - (at + 4) ≡ p = omega arith in
         let v : at + 4 + p + n - (at + 4 + p) ≡ n = omega arith in
-        ap₂ (λ (j k : ℕ). some (record {
+        _∙_ {b = some (addition-at ws at)}
+        (ap₂ (λ (j k : ℕ). some (record {
           call = add (record {
             head = getD ws (at + 1) 0;
             positives = take j (drop (at + 4) ws);
             negatives = take k (drop (at + 4 + p) ws);
           });
           behind = at + 4 + p + n;
-        })) u v
-        ∙ sym (counts true (le-leb _ _ l) (omega arith) e);
+        })) u v)
+        (sym (counts true (le-leb _ _ l) (omega arith) e));
     order = (omega arith, omega arith, l);
   }
 

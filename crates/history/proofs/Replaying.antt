@@ -12,7 +12,8 @@ use Rattle.table.specs.declared.Table.{Table}
 use Rattle.table.specs.Clean.{emptyTable}
 use Rattle.history.specs.Claim.{Step, Trace, stop, call, History}
 use Rattle.history.specs.Encoding.{Placed, placed, decode, encode}
-use Rattle.history.specs.Steps.{CallMade, Replays, calls-in}
+use Rattle.history.specs.Replays.{Replays, calls-in}
+use Rattle.history.specs.Steps.{CallMade}
 use Rattle.history.proofs.Sequence.{history}
 
 -- One call more at the end.

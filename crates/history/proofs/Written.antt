@@ -18,7 +18,7 @@ use Rattle.history.specs.declared.Replayed.{Replayed}
 use Rattle.history.specs.Claim.{bookAnswers, History}
 use Rattle.history.specs.Encoding.{Placed, rule-at, addition-at, placed, decode, call-words, written, encode}
 use Rattle.history.specs.Encoding.{Words, CallFits}
-use Rattle.history.specs.Steps.{Replays, calls-in}
+use Rattle.history.specs.Replays.{Replays, ReplaysCalls, calls-in}
 use Rattle.history.proofs.Reading.{short, by-kind, counts}
 use Rattle.history.proofs.Replaying.{decode-over, decode-next}
 
@@ -139,12 +139,7 @@ decode-behind (c ∷ cs) (suc most) xs l =
 pub decode-written : (cs : List Call) (before : List ℕ) → length cs ≤ length before → calls-in (written cs) before ≡ cs
 decode-written cs before l = decode-behind cs (length before) [] l
 
--- So `replay` can be asked for any list of calls: it makes exactly these, and tells the book's answers.
-pub record ReplaysCalls (cs : List Call) (before : List ℕ) (r : Replayed) (after : List ℕ) : Type 0 where
-  pub claim : History cs (bookAnswers cs) (r .table)
-  pub count : r .count ≡ length cs
-  pub told : after ≡ map encode (bookAnswers cs) ++ drop (length cs) before
-
+-- So `replay` can be asked for any list of calls.
 pub replay-written :
     (cs : List Call) {before after : List ℕ} {r : Replayed} → length cs ≤ length before
     → Replays (written cs) before r after → ReplaysCalls cs before r after

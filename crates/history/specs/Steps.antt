@@ -1,8 +1,8 @@
--- What the functions behind `replay` tell each other, and what it is claimed to do. Assumes nothing.
+-- Private: what the functions behind `replay` tell each other. No exported contract speaks of it. Assumes nothing.
 use Prim.Native.Nat.{ℕ, _-_, _≤_}
 use mathlib.Core.Path.{_≡_}
 use mathlib.Core.Bool.{true, false}
-use mathlib.Core.List.{List, _++_, map}
+use mathlib.Core.List.{List}
 use mathlib.Core.Option.{Option, none, some}
 use lib.ListN.{length, take, drop}
 use Rattle.theory.specs.Book.{Call, add, remove, Answer}
@@ -10,9 +10,8 @@ use Rattle.table.specs.declared.Table.{Table}
 use Rattle.history.specs.declared.Next.{Next}
 use Rattle.history.specs.declared.Next.the-variants as next
 use Rattle.history.specs.declared.Stepped.{Stepped}
-use Rattle.history.specs.declared.Replayed.{Replayed}
-use Rattle.history.specs.Claim.{Step, History}
-use Rattle.history.specs.Encoding.{Placed, placed, decode, encode}
+use Rattle.history.specs.Claim.{Step}
+use Rattle.history.specs.Encoding.{Placed, placed, encode}
 
 -- The words from a place to below another.
 abbrev pub between : List ℕ → ℕ → ℕ → List ℕ
@@ -50,15 +49,3 @@ pub record CallMade (ws : List ℕ) (at : ℕ) (t : Table) (answer behind : ℕ)
 pub record StepOf (ws : List ℕ) (at : ℕ) (t : Table) (r : Stepped) : Type 0 where
   pub over : r .more ≡ false → placed ws at ≡ none
   pub made : r .more ≡ true → CallMade ws at t (r .answer) (r .at) (r .table)
-
--- The calls that the list holds, at most as many as there is room for answers.
-abbrev pub calls-in : List ℕ → List ℕ → List Call
-calls-in ws before = decode (length before) ws 0
-
--- Replaying a list of calls from the empty table: the claim holds after it, the answers are told in their order from
--- the start of the lent buffer, and its later entries stay.
-pub record Replays (ws before : List ℕ) (r : Replayed) (after : List ℕ) : Type 0 where
-  pub told : List Answer
-  pub claim : History (calls-in ws before) told (r .table)
-  pub count : r .count ≡ length (calls-in ws before)
-  pub written : after ≡ map encode told ++ drop (r .count) before

@@ -10,7 +10,8 @@ ghost use Prim.Native.Nat.{_+_, _≤_};
 ghost use lib.ListN.{length};
 ghost use Rattle.calls.specs.Answers.{bookAdd, bookRemove};
 ghost use Rattle.history.specs.Encoding.{encode};
-ghost use Rattle.history.specs.Steps.{NextOf, StepOf, Replays};
+ghost use Rattle.history.specs.Replays.{Replays};
+ghost use Rattle.history.specs.Steps.{NextOf, StepOf};
 
 // How many calls were made, and the table that the last handed back.
 #[repr(C)]

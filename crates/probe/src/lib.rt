@@ -7,7 +7,7 @@ use sound::slots::slots_well_formed;
 use sound::sound;
 use table::Table;
 ghost use mathlib.Core.Path.{_≡_};
-ghost use Rattle.history.specs.Steps.{Replays};
+ghost use Rattle.history.specs.Replays.{Replays};
 ghost use Rattle.probe.specs.Probes.{SoundProbe, LabelsProbe};
 
 // The table with the labels that its rules give, or as it came: `refused` is 0, or the number of the question that the

@@ -4,3 +4,4 @@ pub mod Reading
 pub mod LinesMet
 pub mod OneBook
 pub mod Books
+pub mod Examples

@@ -2,7 +2,7 @@
 use Prim.Native.Nat.{ℕ, _+_, _^_, _≤_, _<_}
 use native.Mathlib.Omega.{arith}
 use mathlib.Core.List.{List, _++_, append-assoc}
-use lib.ListN.{length, length-take}
+use lib.ListN.{length, take, length-take}
 use Rattle.sheets.specs.Sheets.{State, start, Reads, stop, byte, newline, MOST, cut}
 
 -- Bytes behind bytes.
@@ -29,5 +29,9 @@ few-lines r l =
     (omega arith, omega arith)
 
 -- What a program reads of its input is such a sheet.
+
+taken-short : (n : ℕ) (bs : List ℕ) → length (take n bs) ≤ n
+taken-short n bs = omega (arith, length-take n bs)
+
 pub cut-short : (input : List ℕ) → length (cut input) ≤ MOST
-cut-short input = omega (arith, length-take MOST input)
+cut-short input = taken-short MOST input

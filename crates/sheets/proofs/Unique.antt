@@ -28,7 +28,7 @@ use Rattle.sheets.specs.Lines.{lent, tellAdd, tellRemove, tellReason, Pr
 use Rattle.sheets.specs.Sheets.{State, longer, ended, Reads, stop, byte, newline, SheetPrints}
 
 -- Every label of a sound table, and the lines that list them.
-record Lists (t : Table) (bs : List ℕ) : Type 0 where
+record LabelsListed (t : Table) (bs : List ℕ) : Type 0 where
   model : AtomSet
   label : ℕ → Label
   sound : Sound t
@@ -49,7 +49,7 @@ Ends t n (is (sheet.why atom)) bs u =
     (answer : ListAnswer) × (buffer : List ℕ) × ReasonEnds t atom lent answer buffer
     × (bs ≡ tellReason n answer buffer) × (u ≡ t)
 Ends t n (is sheet.labels) bs u =
-    (((Sound t → ⊥) × (bs ≡ refusalLine n (numberOf Unsound))) ⊎ Lists t bs) × (u ≡ t)
+    (((Sound t → ⊥) × (bs ≡ refusalLine n (numberOf Unsound))) ⊎ LabelsListed t bs) × (u ≡ t)
 
 module _ (t : Table) (n : ℕ) (line : List ℕ) where
   on : {l : Line} (bs : List ℕ) (u : Table) → reading line ≡ l → Ends t n l bs u → Ends t n (reading line) bs u
@@ -75,7 +75,7 @@ labels-same f g (suc n) same =
     ap₂ (λ (xs ys : List ℕ). xs ++ ys) (labels-same f g n (λ a l. same a (omega arith)))
     (ap (labelLine n) (same n (omega arith)))
 
-lists-same : {t : Table} {bs cs : List ℕ} → Lists t bs → Lists t cs → bs ≡ cs
+lists-same : {t : Table} {bs cs : List ℕ} → LabelsListed t bs → LabelsListed t cs → bs ≡ cs
 lists-same {t} p q =
     p .lines ∙ labels-same (p .label) (q .label) (document .atoms) (λ a l. same-label (held t) (p .model) (q .model) a
     (p .label a) (q .label a) (p .sound .labels .acyclic) (p .admissible) (q .admissible) (p .labelled a l)

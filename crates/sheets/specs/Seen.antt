@@ -19,8 +19,8 @@ use Rattle.printing.specs.Printed.{named, whyLine, refusalLine}
 use Rattle.label_lines.specs.LabelLines.{labelLines}
 use Rattle.sheets.specs.Calls.{lineCalls, linesOf}
 
--- The line that tells the book's answer, on line n of the sheet: to an addition, which is never answered "accepted",
--- and to a removal, which is never answered a slot.
+-- The line that tells the book's answer, on line n of the sheet: to an addition, which is never answered "accepted"
+-- (the law `add-not-accepted`), and to a removal, which is never answered a slot (`remove-not-a-slot`).
 abbrev pub addLine : ℕ → Answer → List ℕ
 addLine n (slot s) = named (bytes "slot") s
 addLine n (refused k) = refusalLine n k

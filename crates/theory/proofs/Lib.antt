@@ -11,5 +11,6 @@ pub mod Depths
 pub mod Labels
 pub mod Certificate
 pub mod Questions
+pub mod Book
 pub mod Explanations
 pub mod Tables

@@ -16,36 +16,36 @@ use Rattle.theory.specs.Labels.{absent, in-at, Label, Labelled, out}
 use Rattle.theory.specs.Questions.{first-no, lowest-free, reaches, rules, stratified}
 use Rattle.theory.specs.Book.{accepted, after, after-all, answer, Answer, answers, empty, refused, slot}
 use Rattle.theory.specs.Limits.{document}
-use Rattle.theory.specs.Tables.{Each, Example, Line, Shows, tables}
+use Rattle.theory.specs.Tables.{Each, Example, Row, Shows, tables}
 use Rattle.theory.proofs.Lists.{and-l, and-of, and-r, clash, eqb-eq, eqb-of, every-at, le-or-lt, leb-le, mem}
 use Rattle.theory.proofs.Lists.{mem-in, not-true, or-cases, test}
 use Rattle.theory.proofs.Rules.{any-rule-of, occurs-at, occurs-test}
 use Rattle.theory.specs.Certificate.{greatest, kept-depth, kept-in, level}
 use Rattle.theory.proofs.Certificate.{Certified, certified-admissible, certified-labels}
 
--- The label that the lines give an atom: absent if no line names it.
-lookup : List Line → ℕ → Label
+-- The label that the rows give an atom: absent if no row names it.
+lookup : List Row → ℕ → Label
 lookup [] a = absent
 lookup (l ∷ ls) a = elim (eqb a (l .atom)) [ true ↦ l .label | false ↦ lookup ls a ]
 
-lookup-here : (l : Line) (ls : List Line) (a : ℕ) → eqb a (l .atom) ≡ true → lookup (l ∷ ls) a ≡ l .label
+lookup-here : (l : Row) (ls : List Row) (a : ℕ) → eqb a (l .atom) ≡ true → lookup (l ∷ ls) a ≡ l .label
 unfolding lookup
 lookup-here l ls a t = rw (t, lookup)
 
-lookup-next : (l : Line) (ls : List Line) (a : ℕ) → eqb a (l .atom) ≡ false → lookup (l ∷ ls) a ≡ lookup ls a
+lookup-next : (l : Row) (ls : List Row) (a : ℕ) → eqb a (l .atom) ≡ false → lookup (l ∷ ls) a ≡ lookup ls a
 unfolding lookup
 lookup-next l ls a t = rw (t, lookup)
 
 -- An atom has a line with the label looked up, or none names it and it is absent.
 lookup-cases :
-    (ls : List Line) (a : ℕ)
-    → ((l : Line) × List·Memᴰ l ls × (l .atom ≡ a) × (lookup ls a ≡ l .label))
+    (ls : List Row) (a : ℕ)
+    → ((l : Row) × List·Memᴰ l ls × (l .atom ≡ a) × (lookup ls a ≡ l .label))
     ⊎ ((lookup ls a ≡ absent) × (a ∈ map (λ l. l .atom) ls → ⊥))
 lookup-cases [] a = inr (unfold lookup in refl, λ m. List·Memᴰ·not-nil m)
 lookup-cases (l ∷ ls) a = ⊎-elim
     (λ (t : eqb a (l .atom) ≡ true). inl (l, List·Memᴰ·head refl, sym (eqb-eq a (l .atom) t), lookup-here l ls a t))
     (λ (t : eqb a (l .atom) ≡ false). ⊎-elim
-    (λ (w : (q : Line) × List·Memᴰ q ls × (q .atom ≡ a) × (lookup ls a ≡ q .label)).
+    (λ (w : (q : Row) × List·Memᴰ q ls × (q .atom ≡ a) × (lookup ls a ≡ q .label)).
     inl (w .0, List·Memᴰ·tail (w .1), w .2, lookup-next l ls a t ∙ w .3))
     (λ (w : (lookup ls a ≡ absent) × (a ∈ map (λ l. l .atom) ls → ⊥)).
     inr (
@@ -69,8 +69,8 @@ each-rule-at f P t s r h = ⊎-elim
     (λ (u : f r ≡ false). absurd (clash (any-rule-of (λ q. not (f q)) P s r h (ap not u)) (not-true _ t)))
     (test (f r))
 
--- The conditions of the certificate as tests, for labels given by lines.
-module _ (P : Program) (ls : List Line) where
+-- The conditions of the certificate as tests, for labels given by rows.
+module _ (P : Program) (ls : List Row) where
   abbrev M : AtomSet
   M = kept-in (lookup ls)
 
@@ -132,7 +132,7 @@ module _ (P : Program) (ls : List Line) where
     -- the test of an atom that is not absent was passed
     label-passes : (a : ℕ) (k : Label) → lookup ls a ≡ k → (k ≡ absent → ⊥) → label-test a k ≡ true
     label-passes a k e n = ⊎-elim
-        (λ (w : (l : Line) × List·Memᴰ l ls × (l .atom ≡ a) × (lookup ls a ≡ l .label)).
+        (λ (w : (l : Row) × List·Memᴰ l ls × (l .atom ≡ a) × (lookup ls a ≡ l .label)).
         ap₂ label-test (sym (w .2)) (sym e ∙ w .3)
         ∙ every-at (λ l. label-test (l .atom) (l .label)) ls (and-r (each-rule
         (λ r. every (λ x. mem x (map (λ l. l .atom) ls)) (r .head ∷ entries r)) P) _ rest) (w .0) (w .1))
@@ -179,7 +179,7 @@ module _ (P : Program) (ls : List Line) where
           (none-before-at s (λ t. passes (support-rule a k) (getD P t none)) (in-parts a k s e .1) t l);
       out-occurs = λ a e. out-test a (label-passes a out e (λ q. (let z : _≡_ {A = ℕ} 0 1 = cc in omega arith)));
       absent-missing = λ a e o. ⊎-elim
-          (λ (w : (l : Line) × List·Memᴰ l ls × (l .atom ≡ a) × (lookup ls a ≡ l .label)). no-absent w e)
+          (λ (w : (l : Row) × List·Memᴰ l ls × (l .atom ≡ a) × (lookup ls a ≡ l .label)). no-absent w e)
           (λ (w : (lookup ls a ≡ absent) × (a ∈ map (λ l. l .atom) ls → ⊥)). w .1 (named a o))
           (lookup-cases ls a);
     }
@@ -187,7 +187,7 @@ module _ (P : Program) (ls : List Line) where
         out-test : (a : ℕ) → label-test a out ≡ true → Occurs P a
         out-test a t = occurs-at P a (unfold label-test in t)
 
-        no-absent : {a : ℕ} → (l : Line) × List·Memᴰ l ls × (l .atom ≡ a) × (lookup ls a ≡ l .label)
+        no-absent : {a : ℕ} → (l : Row) × List·Memᴰ l ls × (l .atom ≡ a) × (lookup ls a ≡ l .label)
             → lookup ls a ≡ absent → ⊥
         no-absent w e =
             let t = every-at (λ l. label-test (l .atom) (l .label)) ls (and-r (each-rule
@@ -265,35 +265,35 @@ result e = after-all document (empty document) (e .calls)
 example-test : Example → Bool
 example-test e =
     same-answers (answers document (empty document) (e .calls)) (e .told)
-    && (certified-test (result e) (e .lines)
-    && every (λ l. same-label (lookup (e .lines) (l .atom)) (l .label)) (e .lines))
+    && (certified-test (result e) (e .rows)
+    && every (λ l. same-label (lookup (e .rows) (l .atom)) (l .label)) (e .rows))
 
 example-shows : (e : Example) → example-test e ≡ true → Shows e
 unfolding example-test result
 example-shows e t =
     let told = same-answers (answers document (empty document) (e .calls)) (e .told) in
-    let cert = certified-test (result e) (e .lines) in
-    let u = and-r told (cert && every (λ l. same-label (lookup (e .lines) (l .atom)) (l .label)) (e .lines)) t in
-    let C = test-certified (result e) (e .lines) (and-l cert _ u) in
-    let label : (a : ℕ) → Labelled (result e) (kept-in (lookup (e .lines))) a (lookup (e .lines) a) =
-    certified-labels (result e) (lookup (e .lines)) C in
+    let cert = certified-test (result e) (e .rows) in
+    let u = and-r told (cert && every (λ l. same-label (lookup (e .rows) (l .atom)) (l .label)) (e .rows)) t in
+    let C = test-certified (result e) (e .rows) (and-l cert _ u) in
+    let label : (a : ℕ) → Labelled (result e) (kept-in (lookup (e .rows))) a (lookup (e .rows) a) =
+    certified-labels (result e) (lookup (e .rows)) C in
     record {
       answered = same-answers-eq _ _ (and-l told _ t);
-      model = kept-in (lookup (e .lines));
-      admissible = certified-admissible (result e) (lookup (e .lines)) C;
-      labels = each (e .lines) (λ l m. subst (Labelled (result e) (kept-in (lookup (e .lines))) (l .atom))
-          (same-label-eq _ _ (every-at (λ l. same-label (lookup (e .lines) (l .atom)) (l .label)) (e .lines)
+      model = kept-in (lookup (e .rows));
+      admissible = certified-admissible (result e) (lookup (e .rows)) C;
+      labels = each (e .rows) (λ l m. subst (Labelled (result e) (kept-in (lookup (e .rows))) (l .atom))
+          (same-label-eq _ _ (every-at (λ l. same-label (lookup (e .rows) (l .atom)) (l .label)) (e .rows)
           (and-r cert _ u) l m)) (label (l .atom)));
       others = λ a n. ⊎-elim
-          (λ (w : (l : Line) × List·Memᴰ l (e .lines) × (l .atom ≡ a) × (lookup (e .lines) a ≡ l .label)).
-          absurd (n (subst (λ (z : ℕ). z ∈ map (λ l. l .atom) (e .lines)) (w .2)
+          (λ (w : (l : Row) × List·Memᴰ l (e .rows) × (l .atom ≡ a) × (lookup (e .rows) a ≡ l .label)).
+          absurd (n (subst (λ (z : ℕ). z ∈ map (λ l. l .atom) (e .rows)) (w .2)
           (Memᴰ·map (λ l. l .atom) (w .1)))))
-          (λ (w : (lookup (e .lines) a ≡ absent) × (a ∈ map (λ l. l .atom) (e .lines) → ⊥)).
-          subst (Labelled (result e) (kept-in (lookup (e .lines))) a) (w .0) (label a))
-          (lookup-cases (e .lines) a);
+          (λ (w : (lookup (e .rows) a ≡ absent) × (a ∈ map (λ l. l .atom) (e .rows) → ⊥)).
+          subst (Labelled (result e) (kept-in (lookup (e .rows))) a) (w .0) (label a))
+          (lookup-cases (e .rows) a);
     }
   where
-    each : {F : Line → Type 0} (ls : List Line) → ((l : Line) → List·Memᴰ l ls → F l) → Each F ls
+    each : {F : Row → Type 0} (ls : List Row) → ((l : Row) → List·Memᴰ l ls → F l) → Each F ls
     each [] f = tt
     each (l ∷ ls) f = (f l (List·Memᴰ·head refl), each ls (λ q m. f q (List·Memᴰ·tail m)))
 

@@ -3,14 +3,13 @@ use Prim.Native.Nat.{ℕ, zero, suc}
 use mathlib.Core.Path.{_≡_}
 use mathlib.Core.List.{List, [], _∷_, _++_, map}
 use Rattle.theory.specs.Lists.{_∈_}
-use Rattle.theory.specs.Rules.{Rule, Program}
 use Rattle.theory.specs.Models.{AtomSet, Admissible}
 use Rattle.theory.specs.Labels.{Label, absent, out, in-at, Labelled}
 use Rattle.theory.specs.Limits.{document}
 use Rattle.theory.specs.Book.{Call, add, remove, Answer, refused, slot, accepted, empty, answers, after-all}
 
 -- An atom and its label.
-pub record Line : Type 0 where
+pub record Row : Type 0 where
   pub atom : ℕ
   pub label : Label
 
@@ -18,7 +17,7 @@ pub record Line : Type 0 where
 pub record Example : Type 0 where
   pub calls : List Call
   pub told : List Answer
-  pub lines : List Line
+  pub rows : List Row
 
 abbrev pub Each {ℓ} : {A : Type ℓ} → (A → Type 0) → List A → Type 0
 Each P [] = Unit {0}
@@ -30,9 +29,9 @@ pub record Shows (e : Example) : Type 0 where
   pub model : AtomSet
   pub admissible : Admissible (after-all document (empty document) (e .calls)) model
   pub labels :
-      Each (λ l. Labelled (after-all document (empty document) (e .calls)) model (l .atom) (l .label)) (e .lines)
+      Each (λ l. Labelled (after-all document (empty document) (e .calls)) model (l .atom) (l .label)) (e .rows)
   pub others :
-      (a : ℕ) → (a ∈ map (λ l. l .atom) (e .lines) → ⊥)
+      (a : ℕ) → (a ∈ map (λ l. l .atom) (e .rows) → ⊥)
       → Labelled (after-all document (empty document) (e .calls)) model a absent
 
 -- A fact, a rule with one positive entry, a rule with one negative entry.
@@ -46,11 +45,11 @@ abbrev pub unless : ℕ → ℕ → Call
 unless h x = add (record { head = h; positives = []; negatives = x ∷ [] })
 
 infix 70 _is_
-abbrev pub _is_ : ℕ → Label → Line
+abbrev pub _is_ : ℕ → Label → Row
 a is l = record { atom = a; label = l }
 
-abbrev pub shows : List Call → List Answer → List Line → Example
-shows cs xs ls = record { calls = cs; told = xs; lines = ls }
+abbrev pub shows : List Call → List Answer → List Row → Example
+shows cs xs ls = record { calls = cs; told = xs; rows = ls }
 
 -- The answers to n additions, each accepted: slots 0 to n - 1.
 abbrev pub slots-from : ℕ → ℕ → List Answer

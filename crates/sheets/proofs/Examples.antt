@@ -1,0 +1,39 @@
+-- The lines and calls of some sheets, document 01's among them. Assumes nothing.
+use mathlib.Core.Path.{_≡_, refl}
+use mathlib.Core.List.{[], _∷_, map}
+use Rattle.theory.specs.Book.{add, remove}
+use Rattle.table.specs.Questions.{ruleFrom}
+use Rattle.lines.specs.Texts.{bytes}
+use Rattle.lines.specs.Tokens.{onto, pieces, filled, tokens}
+use Rattle.lines.specs.Numerals.{digits, valueFrom, needless, spelledFrom, numeral}
+use Rattle.lines.specs.Commands.{one, numerals, before, after, addition, only, listing, form, command}
+use Rattle.lines.specs.Readings.{spaces, blank, reading}
+use Rattle.sheets.specs.Calls.{endedLines, behindNewlines, linesOf, linesCalls, callsOf}
+
+-- What follows the last newline is a line only if it has bytes; a line may have none.
+pub lines-shown :
+    map linesOf (bytes "" ∷ bytes "L" ∷ bytes "L\n" ∷ bytes "\nL" ∷ bytes "R 1\n\nL\n" ∷ [])
+    ≡ []
+    ∷ (bytes "L" ∷ [])
+    ∷ (bytes "L" ∷ [])
+    ∷ ([] ∷ bytes "L" ∷ [])
+    ∷ (bytes "R 1" ∷ [] ∷ bytes "L" ∷ [])
+    ∷ []
+unfolding bytes endedLines behindNewlines
+lines-shown = refl
+
+-- Document 01's sheet; and one with a blank line, an unread line, a refused number and a last line without its newline.
+pub calls-shown :
+    map callsOf
+    (bytes "A 1 : 2\nA 2 : ! 3\nA 4 : 1\nA 3 :\nL\nR 3\nL\nW 1\nW 3\n" ∷ bytes "\nA 1:2\nR 999\nA 5 : 6 ! 7" ∷ [])
+    ≡ (add (ruleFrom 1 (2 ∷ []) [])
+    ∷ add (ruleFrom 2 [] (3 ∷ []))
+    ∷ add (ruleFrom 4 (1 ∷ []) [])
+    ∷ add (ruleFrom 3 [] [])
+    ∷ remove 3
+    ∷ [])
+    ∷ (remove 999 ∷ add (ruleFrom 5 (6 ∷ []) (7 ∷ [])) ∷ [])
+    ∷ []
+unfolding bytes endedLines behindNewlines linesCalls reading blank spaces command form addition only listing
+    numerals before after one tokens pieces filled onto numeral digits needless spelledFrom valueFrom
+calls-shown = refl
