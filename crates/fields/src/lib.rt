@@ -1,5 +1,5 @@
-// Writing bytes, numbers and fields at a place of a lent buffer. Where the room is too small nothing is written, and the
-// place stays.
+// Writing bytes, numbers and fields at a place of a lent buffer. Where the room is too small nothing is written, and
+// the place stays.
 ghost use Prim.Native.Nat.{_+_, _-_, _≤_};
 ghost use mathlib.Core.Path.{_≡_};
 ghost use lib.ListN.{length};

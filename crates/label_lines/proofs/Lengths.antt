@@ -45,7 +45,8 @@ label-length a l b s = go (l .state)
 -- An atom has at most 3 digits.
 pub wrote-atom :
     {before after : List ℕ} {at next a : ℕ} → a < document .atoms → at + 3 ≤ length before
-    → WroteIn (length (decimal a)) (decimal a) before at after next → Wrote (decimal a) before at after next × (next ≤ at + 3)
+    → WroteIn (length (decimal a)) (decimal a) before at after next
+    → Wrote (decimal a) before at after next × (next ≤ at + 3)
 wrote-atom {a = a} l room p =
     let few = decimal-length 2 a (omega arith) in
     let w = p .fits (omega arith) in

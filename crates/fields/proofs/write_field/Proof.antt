@@ -8,7 +8,7 @@ use Rattle.fields.proofs.write_field.Statement.{statement}
 use Rattle.fields.proofs.write_field.Tie as tie
 
 bytes-left-requires : tie.Need-bytes-left-requires
-bytes-left-requires c κs = search needs
+bytes-left-requires c κs = tt
 
 returns : tie.Need-returns
 returns c = (wrote-none (omega arith), omega arith)
@@ -17,10 +17,10 @@ slice-aggregate-write-bytes : tie.Need-slice-aggregate-write-bytes
 slice-aggregate-write-bytes c = search needs
 
 write-bytes-requires : tie.Need-write-bytes-requires
-write-bytes-requires c κs = search needs
+write-bytes-requires c κs = tt
 
 write-number-requires : tie.Need-write-number-requires
-write-number-requires c κs = search needs
+write-number-requires c κs = tt
 
 same-length : tie.Need-same-length
 same-length c = search needs

@@ -69,7 +69,7 @@ part-write-bytes-end c =
     simp length-set (omega (arith, l .inv .0))
 
 write-bytes-requires : tie.Need-write-bytes-requires Inv-loop μ-loop
-write-bytes-requires c κs = search needs
+write-bytes-requires c κs = tt
 
 same-length : tie.Need-same-length Inv-loop μ-loop
 same-length c = search needs

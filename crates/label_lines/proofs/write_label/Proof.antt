@@ -14,13 +14,13 @@ unfolding labelLine
 returns c = rw (label-absent (c .before .before .before .args .label) (c .if1 .taken)) (wrote-nothing (omega arith))
 
 write-number-requires : tie.Need-write-number-requires
-write-number-requires c κs = search needs
+write-number-requires c κs = tt
 
 slice-aggregate-write-bytes : tie.Need-slice-aggregate-write-bytes
 slice-aggregate-write-bytes c = search needs
 
 write-bytes-requires : tie.Need-write-bytes-requires
-write-bytes-requires c κs = search needs
+write-bytes-requires c κs = tt
 
 same-length : tie.Need-same-length
 same-length c = search needs

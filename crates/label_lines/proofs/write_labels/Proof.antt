@@ -22,7 +22,7 @@ abbrev μ-loop : tie.MeasureT-loop
 μ-loop out₀ at labels next₀ atom₀ out next atom = 256 - atom
 
 bytes-left-requires : tie.Need-bytes-left-requires Inv-loop μ-loop
-bytes-left-requires c κs = search needs
+bytes-left-requires c κs = tt
 
 mul-if1 : tie.Need-mul-if1 Inv-loop μ-loop
 mul-if1 c = search needs

@@ -7,7 +7,7 @@ use Rattle.printing.proofs.write_named.Statement.{statement}
 use Rattle.printing.proofs.write_named.Tie as tie
 
 bytes-left-requires : tie.Need-bytes-left-requires
-bytes-left-requires c κs = search needs
+bytes-left-requires c κs = tt
 
 add-if1 : tie.Need-add-if1
 add-if1 c = search needs
@@ -16,16 +16,16 @@ returns : tie.Need-returns
 returns c = wrote-none (omega arith)
 
 write-bytes-requires : tie.Need-write-bytes-requires
-write-bytes-requires c κs = search needs
+write-bytes-requires c κs = tt
 
 write-field-requires : tie.Need-write-field-requires
-write-field-requires c κs = search needs
+write-field-requires c κs = tt
 
 slice-aggregate-write-bytes : tie.Need-slice-aggregate-write-bytes
 slice-aggregate-write-bytes c = search needs
 
 write-bytes-requires-2 : tie.Need-write-bytes-requires-2
-write-bytes-requires-2 c κs = search needs
+write-bytes-requires-2 c κs = tt
 
 same-length : tie.Need-same-length
 same-length c = search needs

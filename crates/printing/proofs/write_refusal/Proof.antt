@@ -8,7 +8,7 @@ use Rattle.printing.proofs.write_refusal.Statement.{statement}
 use Rattle.printing.proofs.write_refusal.Tie as tie
 
 bytes-left-requires : tie.Need-bytes-left-requires
-bytes-left-requires c κs = search needs
+bytes-left-requires c κs = tt
 
 returns : tie.Need-returns
 returns c = wrote-none (omega arith)
@@ -17,25 +17,25 @@ slice-aggregate-write-bytes : tie.Need-slice-aggregate-write-bytes
 slice-aggregate-write-bytes c = search needs
 
 write-bytes-requires : tie.Need-write-bytes-requires
-write-bytes-requires c κs = search needs
+write-bytes-requires c κs = tt
 
 write-field-requires : tie.Need-write-field-requires
-write-field-requires c κs = search needs
+write-field-requires c κs = tt
 
 slice-aggregate-write-bytes-2 : tie.Need-slice-aggregate-write-bytes-2
 slice-aggregate-write-bytes-2 c = search needs
 
 write-bytes-requires-2 : tie.Need-write-bytes-requires-2
-write-bytes-requires-2 c κs = search needs
+write-bytes-requires-2 c κs = tt
 
 write-field-requires-2 : tie.Need-write-field-requires-2
-write-field-requires-2 c κs = search needs
+write-field-requires-2 c κs = tt
 
 slice-aggregate-write-bytes-3 : tie.Need-slice-aggregate-write-bytes-3
 slice-aggregate-write-bytes-3 c = search needs
 
 write-bytes-requires-3 : tie.Need-write-bytes-requires-3
-write-bytes-requires-3 c κs = search needs
+write-bytes-requires-3 c κs = tt
 
 same-length : tie.Need-same-length
 same-length c = search needs

@@ -8,7 +8,7 @@ use Rattle.printing.proofs.write_why.Statement.{statement}
 use Rattle.printing.proofs.write_why.Tie as tie
 
 bytes-left-requires : tie.Need-bytes-left-requires
-bytes-left-requires c κs = search needs
+bytes-left-requires c κs = tt
 
 returns : tie.Need-returns
 returns c = wrote-none (omega arith)
@@ -20,7 +20,7 @@ slice-aggregate-write-bytes : tie.Need-slice-aggregate-write-bytes
 slice-aggregate-write-bytes c = search needs
 
 write-bytes-requires : tie.Need-write-bytes-requires
-write-bytes-requires c κs = search needs
+write-bytes-requires c κs = tt
 
 write-fields-requires : tie.Need-write-fields-requires
 write-fields-requires c κs =
@@ -31,7 +31,7 @@ slice-aggregate-write-bytes-2 : tie.Need-slice-aggregate-write-bytes-2
 slice-aggregate-write-bytes-2 c = search needs
 
 write-bytes-requires-2 : tie.Need-write-bytes-requires-2
-write-bytes-requires-2 c κs = search needs
+write-bytes-requires-2 c κs = tt
 
 same-length : tie.Need-same-length
 same-length c = search needs

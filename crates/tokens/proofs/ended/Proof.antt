@@ -2,12 +2,11 @@
 use mathlib.Core.Path.{ap}
 use Rattle.places.specs.declared.Place.{Place}
 use Rattle.tokens.proofs.Tokens.{empty-from}
-use borrow.Author.Needs.{needs}
 use Rattle.tokens.proofs.ended.Statement.{statement}
 use Rattle.tokens.proofs.ended.Tie as tie
 
 past-blanks-requires : tie.Need-past-blanks-requires
-past-blanks-requires c κs = search needs
+past-blanks-requires c κs = tt
 
 returns : tie.Need-returns
 returns c =

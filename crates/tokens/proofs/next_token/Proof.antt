@@ -7,15 +7,14 @@ use mathlib.Core.Path.{ap}
 use Rattle.places.specs.declared.Place.{Place}
 use Rattle.places.proofs.Leading.{leading-within}
 use Rattle.tokens.proofs.Tokens.{first-token, rest-tokens}
-use borrow.Author.Needs.{needs}
 use Rattle.tokens.proofs.next_token.Statement.{statement}
 use Rattle.tokens.proofs.next_token.Tie as tie
 
 past-blanks-requires : tie.Need-past-blanks-requires
-past-blanks-requires c κs = search needs
+past-blanks-requires c κs = tt
 
 token-end-requires : tie.Need-token-end-requires
-token-end-requires c κs = search needs
+token-end-requires c κs = tt
 
 returns : tie.Need-returns
 returns c =

@@ -50,7 +50,7 @@ to-sign : (c : tie.After-next-token2)
 to-sign c = onward-then (one-on c .next-token .ensures .onward) (c .next-token2 .ensures .onward)
 
 next-token-requires : tie.Need-next-token-requires
-next-token-requires c κs = search needs
+next-token-requires c κs = tt
 
 sub-numeral : tie.Need-sub-numeral
 sub-numeral c = search needs
@@ -62,7 +62,7 @@ part-numeral-end : tie.Need-part-numeral-end
 part-numeral-end c = search (needs, c .before .next-token .ensures .onward .not-past)
 
 numeral-requires : tie.Need-numeral-requires
-numeral-requires c κs = search needs
+numeral-requires c κs = tt
 
 enum-known-head : tie.Need-enum-known-head
 enum-known-head c = search needs
@@ -71,7 +71,7 @@ enum-told : tie.Need-enum-told
 enum-told c = search needs
 
 plain-requires : tie.Need-plain-requires
-plain-requires c κs = search needs
+plain-requires c κs = tt
 
 returns : tie.Need-returns
 returns c =
@@ -84,7 +84,7 @@ returns c =
     )
 
 next-token-requires-2 : tie.Need-next-token-requires-2
-next-token-requires-2 c κs = search needs
+next-token-requires-2 c κs = tt
 
 sub-is : tie.Need-sub-is
 sub-is c = search needs
@@ -96,10 +96,10 @@ part-is-end : tie.Need-part-is-end
 part-is-end c = to-sign (c .before) .not-past (start (c .before) .pre .0)
 
 is-requires : tie.Need-is-requires
-is-requires c κs = search needs
+is-requires c κs = tt
 
 plain-requires-2 : tie.Need-plain-requires-2
-plain-requires-2 c κs = search needs
+plain-requires-2 c κs = tt
 
 returns-2 : tie.Need-returns-2
 returns-2 c = (

@@ -34,7 +34,7 @@ loop-holds c =
     (start .pre .0, onward-here refl, collect-start _ _ _ long (start .pre .1))
 
 next-token-requires : tie.Need-next-token-requires Inv-loop μ-loop
-next-token-requires c κs = search needs
+next-token-requires c κs = tt
 
 sub-numeral : tie.Need-sub-numeral Inv-loop μ-loop
 sub-numeral c = search needs
@@ -46,7 +46,7 @@ part-numeral-end : tie.Need-part-numeral-end Inv-loop μ-loop
 part-numeral-end c = search (needs, c .before .next-token .ensures .onward .not-past)
 
 numeral-requires : tie.Need-numeral-requires Inv-loop μ-loop
-numeral-requires c κs = search needs
+numeral-requires c κs = tt
 
 enum-known-n : tie.Need-enum-known-n Inv-loop μ-loop
 enum-known-n c = search needs

@@ -35,7 +35,7 @@ inside : (c : tie.After-next-token) → c .next-token .result .next .offset ≤ 
 inside c = c .next-token .ensures .onward .not-past (c .before .before .pre .0)
 
 next-token-requires : tie.Need-next-token-requires
-next-token-requires c κs = search needs
+next-token-requires c κs = tt
 
 sub-word : tie.Need-sub-word
 sub-word c = search needs
@@ -47,7 +47,7 @@ part-word-end : tie.Need-part-word-end
 part-word-end c = search (needs, c .before .next-token .ensures .onward .not-past)
 
 is-requires : tie.Need-is-requires
-is-requires c κs = search needs
+is-requires c κs = tt
 
 addition-requires : tie.Need-addition-requires
 addition-requires c κs =
@@ -75,7 +75,7 @@ returns c =
     )
 
 is-requires-2 : tie.Need-is-requires-2
-is-requires-2 c κs = search needs
+is-requires-2 c κs = tt
 
 numbered-requires : tie.Need-numbered-requires
 numbered-requires c κs = inside (c .before .before .before .before .before .before)
@@ -95,7 +95,7 @@ returns-2 c =
     )
 
 is-requires-3 : tie.Need-is-requires-3
-is-requires-3 c κs = search needs
+is-requires-3 c κs = tt
 
 numbered-requires-2 : tie.Need-numbered-requires-2
 numbered-requires-2 c κs = inside (c .before .before .before .before .before .before .before .before)
@@ -117,10 +117,10 @@ returns-3 c =
     )
 
 is-requires-4 : tie.Need-is-requires-4
-is-requires-4 c κs = search needs
+is-requires-4 c κs = tt
 
 listing-requires : tie.Need-listing-requires
-listing-requires c κs = search needs
+listing-requires c κs = tt
 
 returns-4 : tie.Need-returns-4
 unfolding command
@@ -140,7 +140,7 @@ returns-4 c =
     )
 
 plain-requires : tie.Need-plain-requires
-plain-requires c κs = search needs
+plain-requires c κs = tt
 
 returns-5 : tie.Need-returns-5
 unfolding command

@@ -5,15 +5,14 @@ use Rattle.lines.specs.Readings.{whether}
 use Rattle.places.proofs.Places.{onward-here}
 use Rattle.lines.proofs.Answers.{as-read}
 use Rattle.lines.proofs.Commands.{listing-last, listing-more}
-use borrow.Author.Needs.{needs}
 use Rattle.lines.proofs.read.listing.Statement.{statement}
 use Rattle.lines.proofs.read.listing.Tie as tie
 
 ended-requires : tie.Need-ended-requires
-ended-requires c κs = search needs
+ended-requires c κs = tt
 
 plain-requires : tie.Need-plain-requires
-plain-requires c κs = search needs
+plain-requires c κs = tt
 
 returns : tie.Need-returns
 returns c = (
@@ -23,7 +22,7 @@ returns c = (
 )
 
 plain-requires-2 : tie.Need-plain-requires-2
-plain-requires-2 c κs = search needs
+plain-requires-2 c κs = tt
 
 returns-2 : tie.Need-returns-2
 returns-2 c = (

@@ -78,7 +78,7 @@ collect-requires : tie.Need-collect-requires
 collect-requires c κs = search needs
 
 ended-requires : tie.Need-ended-requires
-ended-requires c κs = search needs
+ended-requires c κs = tt
 
 returns : tie.Need-returns
 returns c =
@@ -96,7 +96,7 @@ returns c =
     )
 
 next-token-requires : tie.Need-next-token-requires
-next-token-requires c κs = search needs
+next-token-requires c κs = tt
 
 sub-is : tie.Need-sub-is
 sub-is c = search needs
@@ -108,10 +108,10 @@ part-is-end : tie.Need-part-is-end
 part-is-end c = search (needs, c .before .next-token .ensures .onward .not-past)
 
 is-requires : tie.Need-is-requires
-is-requires c κs = search needs
+is-requires c κs = tt
 
 plain-requires : tie.Need-plain-requires
-plain-requires c κs = search needs
+plain-requires c κs = tt
 
 returns-2 : tie.Need-returns-2
 returns-2 c =
@@ -134,10 +134,10 @@ collect-requires-2 c κs =
     )
 
 ended-requires-2 : tie.Need-ended-requires-2
-ended-requires-2 c κs = search needs
+ended-requires-2 c κs = tt
 
 plain-requires-2 : tie.Need-plain-requires-2
-plain-requires-2 c κs = search needs
+plain-requires-2 c κs = tt
 
 returns-3 : tie.Need-returns-3
 returns-3 c =

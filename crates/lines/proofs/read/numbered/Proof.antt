@@ -41,13 +41,13 @@ module _ (c : tie.After-numeral) where
       (sym (ap empty (token done .next-token .ensures .rest)) ∙ last done (not-false _ (c .before .before .if1 .left)))
 
 next-token-requires : tie.Need-next-token-requires
-next-token-requires c κs = search needs
+next-token-requires c κs = tt
 
 ended-requires : tie.Need-ended-requires
-ended-requires c κs = search needs
+ended-requires c κs = tt
 
 plain-requires : tie.Need-plain-requires
-plain-requires c κs = search needs
+plain-requires c κs = tt
 
 returns : tie.Need-returns
 returns c =
@@ -72,7 +72,7 @@ part-numeral-end c =
     t .next-token .ensures .onward .not-past (t .before .before .pre)
 
 numeral-requires : tie.Need-numeral-requires
-numeral-requires c κs = search needs
+numeral-requires c κs = tt
 
 enum-known-n : tie.Need-enum-known-n
 enum-known-n c = search needs
@@ -81,7 +81,7 @@ enum-told : tie.Need-enum-told
 enum-told c = search needs
 
 plain-requires-2 : tie.Need-plain-requires-2
-plain-requires-2 c κs = search needs
+plain-requires-2 c κs = tt
 
 returns-2 : tie.Need-returns-2
 returns-2 c =
@@ -93,7 +93,7 @@ returns-2 c =
     )
 
 plain-requires-3 : tie.Need-plain-requires-3
-plain-requires-3 c κs = search needs
+plain-requires-3 c κs = tt
 
 returns-3 : tie.Need-returns-3
 returns-3 c =
@@ -107,7 +107,7 @@ returns-3 c =
     )
 
 plain-requires-4 : tie.Need-plain-requires-4
-plain-requires-4 c κs = search needs
+plain-requires-4 c κs = tt
 
 returns-4 : tie.Need-returns-4
 returns-4 c =

@@ -4,7 +4,6 @@ use native.Mathlib.Omega.{arith}
 use mathlib.Core.Path.{_≡_, sym, _∙_}
 use mathlib.Core.List.{List}
 use lib.ListN.{length, drop, length-drop}
-use borrow.Author.Needs.{needs}
 use Rattle.places.specs.declared.Place.{Place}
 use Rattle.places.proofs.Places.{onward-here}
 use Rattle.lines.specs.Readings.{LINE}
@@ -29,10 +28,10 @@ few : (c : tie.After-ended)
 few c = omega (arith, many (c .before .before), c .before .if1 .left)
 
 bytes-left-requires : tie.Need-bytes-left-requires
-bytes-left-requires c κs = search needs
+bytes-left-requires c κs = tt
 
 plain-requires : tie.Need-plain-requires
-plain-requires c κs = search needs
+plain-requires c κs = tt
 
 returns : tie.Need-returns
 returns c =
@@ -41,10 +40,10 @@ returns c =
     (as-read (c .plain .ensures .0) (reading-long _ long), onward-here (c .plain .ensures .1))
 
 ended-requires : tie.Need-ended-requires
-ended-requires c κs = search needs
+ended-requires c κs = tt
 
 plain-requires-2 : tie.Need-plain-requires-2
-plain-requires-2 c κs = search needs
+plain-requires-2 c κs = tt
 
 returns-2 : tie.Need-returns-2
 returns-2 c =
