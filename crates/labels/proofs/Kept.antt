@@ -39,6 +39,11 @@ module _ (i o : Bool) (d s : ℕ) where
       go false true = record { known = omega arith; depth = λ l. refl; slot = λ l. refl }
       go false false = record { known = omega arith; depth = λ l. refl; slot = λ l. refl }
 
+-- The label is that of what its parts are.
+pub label-alike :
+    {i i′ o o′ : Bool} {d d′ s s′ : ℕ} → i ≡ i′ → o ≡ o′ → d ≡ d′ → s ≡ s′ → labelFor i o d s ≡ labelFor i′ o′ d′ s′
+label-alike a b c e = rw (a, b, c, e) refl
+
 -- One more atom's label is put.
 pub one-more :
     (f : ℕ → Label) (labels : List Label) (a : ℕ) → a < length labels
