@@ -7,7 +7,6 @@ use table::sets::has;
 use table::sets::mark;
 use table::sets::number_of;
 ghost use mathlib.Core.Path.{_≡_};
-ghost use Prim.Native.Nat.{max};
 ghost use Rattle.theory.specs.Rules.{passes};
 ghost use Rattle.theory.specs.Models.{valid, Admissible};
 ghost use Rattle.table.specs.Rules.{slotOf, programOf};
@@ -69,24 +68,17 @@ fn fill_stratum(
     }
 }
 
-// The greater of two numbers.
-fn greater(a: u16, b: u16) -> u16
-    ensures { λ r. ⌜ r ≡ max a b ⌝ }
-{
-    if a < b { b } else { a }
-}
-
 // The highest number that occurs among the strata.
 fn highest(strata: &[u16; Table::ATOMS]) -> u16
     ensures { λ r. ⌜ Greatest (number (now (strata .entry))) r ⌝ }
 {
     let s = &strata[..];
     let mut top: u16 = 0;
-    let mut i: usize = 0;
-    while i < s.len() {
-        let n = s[i];
-        top = greater(top, n);
-        i += 1;
+    for i in 0..Table::ATOMS {
+        if s[i] <= top {
+            continue;
+        }
+        top = s[i];
     }
     top
 }
