@@ -18,7 +18,8 @@ use Rattle.table.specs.Labels.{labelOf, absentLabel}
 use Rattle.table.specs.Clean.{CleanLabel}
 use Rattle.table.proofs.Entries.{past}
 use Rattle.depths.specs.Numbers.{DepthsOf, SupportsOf, OccurringIn}
-use Rattle.labels.specs.Labelling.{labelFor, Labels, LabellingOf, Assembled}
+use Rattle.labels.specs.Labelling.{Labels, LabellingOf}
+use Rattle.labels.specs.Assembling.{labelFor, Assembled}
 
 -- The label of one atom, by whether it is in and whether it occurs.
 module _ (i o : Bool) (d s : ℕ) where

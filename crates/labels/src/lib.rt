@@ -19,7 +19,8 @@ ghost use Rattle.theory.specs.Limits.{document};
 ghost use Rattle.table.specs.Rules.{programOf};
 ghost use Rattle.table.specs.Labels.{absentLabel};
 ghost use Rattle.table.specs.Sets.{member, number};
-ghost use Rattle.labels.specs.Labelling.{labelFor, LabellingOf, Assembled};
+ghost use Rattle.labels.specs.Labelling.{LabellingOf};
+ghost use Rattle.labels.specs.Assembling.{labelFor, Assembled};
 
 // Either the labels of all atoms, or that there is a negative cycle; `labels` says nothing then.
 pub struct Labelling {

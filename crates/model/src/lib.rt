@@ -46,21 +46,29 @@ fn fill_stratum(
         (now (found .entry)) (now (found .exit)) r ⌝ }
 {
     let mut rounds: u16 = 0;
+    // from this slot on no head is missing: the visits there would add none
+    let mut end = Table::SLOTS;
     loop {
         let mut adds = false;
-        for i in 0..Table::SLOTS {
+        let mut last: usize = 0;
+        let mut i: usize = 0;
+        while i < end {
             // the head decides most visits: the rule is copied only if its head is missing
-            let head = Atom(rules[i].head.0);
+            let slot = i;
+            i += 1;
+            let head = Atom(rules[slot].head.0);
             if !missing(head, strata, k, found) {
                 continue;
             }
-            let rule = rules[i];
+            last = i;
+            let rule = rules[slot];
             if !holds_valid(rule, found) {
                 continue;
             }
             mark(found, head);
             adds = true;
         }
+        end = last;
         rounds += 1;
         if !adds {
             return rounds;

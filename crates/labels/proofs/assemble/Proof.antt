@@ -7,7 +7,7 @@ use borrow.Author.Needs.{needs}
 use Rattle.theory.specs.Limits.{document}
 use Rattle.table.specs.Sets.{member, number}
 use Rattle.table.specs.Labels.{absentLabel}
-use Rattle.labels.specs.Labelling.{labelFor}
+use Rattle.labels.specs.Assembling.{labelFor}
 use Rattle.labels.proofs.Kept.{one-more, label-alike}
 use Rattle.labels.proofs.assemble.Statement.{statement}
 use Rattle.labels.proofs.assemble.Tie as tie
