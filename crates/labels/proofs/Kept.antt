@@ -18,7 +18,8 @@ use Rattle.table.specs.Labels.{labelOf, absentLabel}
 use Rattle.table.specs.Clean.{CleanLabel}
 use Rattle.table.proofs.Entries.{past}
 use Rattle.depths.specs.Numbers.{DepthsOf, SupportsOf, OccurringIn}
-use Rattle.labels.specs.Labelling.{labelFor, Labels, LabellingOf, Assembled}
+use Rattle.labels.specs.Labelling.{Labels, LabellingOf}
+use Rattle.labels.specs.Assembling.{labelFor, Assembled}
 
 -- The label of one atom, by whether it is in and whether it occurs.
 module _ (i o : Bool) (d s : ℕ) where
@@ -38,6 +39,11 @@ module _ (i o : Bool) (d s : ℕ) where
       go true o = record { known = omega arith; depth = λ l. absurd (omega arith); slot = λ l. absurd (omega arith) }
       go false true = record { known = omega arith; depth = λ l. refl; slot = λ l. refl }
       go false false = record { known = omega arith; depth = λ l. refl; slot = λ l. refl }
+
+-- The label is that of what its parts are.
+pub label-alike :
+    {i i′ o o′ : Bool} {d d′ s s′ : ℕ} → i ≡ i′ → o ≡ o′ → d ≡ d′ → s ≡ s′ → labelFor i o d s ≡ labelFor i′ o′ d′ s′
+label-alike a b c e = rw (a, b, c, e) refl
 
 -- One more atom's label is put.
 pub one-more :

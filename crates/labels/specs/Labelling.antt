@@ -1,9 +1,9 @@
 -- The labels of all atoms, as they are kept. Assumes nothing.
 use Prim.Native.Nat.{ℕ, _<_}
 use mathlib.Core.Path.{_≡_}
-use mathlib.Core.Bool.{Bool, true, false}
+use mathlib.Core.Bool.{true, false}
 use mathlib.Core.List.{List}
-use lib.ListN.{length, getD}
+use lib.ListN.{getD}
 use Rattle.theory.specs.Rules.{Program}
 use Rattle.theory.specs.Models.{AtomSet, Admissible}
 use Rattle.theory.specs.Dependencies.{NegativeCycle}
@@ -24,15 +24,3 @@ pub record Labels (P : Program) (M : AtomSet) (labels : List Label) : Type 0 whe
 pub record LabellingOf (P : Program) (r : Labelling) : Type 0 where
   pub acyclic : r .acyclic ≡ true → (NegativeCycle P → ⊥) × ((M : AtomSet) × Labels P M (r .labels))
   pub cyclic : r .acyclic ≡ false → NegativeCycle P
-
--- The kept label of an atom that is in, or occurs, or neither.
-abbrev pub labelFor : Bool → Bool → ℕ → ℕ → Label
-labelFor true occurs depth slot = record { state = 2; depth = depth; slot = record { 0 = slot } }
-labelFor false true depth slot = record { state = 1; depth = 0; slot = record { 0 = 0 } }
-labelFor false false depth slot = absentLabel
-
--- Each atom's label from what was found of it.
-pub record Assembled (M occurs : AtomSet) (depth slot : ℕ → ℕ) (labels : List Label) : Type 0 where
-  pub long : length labels ≡ document .atoms
-  pub each :
-      (a : ℕ) → a < document .atoms → getD labels a absentLabel ≡ labelFor (M a) (occurs a) (depth a) (slot a)

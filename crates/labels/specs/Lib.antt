@@ -1,2 +1,3 @@
 -- What is found of the labels.
 pub mod Labelling
+pub mod Assembling

@@ -4,10 +4,14 @@ use depths::occurring;
 use depths::supports;
 use model::in_atoms;
 use strata::strata;
+use table::Atom;
 use table::Label;
 use table::Rule;
 use table::Slot;
 use table::Table;
+use table::sets::has;
+use table::sets::number_of;
+use table::sets::slot_of;
 ghost use mathlib.Core.Path.{_≡_};
 ghost use Prim.Native.Nat.{ℕ, _<_};
 ghost use Rattle.theory.specs.Rules.{Bounded};
@@ -15,7 +19,8 @@ ghost use Rattle.theory.specs.Limits.{document};
 ghost use Rattle.table.specs.Rules.{programOf};
 ghost use Rattle.table.specs.Labels.{absentLabel};
 ghost use Rattle.table.specs.Sets.{member, number};
-ghost use Rattle.labels.specs.Labelling.{labelFor, LabellingOf, Assembled};
+ghost use Rattle.labels.specs.Labelling.{LabellingOf};
+ghost use Rattle.labels.specs.Assembling.{labelFor, Assembled};
 
 // Either the labels of all atoms, or that there is a negative cycle; `labels` says nothing then.
 pub struct Labelling {
@@ -24,22 +29,24 @@ pub struct Labelling {
 }
 
 // The label of an atom that is in the model, or occurs, or neither.
-fn label_for(is_in: bool, occurs: bool, depth: u16, slot: u16) -> Label
-    ensures { λ r. ⌜ r ≡ labelFor is_in occurs depth slot ⌝ }
+fn label_for(is_in: bool, occurs: bool, depth: u16, slot: Slot) -> Label
+    ensures { λ r. ⌜ r ≡ labelFor is_in occurs depth (slot .0) ⌝ }
 {
     if is_in {
         return Label {
             state: 2,
             depth: depth,
-            slot: Slot(slot),
+            slot: slot,
         };
     }
-    let state: u16 = if occurs { 1 } else { 0 };
-    Label {
-        state: state,
-        depth: 0,
-        slot: Slot(0),
+    if occurs {
+        return Label {
+            state: 1,
+            depth: 0,
+            slot: Slot(0),
+        };
     }
+    Label::absent()
 }
 
 // Each atom's label from what was found of it.
@@ -52,21 +59,17 @@ fn assemble(
     ensures { λ r. ⌜ Assembled (member (now (model .entry))) (member (now (occurs .entry)))
         (number (now (depths .entry))) (number (now (slots .entry))) r ⌝ }
 {
-    let absent = Label {
-        state: 0,
-        depth: 0,
-        slot: Slot(0),
-    };
-    let mut labels: [Label; Table::ATOMS] = [absent; Table::ATOMS];
-    let m = &model[..];
-    let o = &occurs[..];
-    let d = &depths[..];
-    let s = &slots[..];
-    let mut a: usize = 0;
-    while a < Table::ATOMS {
-        let label = label_for(m[a], o[a], d[a], s[a]);
-        labels[a] = label;
-        a += 1;
+    let mut labels: [Label; Table::ATOMS] = [Label::absent(); Table::ATOMS];
+    let mut i: usize = 0;
+    while i < Table::ATOMS {
+        let n = i as u16;
+        let a = Atom(n);
+        let is_in = has(model, a);
+        let there = has(occurs, a);
+        let depth = number_of(depths, a);
+        let slot = slot_of(slots, a);
+        labels[i] = label_for(is_in, there, depth, slot);
+        i += 1;
     }
     labels
 }
@@ -79,14 +82,9 @@ pub fn labels_of(rules: [Rule; Table::SLOTS]) -> Labelling
     let s = strata(rules);
     let of = s.of;
     if !s.acyclic {
-        let absent = Label {
-            state: 0,
-            depth: 0,
-            slot: Slot(0),
-        };
         return Labelling {
             acyclic: false,
-            labels: [absent; Table::ATOMS],
+            labels: [Label::absent(); Table::ATOMS],
         };
     }
     let found = in_atoms(rules, &of);

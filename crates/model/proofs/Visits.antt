@@ -2,17 +2,19 @@
 use Prim.Native.Nat.{ℕ, zero, suc, _+_, _≤_, _<_}
 use native.Mathlib.Omega.{arith}
 use native.Mathlib.Numerals.{add-one}
-use mathlib.Core.Path.{_≡_, refl, sym, _∙_, ap, ap₂, fun-ext}
-use mathlib.Core.Bool.{Bool, true, false, not, _&&_, _||_, and-false, and-assoc, or-assoc, or-false, or-true}
+use native.Mathlib.Decide.{ℕ-discrete}
+use mathlib.Core.Path.{_≡_, refl, sym, _∙_, ap, ap₂, subst, fun-ext}
+use mathlib.Core.Bool.{Bool, true, false, not, _&&_, _||_, and-false, and-assoc, or-assoc, or-false, or-true, true≢false}
 use mathlib.Core.List.{List}
+use mathlib.Core.Logic.{⊎-elim}
 use mathlib.Core.Option.{Option, some}
 use lib.Dec.{eqb}
-use lib.ListN.{length, getD, set, drop, length-set, drop-of-length-le}
-use lib.Seq.{drop-cons}
+use lib.ListN.{length, getD, set, drop, length-set, drop-of-length-le, List·getD-eq-default}
+use lib.Seq.{drop-cons, getD-set-same, getD-set-other}
 use Rattle.theory.specs.Rules.{passes}
 use Rattle.theory.specs.Rules as theory
 use Rattle.theory.specs.Models.{AtomSet, valid}
-use Rattle.theory.proofs.Lists.{clash, eqb-of, eqb-not}
+use Rattle.theory.proofs.Lists.{clash, eqb-of, eqb-not, le-or-lt}
 use Rattle.theory.specs.Rounds.{fires, put, visit, sweep, adds}
 use Rattle.table.specs.declared.Rule.{Rule}
 use Rattle.table.specs.Rules.{ruleOf, held-in, slotOf, programOf, pastRule}
@@ -53,6 +55,11 @@ pub record Left (ℓ : ℕ → ℕ) (k : ℕ) (rules : List Rule) (before : List
   pub whole : sweep ℓ k (member found) (programOf (drop i rules)) ≡ sweep ℓ k (member before) (programOf rules)
   pub more : (added || adds ℓ k (member found) (programOf (drop i rules))) ≡ adds ℓ k (member before) (programOf rules)
   pub size : length found ≡ length before
+
+-- No slot from the place e on has a head that is missing.
+abbrev pub NoneFrom : (ℕ → ℕ) → ℕ → List Rule → List Bool → ℕ → Type 0
+NoneFrom ℓ k rules found e =
+    (s : ℕ) → e ≤ s → s < length rules → missing ℓ k (member found) (getD rules s pastRule .head .0) ≡ false
 
 -- A round made.
 pub record Round (ℓ : ℕ → ℕ) (k : ℕ) (rules : List Rule) (before found : List Bool) (added : Bool) : Type 0 where
@@ -140,3 +147,76 @@ module _ (ℓ : ℕ → ℕ) (k : ℕ) (rules : List Rule) where
               ∙ (ap (λ (rs : List Rule). u || adds ℓ k (member found) (programOf rs)) (sym e) ∙ L .more);
           size = L .size;
         }
+
+    -- A round that leaves out the last slots, whose heads are not missing, is the whole round.
+    rest-over : (n i : ℕ) (found : List Bool) (u : Bool) → length rules ≤ i + n → NoneFrom ℓ k rules found i
+        → Left ℓ k rules before i found u → Round ℓ k rules before found u
+    rest-over zero i found u b N L = left-end i found u (omega arith) L
+    rest-over (suc n) i found u b N L = ⊎-elim
+        (λ (l : length rules ≤ i). left-end i found u l L)
+        (λ (l : i < length rules). rest-over n (i + 1) found u (omega arith) (λ s m. N s (omega arith))
+        (left-over i found u l L (N i (omega arith) l)))
+        (le-or-lt (length rules) i)
+
+    pub left-rest : (i : ℕ) (found : List Bool) (u : Bool) → NoneFrom ℓ k rules found i
+        → Left ℓ k rules before i found u → Round ℓ k rules before found u
+    left-rest i found u N L = rest-over (length rules) i found u (omega arith) N L
+
+-- With the slots below i visited: none from `last` on, and none from `end` on, has a head that is missing.
+pub record Seen (ℓ : ℕ → ℕ) (k : ℕ) (rules : List Rule) (found : List Bool) (end last i : ℕ) : Type 0 where
+  pub low : last ≤ i
+  pub inner : (s : ℕ) → last ≤ s → s < i → missing ℓ k (member found) (getD rules s pastRule .head .0) ≡ false
+  pub outer : NoneFrom ℓ k rules found end
+
+module _ (ℓ : ℕ → ℕ) (k : ℕ) (rules : List Rule) where
+  pub seen-start : (found : List Bool) (end : ℕ) → NoneFrom ℓ k rules found end → Seen ℓ k rules found end 0 0
+  seen-start found end N = record { low = omega arith; inner = λ s l m. absurd (omega arith); outer = N }
+
+  module _ (found : List Bool) (end last i : ℕ) (S : Seen ℓ k rules found end last i) where
+    -- the head of slot i is not missing,
+    pub seen-over :
+        missing ℓ k (member found) (getD rules i pastRule .head .0) ≡ false → Seen ℓ k rules found end last (i + 1)
+    seen-over e = record {
+      low = omega (arith, S .low);
+      inner = λ s l m. ⊎-elim
+          (λ (b : i ≤ s). (
+          let q : i ≡ s = omega arith in
+          subst (λ (z : ℕ). missing ℓ k (member found) (getD rules z pastRule .head .0) ≡ false) q e))
+          (λ (b : s < i). S .inner s l b)
+          (le-or-lt i s);
+      outer = S .outer;
+    }
+
+    -- or it is the last so far that is.
+    pub seen-here : Seen ℓ k rules found end (i + 1) (i + 1)
+    seen-here = record { low = omega arith; inner = λ s l m. absurd (omega arith); outer = S .outer }
+
+    pub seen-end : end ≤ i → NoneFrom ℓ k rules found last
+    seen-end b s l r = ⊎-elim (λ (m : i ≤ s). S .outer s (omega arith) r) (λ (m : s < i). S .inner s l m) (le-or-lt i s)
+
+  -- A head that comes in leaves none missing that was not.
+  pub seen-mark : (found : List Bool) (end last i a : ℕ) (after : List Bool) → after ≡ set found a true
+      → Seen ℓ k rules found end last i → Seen ℓ k rules after end last i
+  seen-mark found end last i a after is S = rw is (record {
+    low = S .low;
+    inner = λ s l m. gone (getD rules s pastRule .head .0) (S .inner s l m);
+    outer = λ s l r. gone (getD rules s pastRule .head .0) (S .outer s l r);
+  })
+    where
+      keeps : (x : ℕ) → member found x ≡ true → member (set found a true) x ≡ true
+      keeps x t = elim (ℕ-discrete x a) [
+        | yes q ↦ ⊎-elim
+            (λ (l : length found ≤ a). absurd (clash t
+            (ap (member found) q ∙ List·getD-eq-default found false l)))
+            (λ (l : a < length found). ap (member (set found a true)) q ∙ getD-set-same found a true false l)
+            (le-or-lt (length found) a)
+        | no q ↦ getD-set-other found a x true false q ∙ t
+      ]
+
+      go : (b m n : Bool) → (b && not m) ≡ false → (m ≡ true → n ≡ true) → (b && not n) ≡ false
+      go false m n e f = refl
+      go true true n e f = ap not (f refl)
+      go true false n e f = absurd (true≢false e)
+
+      gone : (x : ℕ) → missing ℓ k (member found) x ≡ false → missing ℓ k (member (set found a true)) x ≡ false
+      gone x e = go (eqb (ℓ x) k) (member found x) (member (set found a true) x) e (keeps x)

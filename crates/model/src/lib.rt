@@ -7,7 +7,6 @@ use table::sets::has;
 use table::sets::mark;
 use table::sets::number_of;
 ghost use mathlib.Core.Path.{_≡_};
-ghost use Prim.Native.Nat.{max};
 ghost use Rattle.theory.specs.Rules.{passes};
 ghost use Rattle.theory.specs.Models.{valid, Admissible};
 ghost use Rattle.table.specs.Rules.{slotOf, programOf};
@@ -47,33 +46,34 @@ fn fill_stratum(
         (now (found .entry)) (now (found .exit)) r ⌝ }
 {
     let mut rounds: u16 = 0;
+    // from this slot on no head is missing: the visits there would add none
+    let mut end = Table::SLOTS;
     loop {
         let mut adds = false;
-        for i in 0..Table::SLOTS {
+        let mut last: usize = 0;
+        let mut i: usize = 0;
+        while i < end {
             // the head decides most visits: the rule is copied only if its head is missing
-            let head = Atom(rules[i].head.0);
+            let slot = i;
+            i += 1;
+            let head = Atom(rules[slot].head.0);
             if !missing(head, strata, k, found) {
                 continue;
             }
-            let rule = rules[i];
+            last = i;
+            let rule = rules[slot];
             if !holds_valid(rule, found) {
                 continue;
             }
             mark(found, head);
             adds = true;
         }
+        end = last;
         rounds += 1;
         if !adds {
             return rounds;
         }
     }
-}
-
-// The greater of two numbers.
-fn greater(a: u16, b: u16) -> u16
-    ensures { λ r. ⌜ r ≡ max a b ⌝ }
-{
-    if a < b { b } else { a }
 }
 
 // The highest number that occurs among the strata.
@@ -82,11 +82,11 @@ fn highest(strata: &[u16; Table::ATOMS]) -> u16
 {
     let s = &strata[..];
     let mut top: u16 = 0;
-    let mut i: usize = 0;
-    while i < s.len() {
-        let n = s[i];
-        top = greater(top, n);
-        i += 1;
+    for i in 0..Table::ATOMS {
+        if s[i] <= top {
+            continue;
+        }
+        top = s[i];
     }
     top
 }

@@ -1,6 +1,6 @@
 -- Laws of the links from a key to the slots whose rules have it: following them meets every earlier rule of the key.
 -- Assumes nothing.
-use Prim.Native.Nat.{ℕ, _+_, _-_, _*_, _%_, _≤_, _<_}
+use Prim.Native.Nat.{ℕ, _+_, _-_, _*_, _%_, _/_, _≤_, _<_}
 use native.Mathlib.Omega.{arith}
 use mathlib.Core.Path.{_≡_, refl, sym, _∙_, ap, subst}
 use mathlib.Core.Logic.{_⊎_, ⊎-elim}
@@ -16,7 +16,8 @@ use Rattle.table.specs.declared.Atom.{Atom}
 use Rattle.table.specs.Sets.{number}
 use Rattle.table.specs.Rules.{numbers, noAtom}
 use Rattle.table.proofs.Entries.{part-over, part-next}
-use Rattle.sound.specs.Slots.{Single, mixed, key, linked, noted}
+use Rattle.sound.specs.Slots.{Single}
+use Rattle.sound.specs.Keys.{mixed, key, linked, noted}
 use Rattle.sound.proofs.Passes.{equal?}
 
 -- k is 1 more than the last slot below `end` that holds a rule of the key h; 0 if there is none.
@@ -45,32 +46,32 @@ same-key : (q r : Rule) → same q r ≡ true → key q ≡ key r
 same-key q r t = ap key (same-eq q r t)
 
 -- A key is below 256.
-mixed-below : (xs : List ℕ) (k : ℕ) → k < 256 → mixed k xs < 256
+mixed-below : (xs : List ℕ) (k : ℕ) → mixed k xs < 256
 unfolding mixed
-mixed-below [] k l = l
-mixed-below (x ∷ xs) k l = mixed-below xs ((31 * k + x) % 256) (omega arith)
+mixed-below [] k = omega arith
+mixed-below (x ∷ xs) k = mixed-below xs ((8121 * k + x) % 65536)
 
 pub key-below : (q : Rule) → key q < 256
-key-below q = mixed-below (entries q) (q .head % 256) (omega arith)
+key-below q = mixed-below (entries q) (q .head)
 
 -- A walk over the entries from j to below m: what was mixed in and what is left give the whole.
-none-left : (k : ℕ) (ys : List ℕ) → ys ≡ [] → mixed k ys ≡ k
+none-left : (k : ℕ) (ys : List ℕ) → ys ≡ [] → mixed k ys ≡ 8121 * k % 65536 / 256
 unfolding mixed
 none-left k ys e = rw e refl
 
-one-left : (k y : ℕ) (ys zs : List ℕ) → zs ≡ y ∷ ys → mixed k zs ≡ mixed ((31 * k + y) % 256) ys
+one-left : (k y : ℕ) (ys zs : List ℕ) → zs ≡ y ∷ ys → mixed k zs ≡ mixed ((8121 * k + y) % 65536) ys
 unfolding mixed
 one-left k y ys zs e = rw e refl
 
 module _ (xs : List Atom) (j m k whole : ℕ) (W : mixed k (numbers (slice j m xs)) ≡ whole) where
-  pub mixed-over : m ≤ j → k ≡ whole
+  pub mixed-over : m ≤ j → 8121 * k % 65536 / 256 ≡ whole
   mixed-over l = sym (none-left k (numbers (slice j m xs)) (part-over xs j m l)) ∙ W
 
   pub mixed-next :
-      j < m → m ≤ length xs → (x next : ℕ) → x ≡ getD xs j noAtom .0 → next ≡ (31 * k + x) % 256
+      j < m → m ≤ length xs → (x next : ℕ) → x ≡ getD xs j noAtom .0 → next ≡ (8121 * k + x) % 65536
       → mixed next (numbers (slice (j + 1) m xs)) ≡ whole
   mixed-next l b x next e f =
-      ap (λ (z : ℕ). mixed z (numbers (slice (j + 1) m xs))) (f ∙ ap (λ (z : ℕ). (31 * k + z) % 256) e)
+      ap (λ (z : ℕ). mixed z (numbers (slice (j + 1) m xs))) (f ∙ ap (λ (z : ℕ). (8121 * k + z) % 65536) e)
       ∙ sym (one-left k (getD xs j noAtom .0) (numbers (slice (j + 1) m xs)) (numbers (slice j m xs))
       (part-next xs j m l b)) ∙ W
 

@@ -17,7 +17,8 @@ ghost use Rattle.table.specs.Sets.{number};
 ghost use Rattle.table.specs.Rules.{slotOf, ruleOf, programOf, pastRule};
 ghost use Rattle.table.specs.Labels.{absentLabel};
 ghost use Rattle.table.specs.Clean.{WellFormed, CleanLabel};
-ghost use Rattle.sound.specs.Slots.{Single, key, linked, noted};
+ghost use Rattle.sound.specs.Slots.{Single};
+ghost use Rattle.sound.specs.Keys.{key, linked, noted};
 
 // Is every slot one that a sound table can have?
 pub fn slots_well_formed(rules: [Rule; Table::SLOTS]) -> bool
@@ -61,15 +62,15 @@ fn key(rule: Rule) -> usize
     ensures { λ r. ⌜ r ≡ key (ruleOf rule) ⌝ }
 {
     let n = negative_end(rule);
-    let mut k = wide(rule.head) % 256;
+    let mut k = wide(rule.head);
     let mut j: usize = 0;
     while j < n {
         let a = rule.entries[j];
         let x = wide(a);
-        k = (31 * k + x) % 256;
+        k = (8121 * k + x) % 65536;
         j += 1;
     }
-    k
+    8121 * k % 65536 / 256
 }
 
 // Where to start looking for a rule that is the same: 1 more than the last slot so far with a rule of this key; 0 if

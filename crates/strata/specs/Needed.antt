@@ -1,4 +1,5 @@
--- The number that a rule needs its head to have, and an atom's number raised to one. Assumes nothing.
+-- What the functions of the crate tell each other (private): the number that a rule needs its head to have, and an
+-- atom's number raised to one. Assumes nothing.
 use Prim.Native.Nat.{ℕ, _+_, _≤_, _<_, max}
 use mathlib.Core.Path.{_≡_}
 use mathlib.Core.Bool.{Bool, true, false}

@@ -67,7 +67,7 @@ fn raise(kept: &mut [u16; Table::ATOMS], a: Atom, n: u16) -> bool
 
 // Rounds over the slots, each of which raises heads to what their rules need, up to the first that raises none.
 // Only a negative cycle lets a number pass SLOTS, or a round that SLOTS others came before still raise one.
-// Every fourth round walks downwards: a chain against the order of the slots settles in it.
+// Every eighth round walks downwards: a chain against the order of the slots settles in it.
 pub fn strata(rules: [Rule; Table::SLOTS]) -> Stratification
     requires { ⌜ Bounded (programOf rules) (document .atoms) ⌝ }
     ensures { λ r. ⌜ StrataOf (programOf rules) r ⌝ }
@@ -75,7 +75,7 @@ pub fn strata(rules: [Rule; Table::SLOTS]) -> Stratification
     let mut of: [u16; Table::ATOMS] = [0; Table::ATOMS];
     let mut round: usize = 0;
     while round <= Table::SLOTS {
-        let down = round % 4 == 3;
+        let down = round % 8 == 7;
         let mut raised = false;
         let mut i: usize = 0;
         while i < Table::SLOTS {

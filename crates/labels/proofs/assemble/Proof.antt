@@ -1,46 +1,46 @@
 -- `labels::assemble` puts each atom's label. Assumes nothing.
 use Prim.Native.Nat.{ℕ, _≤_, _<_, _-_}
 use native.Mathlib.Omega.{arith}
-use mathlib.Core.Path.{_≡_, refl}
+use mathlib.Core.Path.{_≡_, refl, _∙_}
 use lib.ListN.{length, getD, length-set}
 use borrow.Author.Needs.{needs}
 use Rattle.theory.specs.Limits.{document}
 use Rattle.table.specs.Sets.{member, number}
 use Rattle.table.specs.Labels.{absentLabel}
-use Rattle.labels.specs.Labelling.{labelFor}
-use Rattle.labels.proofs.Kept.{one-more}
+use Rattle.labels.specs.Assembling.{labelFor}
+use Rattle.labels.proofs.Kept.{one-more, label-alike}
 use Rattle.labels.proofs.assemble.Statement.{statement}
 use Rattle.labels.proofs.assemble.Tie as tie
 
 abbrev Inv-loop : tie.InvT-loop
-Inv-loop model occurs depths slots labels₀ m o d s a₀ labels a =
-    (a ≤ document .atoms) × (length labels ≡ document .atoms)
-    × ((k : ℕ) → k < a
+Inv-loop model occurs depths slots labels₀ i₀ labels i =
+    (i ≤ document .atoms) × (length labels ≡ document .atoms)
+    × ((k : ℕ) → k < i
     → getD labels k absentLabel ≡ labelFor (member model k) (member occurs k) (number depths k) (number slots k))
 
 abbrev μ-loop : tie.MeasureT-loop
-μ-loop model occurs depths slots labels₀ m o d s a₀ labels a = document .atoms - a
+μ-loop model occurs depths slots labels₀ i₀ labels i = document .atoms - i
+
+absent-requires : tie.Need-absent-requires Inv-loop μ-loop
+absent-requires c κs = search needs
 
 loop-holds : tie.Need-loop-holds Inv-loop μ-loop
 loop-holds c = (omega arith, refl, λ k l. absurd (omega arith))
 
-shared-slice-read-label-for : tie.Need-shared-slice-read-label-for Inv-loop μ-loop
-shared-slice-read-label-for c = search needs
+cast-n : tie.Need-cast-n Inv-loop μ-loop
+cast-n c = search needs
 
-shared-slice-read-label-for-2 : tie.Need-shared-slice-read-label-for-2 Inv-loop μ-loop
-shared-slice-read-label-for-2 c = search needs
+has-requires : tie.Need-has-requires Inv-loop μ-loop
+has-requires c κs = search needs
 
-mul-label-for : tie.Need-mul-label-for Inv-loop μ-loop
-mul-label-for c = search needs
+has-requires-2 : tie.Need-has-requires-2 Inv-loop μ-loop
+has-requires-2 c κs = search needs
 
-shared-slice-read-label-for-3 : tie.Need-shared-slice-read-label-for-3 Inv-loop μ-loop
-shared-slice-read-label-for-3 c = search needs
+number-of-requires : tie.Need-number-of-requires Inv-loop μ-loop
+number-of-requires c κs = search needs
 
-mul-label-for-2 : tie.Need-mul-label-for-2 Inv-loop μ-loop
-mul-label-for-2 c = search needs
-
-shared-slice-read-label-for-4 : tie.Need-shared-slice-read-label-for-4 Inv-loop μ-loop
-shared-slice-read-label-for-4 c = search needs
+slot-of-requires : tie.Need-slot-of-requires Inv-loop μ-loop
+slot-of-requires c κs = search needs
 
 label-for-requires : tie.Need-label-for-requires Inv-loop μ-loop
 label-for-requires c κs = search needs
@@ -51,18 +51,24 @@ mul-labels c = search needs
 array-set-from-labels : tie.Need-array-set-from-labels Inv-loop μ-loop
 array-set-from-labels c = search needs
 
-add-a : tie.Need-add-a Inv-loop μ-loop
-add-a c = search needs
+add-i : tie.Need-add-i Inv-loop μ-loop
+add-i c = search needs
 
 loop-less : tie.Need-loop-less Inv-loop μ-loop
 loop-less c = search needs
 
 loop-again : tie.Need-loop-again Inv-loop μ-loop
 loop-again c =
-    let t = c .before .before .before .before .before .before .loop in (
+    let s = c .before in
+    let d = s .before in
+    let o = d .before in
+    let m = o .before in
+    let t = m .before .before .loop in (
       omega arith,
       simp length-set (t .inv .1),
-      one-more _ (t .labels) (t .a) (omega (arith, t .inv .1)) (t .inv .2) _ (c .label-for .ensures),
+      one-more _ (t .labels) (t .i) (omega (arith, t .inv .1)) (t .inv .2) _
+          (c .label-for .ensures
+          ∙ label-alike (m .has .ensures) (o .has2 .ensures) (d .number-of .ensures) (s .slot-of .ensures)),
     )
 
 returns : tie.Need-returns Inv-loop μ-loop
@@ -76,17 +82,17 @@ assemble-spec =
     (tie.spec
     Inv-loop
     μ-loop
+    absent-requires
     loop-holds
-    shared-slice-read-label-for
-    shared-slice-read-label-for-2
-    mul-label-for
-    shared-slice-read-label-for-3
-    mul-label-for-2
-    shared-slice-read-label-for-4
+    cast-n
+    has-requires
+    has-requires-2
+    number-of-requires
+    slot-of-requires
     label-for-requires
     mul-labels
     array-set-from-labels
-    add-a
+    add-i
     loop-less
     loop-again
     returns)

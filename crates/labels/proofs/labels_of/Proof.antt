@@ -9,10 +9,13 @@ use Rattle.labels.proofs.labels_of.Tie as tie
 strata-requires : tie.Need-strata-requires
 strata-requires c κs = search needs
 
+absent-requires : tie.Need-absent-requires
+absent-requires c κs = search needs
+
 returns : tie.Need-returns
 returns c =
-    let told = c .before .before .before in
-    told-cycle _ _ (told .strata .ensures .cyclic (not-true _ (c .if1 .taken)))
+    let told = c .before .before .before .before in
+    told-cycle _ _ (told .strata .ensures .cyclic (not-true _ (c .before .if1 .taken)))
 
 in-atoms-requires : tie.Need-in-atoms-requires
 in-atoms-requires c κs =
@@ -51,6 +54,7 @@ labels-of-spec =
     tie.close
     (tie.spec
     strata-requires
+    absent-requires
     returns
     in-atoms-requires
     depths-requires

@@ -1,7 +1,7 @@
 -- `model::fill_stratum` makes the rounds that the theory's `fill` makes. Assumes nothing.
 -- Inside a round: what is left of it gives the whole round. Between rounds: what is left of them gives all. Each round
 -- that adds brings in the head of one more rule, so that the rounds end.
-use Prim.Native.Nat.{suc, _-_}
+use Prim.Native.Nat.{suc, _-_, _≤_}
 use native.Mathlib.Omega.{arith}
 use mathlib.Core.Path.{_≡_, refl, sym, _∙_}
 use lib.ListN.{length}
@@ -10,7 +10,8 @@ use Rattle.theory.proofs.Lists.{not-true, not-false}
 use Rattle.theory.specs.Rounds.{fill}
 use Rattle.table.specs.Rules.{programOf}
 use Rattle.table.specs.Sets.{member, number}
-use Rattle.model.proofs.Visits.{Left, left-start, left-over, left-stop, left-add, left-end}
+use Rattle.model.proofs.Visits.{Left, left-start, left-over, left-stop, left-add, left-rest}
+use Rattle.model.proofs.Visits.{NoneFrom, Seen, seen-start, seen-over, seen-here, seen-mark, seen-end}
 use Rattle.model.proofs.Rounds.{Going, going-start, going-few, room-of, head-below}
 use Rattle.model.proofs.Rounds.{stratum-next, stratum-found, stratum-number}
 use borrow.Author.Needs.{needs}
@@ -18,37 +19,43 @@ use Rattle.model.proofs.fill_stratum.Statement.{statement}
 use Rattle.model.proofs.fill_stratum.Tie as tie
 
 abbrev Inv-loop2 : tie.InvT-loop2
-Inv-loop2 strata k found₀ rules rounds adds₀ i₀ found adds i = Left (number strata) k rules found₀ i found adds
+Inv-loop2 strata k found₀ rules rounds end adds₀ last₀ i₀ found adds last i =
+    Left (number strata) k rules found₀ i found adds × Seen (number strata) k rules found end last i
+    × (end ≤ document .slots)
 
 abbrev μ-loop2 : tie.MeasureT-loop2
-μ-loop2 strata k found₀ rules rounds adds₀ i₀ found adds i = length rules - i
+μ-loop2 strata k found₀ rules rounds end adds₀ last₀ i₀ found adds last i = end - i
 
 abbrev Inv-loop : tie.InvT-loop
-Inv-loop strata k found₀ rules rounds₀ found rounds =
+Inv-loop strata k found₀ rules rounds₀ end₀ found rounds end =
     Going (programOf rules) (number strata) k (suc (document .slots))
     (fill (suc (document .slots)) (number strata) (programOf rules) k (member found₀)) (member found) rounds
-    × (length found ≡ length found₀)
+    × (length found ≡ length found₀) × NoneFrom (number strata) k rules found end × (end ≤ document .slots)
 
 abbrev μ-loop : tie.MeasureT-loop
-μ-loop strata k found₀ rules rounds₀ found rounds = suc (document .slots) - rounds
+μ-loop strata k found₀ rules rounds₀ end₀ found rounds end = suc (document .slots) - rounds
 
 loop-holds : tie.Need-loop-holds Inv-loop2 μ-loop2 Inv-loop μ-loop
-loop-holds c = (going-start _ _ _ _ _ (c .pre .filled), refl)
+loop-holds c =
+    let len : length (c .args .t1) ≡ document .slots = search needs in
+    (going-start _ _ _ _ _ (c .pre .filled), refl, λ z l r. absurd (omega (arith, len)), omega arith)
 
 loop2-holds : tie.Need-loop2-holds Inv-loop2 μ-loop2 Inv-loop μ-loop
-loop2-holds c = left-start _ _ _ _
-
-mul-t12 : tie.Need-mul-t12 Inv-loop2 μ-loop2 Inv-loop μ-loop
-mul-t12 c = search needs
-
-element-copy-out-t15 : tie.Need-element-copy-out-t15 Inv-loop2 μ-loop2 Inv-loop μ-loop
-element-copy-out-t15 c = search needs
-
-missing-requires : tie.Need-missing-requires Inv-loop2 μ-loop2 Inv-loop μ-loop
-missing-requires c κs = search needs
+loop2-holds c =
+    let t = c .loop .inv in
+    (left-start _ _ _ _, seen-start _ _ (c .before .args .t1) _ _ (t .2), t .3)
 
 add-i : tie.Need-add-i Inv-loop2 μ-loop2 Inv-loop μ-loop
 add-i c = search needs
+
+mul-t15 : tie.Need-mul-t15 Inv-loop2 μ-loop2 Inv-loop μ-loop
+mul-t15 c = (let l = c .before .loop2 .inv .2 in search needs)
+
+element-copy-out-t18 : tie.Need-element-copy-out-t18 Inv-loop2 μ-loop2 Inv-loop μ-loop
+element-copy-out-t18 c = (let l = c .before .loop2 .inv .2 in search needs)
+
+missing-requires : tie.Need-missing-requires Inv-loop2 μ-loop2 Inv-loop μ-loop
+missing-requires c κs = search needs
 
 loop2-less : tie.Need-loop2-less Inv-loop2 μ-loop2 Inv-loop μ-loop
 loop2-less c = search needs
@@ -58,20 +65,20 @@ loop2-again c =
     let at = c .before .before .before .before in
     let s = at .before .before in
     let len : length (s .args .t1) ≡ document .slots = search needs in
-    left-over _ _ (s .args .t1) _ _ _ _ (omega arith) (at .loop2 .inv)
-    (sym (c .before .missing .ensures) ∙ not-true _ (c .if1 .taken))
+    let no = sym (c .before .missing .ensures) ∙ not-true _ (c .if1 .taken) in (
+      left-over _ _ (s .args .t1) _ (at .loop2 .i) _ _ (omega (arith, at .loop2 .inv .2)) (at .loop2 .inv .0) no,
+      seen-over _ _ (s .args .t1) _ _ _ (at .loop2 .i) (at .loop2 .inv .1) no,
+      at .loop2 .inv .2,
+    )
 
 mul-rule : tie.Need-mul-rule Inv-loop2 μ-loop2 Inv-loop μ-loop
-mul-rule c = search needs
+mul-rule c = (let l = c .before .before .before .before .loop2 .inv .2 in search needs)
 
 array-copy-out-rule : tie.Need-array-copy-out-rule Inv-loop2 μ-loop2 Inv-loop μ-loop
-array-copy-out-rule c = search needs
+array-copy-out-rule c = (let l = c .before .before .before .before .loop2 .inv .2 in search needs)
 
 holds-valid-requires : tie.Need-holds-valid-requires Inv-loop2 μ-loop2 Inv-loop μ-loop
 holds-valid-requires c κs = search needs
-
-add-i-2 : tie.Need-add-i-2 Inv-loop2 μ-loop2 Inv-loop μ-loop
-add-i-2 c = search needs
 
 loop2-less-2 : tie.Need-loop2-less-2 Inv-loop2 μ-loop2 Inv-loop μ-loop
 loop2-less-2 c = search needs
@@ -80,15 +87,15 @@ loop2-again-2 : tie.Need-loop2-again-2 Inv-loop2 μ-loop2 Inv-loop μ-loop
 loop2-again-2 c =
     let at = c .before .before .before .before .before .before .before .before in
     let s = at .before .before in
-    let len : length (s .args .t1) ≡ document .slots = search needs in
-    left-stop _ _ (s .args .t1) _ _ _ _ (omega arith) (at .loop2 .inv)
-    (sym (c .before .holds-valid .ensures) ∙ not-true _ (c .if2 .taken))
+    let len : length (s .args .t1) ≡ document .slots = search needs in (
+      left-stop _ _ (s .args .t1) _ (at .loop2 .i) _ _ (omega (arith, at .loop2 .inv .2)) (at .loop2 .inv .0)
+          (sym (c .before .holds-valid .ensures) ∙ not-true _ (c .if2 .taken)),
+      seen-here _ _ (s .args .t1) _ _ _ (at .loop2 .i) (at .loop2 .inv .1),
+      at .loop2 .inv .2,
+    )
 
 mark-requires : tie.Need-mark-requires Inv-loop2 μ-loop2 Inv-loop μ-loop
 mark-requires c κs = search needs
-
-add-i-3 : tie.Need-add-i-3 Inv-loop2 μ-loop2 Inv-loop μ-loop
-add-i-3 c = search needs
 
 loop2-less-3 : tie.Need-loop2-less-3 Inv-loop2 μ-loop2 Inv-loop μ-loop
 loop2-less-3 c = search needs
@@ -101,11 +108,15 @@ loop2-again-3 c =
     let s = at .before .before in
     let len : length (s .args .t1) ≡ document .slots = search needs in
     let size : length (at .loop2 .found) ≡ document .atoms =
-    at .loop2 .inv .size ∙ (at .before .loop .inv .1 ∙ s .pre .size) in
-    left-add _ _ (s .args .t1) _ _ _ _ (omega arith) (at .loop2 .inv)
-    (rw size (head-below (s .args .t1) (document .atoms) _ (s .pre .stratified .bounded)))
-    (sym (new .before .missing .ensures) ∙ not-false _ (new .if1 .left))
-    (sym (good .before .holds-valid .ensures) ∙ not-false _ (good .if2 .left)) _ (c .mark .ensures)
+    at .loop2 .inv .0 .size ∙ (at .before .loop .inv .1 ∙ s .pre .size) in (
+      left-add _ _ (s .args .t1) _ (at .loop2 .i) _ _ (omega (arith, at .loop2 .inv .2)) (at .loop2 .inv .0)
+          (rw size (head-below (s .args .t1) (document .atoms) _ (s .pre .stratified .bounded)))
+          (sym (new .before .missing .ensures) ∙ not-false _ (new .if1 .left))
+          (sym (good .before .holds-valid .ensures) ∙ not-false _ (good .if2 .left)) _ (c .mark .ensures),
+      seen-mark _ _ (s .args .t1) _ _ _ _ _ _ (c .mark .ensures)
+          (seen-here _ _ (s .args .t1) _ _ _ (at .loop2 .i) (at .loop2 .inv .1)),
+      at .loop2 .inv .2,
+    )
 
 add-rounds : tie.Need-add-rounds Inv-loop2 μ-loop2 Inv-loop μ-loop
 add-rounds c =
@@ -120,7 +131,9 @@ returns c =
     let s = c .before .before .before .before in
     let len : length (s .args .t1) ≡ document .slots = search needs in
     let G = c .before .before .before .loop .inv in
-    let R = left-end _ _ (s .args .t1) _ _ _ _ (omega arith) (c .before .before .loop2 .inv) in
+    let t = c .before .before .loop2 in
+    let past = c .before .loop2-test .left in
+    let R = left-rest _ _ (s .args .t1) _ (t .i) _ _ (λ z l r. t .inv .1 .outer z (omega arith) r) (t .inv .0) in
     let over = not-true _ (c .if3 .taken) in
     record {
       found = stratum-found (s .args .t1) _ _ (document .slots) len _ _ _ _ _ (G .0) R over;
@@ -141,10 +154,14 @@ loop-again c =
     let s = c .before .before .before .before in
     let len : length (s .args .t1) ≡ document .slots = search needs in
     let G = c .before .before .before .loop .inv in
-    let R = left-end _ _ (s .args .t1) _ _ _ _ (omega arith) (c .before .before .loop2 .inv) in
+    let t = c .before .before .loop2 in
+    let past = c .before .loop2-test .left in
+    let R = left-rest _ _ (s .args .t1) _ (t .i) _ _ (λ z l r. t .inv .1 .outer z (omega arith) r) (t .inv .0) in
     let more = not-false _ (c .if3 .left) in (
       stratum-next (s .args .t1) _ _ (document .slots) len _ _ _ _ _ (G .0) R (s .pre .stratified .strata) more,
       R .size ∙ G .1,
+      seen-end _ _ (s .args .t1) _ _ _ (t .i) (t .inv .1) past,
+      omega (arith, t .inv .1 .low, t .inv .0 .place),
     )
 
 pub fill-stratum-spec : {M : Type 1} → statement M
@@ -157,20 +174,18 @@ fill-stratum-spec =
     μ-loop
     loop-holds
     loop2-holds
-    mul-t12
-    element-copy-out-t15
-    missing-requires
     add-i
+    mul-t15
+    element-copy-out-t18
+    missing-requires
     loop2-less
     loop2-again
     mul-rule
     array-copy-out-rule
     holds-valid-requires
-    add-i-2
     loop2-less-2
     loop2-again-2
     mark-requires
-    add-i-3
     loop2-less-3
     loop2-again-3
     add-rounds

@@ -1,5 +1,5 @@
 -- `sound::slots::key` meets its contract: what was mixed in and what is left give the whole. Assumes nothing.
-use Prim.Native.Nat.{_-_, _%_, _≤_, _<_}
+use Prim.Native.Nat.{_-_, _≤_, _<_}
 use native.Mathlib.Omega.{arith}
 use mathlib.Core.Path.{_≡_, refl, _∙_, ap}
 use lib.ListN.{length, length-map}
@@ -8,14 +8,14 @@ use Rattle.theory.specs.Limits.{document}
 use Rattle.theory.specs.Rules.{entries}
 use Rattle.table.specs.Rules.{numbers, ruleOf}
 use Rattle.table.proofs.Entries.{entries-are}
-use Rattle.sound.specs.Slots.{mixed, key}
+use Rattle.sound.specs.Keys.{mixed, key}
 use Rattle.sound.proofs.Links.{mixed-over, mixed-next}
 use borrow.Author.Needs.{needs}
 use Rattle.sound.proofs.slots.key.Statement.{statement}
 use Rattle.sound.proofs.slots.key.Tie as tie
 
 abbrev Inv-loop : tie.InvT-loop
-Inv-loop rule n k₀ j₀ k j = (k < 256) × (mixed k (numbers (slice j n (rule .entries))) ≡ key (ruleOf rule))
+Inv-loop rule n k₀ j₀ k j = (k < 65536) × (mixed k (numbers (slice j n (rule .entries))) ≡ key (ruleOf rule))
 
 abbrev μ-loop : tie.MeasureT-loop
 μ-loop rule n k₀ j₀ k j = n - j
@@ -33,10 +33,10 @@ wide-requires c κs = search needs
 loop-holds : tie.Need-loop-holds Inv-loop μ-loop
 loop-holds c =
     let s = c .before .before .before in (
-      omega arith,
-      ap (λ h. mixed (h % 256) (numbers (slice 0 (c .before .before .negative-end .result) (s .args .t1 .entries))))
+      omega (arith, c .wide .ensures .1),
+      ap (λ h. mixed h (numbers (slice 0 (c .before .before .negative-end .result) (s .args .t1 .entries))))
           (c .wide .ensures .0)
-          ∙ ap (mixed (s .args .t1 .head .0 % 256))
+          ∙ ap (mixed (s .args .t1 .head .0))
           (entries-are (s .args .t1) (document .entries) (long s) _ (c .before .before .negative-end .ensures)),
     )
 
@@ -74,6 +74,9 @@ loop-again c =
           (c .before .before .loop-test .taken) (omega (arith, w .before .before .before .negative-end .ensures)) _ _ (c .wide2 .ensures .0) refl,
     )
 
+mul-result : tie.Need-mul-result Inv-loop μ-loop
+mul-result c = (let l = c .before .loop .inv .0 in search needs)
+
 returns : tie.Need-returns Inv-loop μ-loop
 returns c = mixed-over _ _ _ _ _ (c .before .loop .inv .1) (c .loop-test .left)
 
@@ -94,4 +97,5 @@ key-spec =
     add-j
     loop-less
     loop-again
+    mul-result
     returns)

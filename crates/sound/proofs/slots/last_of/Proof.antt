@@ -2,7 +2,7 @@
 use mathlib.Core.Path.{sym, ap, _∙_}
 use Rattle.table.specs.Sets.{number}
 use Rattle.table.proofs.Entries.{past}
-use Rattle.sound.specs.Slots.{linked}
+use Rattle.sound.specs.Keys.{linked}
 use Rattle.sound.proofs.Passes.{slot-held}
 use borrow.Author.Needs.{needs}
 use Rattle.sound.proofs.slots.last_of.Statement.{statement}

@@ -2,7 +2,7 @@
 use mathlib.Core.Path.{sym, ap, _∙_}
 use lib.ListN.{set}
 use lib.Seq.{set-out}
-use Rattle.sound.specs.Slots.{noted}
+use Rattle.sound.specs.Keys.{noted}
 use Rattle.sound.proofs.Passes.{slot-held}
 use borrow.Author.Needs.{needs}
 use Rattle.sound.proofs.slots.note.Statement.{statement}
