@@ -1,4 +1,5 @@
--- Private: the edges that the slots give, from an atom to one that it affects, as two lists of numbers. Assumes nothing.
+-- Private: the edges that the slots give, from an atom to one that it affects, as two lists of numbers. Assumes
+-- nothing.
 use Prim.Native.Nat.{ℕ, _≤_, _<_, _+_}
 use mathlib.Core.Path.{_≡_}
 use mathlib.Core.Bool.{true, false}

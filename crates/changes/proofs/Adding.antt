@@ -107,7 +107,8 @@ module _ (t : Table) (S : Sound t) (q : theory.Rule) where
       refused-full e = contract.refused refusal.Full S (five ∙ first-no-here _ _ (ap is-some e))
 
       -- the rule is put into the lowest free slot
-      module _ (s : ℕ) (inside : s < document .slots) (low : lowest-free (held t) ≡ some s) (r : Rule) (R : SlotWith q r)
+      module _
+          (s : ℕ) (inside : s < document .slots) (low : lowest-free (held t) ≡ some s) (r : Rule) (R : SlotWith q r)
         where
           six : first-no (add-questions document (held t) q)
               ≡ first-no (asks 7 (stratified (set (held t) s (some q))) ∷ [])

@@ -94,8 +94,8 @@ module _ (t : Table) (slots : length (t .rules) ≡ document .slots) (atoms : le
 
 -- How a call on an atom ends that tells its kept label.
 pub label-ends :
-    (t : Table) (a : ℕ) (x : Atom) (l : Label) (r : LabelAnswer) → Passes t a x → l ≡ getD (t .labels) (x .0) absentLabel
-    → r ≡ tellLabel (labelOf l) → LabelEnds t a r
+    (t : Table) (a : ℕ) (x : Atom) (l : Label) (r : LabelAnswer) → Passes t a x
+    → l ≡ getD (t .labels) (x .0) absentLabel → r ≡ tellLabel (labelOf l) → LabelEnds t a r
 label-ends t a x l r Q e u =
     let labels = Q .sound .labels in
     rw (u, e, Q .atom)

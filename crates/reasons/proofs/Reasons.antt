@@ -199,16 +199,16 @@ module _ (t : Table) (long : length (t .labels) ≡ document .atoms) (sound : So
       deep : (x : ℕ) → M x ≡ true → Depth P M x (number depths x)
       deep x u =
           let w = kept x u in
+          let is-in = label-kept (at x) (omega (arith, w .0)) in
           subst (Depth P M x)
-          (sym (ap (λ (f : ℕ → ℕ). f x) (depths-are (t .labels) k K) ∙ ap depth-in (label-kept (at x) (omega (arith, w .0)))))
-          (w .1)
+          (sym (ap (λ (f : ℕ → ℕ). f x) (depths-are (t .labels) k K) ∙ ap depth-in is-in)) (w .1)
 
       supporting : (x : ℕ) → M x ≡ true → Supporting P M x (number slots x)
       supporting x u =
           let w = kept x u in
+          let is-in = label-kept (at x) (omega (arith, w .0)) in
           subst (Supporting P M x)
-          (sym (ap (λ (f : ℕ → ℕ). f x) (slots-are (t .labels) k K) ∙ ap slot-in (label-kept (at x) (omega (arith, w .0)))))
-          (w .2)
+          (sym (ap (λ (f : ℕ → ℕ). f x) (slots-are (t .labels) k K) ∙ ap slot-in is-in)) (w .2)
 
       -- Only an in atom has kept entries: the positive entries of its supporting rule.
       entry-from-in : (x y : ℕ) → KeptEntry counts entries x y → M x ≡ true

@@ -1,5 +1,5 @@
--- `gathering::kept_entries` meets its contract. The loop's invariant: the entries of the atoms below i are kept. Assumes
--- nothing.
+-- `gathering::kept_entries` meets its contract. The loop's invariant: the entries of the atoms below i are kept.
+-- Assumes nothing.
 use Prim.Native.Nat.{_-_}
 use native.Mathlib.Omega.{arith}
 use mathlib.Core.Path.{_≡_, refl}

@@ -1,5 +1,5 @@
--- `reach::reach` meets its contract. The loop's invariant: each member is reached, and once a round brings none in, every
--- edge was followed. The measure: the atoms outside the set, and the last round. Assumes nothing.
+-- `reach::reach` meets its contract. The loop's invariant: each member is reached, and once a round brings none in,
+-- every edge was followed. The measure: the atoms outside the set, and the last round. Assumes nothing.
 use Prim.Native.Nat.{_+_}
 use borrow.Author.Needs.{needs}
 use Rattle.theory.specs.Limits.{document}
