@@ -3,7 +3,7 @@ use mathlib.Core.Path.{_≡_, refl}
 use mathlib.Core.List.{[], _∷_, map}
 use Rattle.theory.specs.Book.{add, remove}
 use Rattle.table.specs.Questions.{ruleFrom}
-use Rattle.lines.specs.Texts.{bytes}
+use Rattle.fields.specs.Texts.{bytes}
 use Rattle.lines.specs.Tokens.{onto, pieces, filled, tokens}
 use Rattle.lines.specs.Numerals.{digits, valueFrom, needless, spelledFrom, numeral}
 use Rattle.lines.specs.Commands.{one, numerals, before, after, addition, only, listing, form, command}
