@@ -4,9 +4,10 @@ use mathlib.Core.List.{[], _∷_, map}
 use Rattle.theory.specs.Book.{add, remove}
 use Rattle.table.specs.Questions.{ruleFrom}
 use Rattle.fields.specs.Texts.{bytes}
-use Rattle.lines.specs.Tokens.{onto, pieces, filled, tokens}
-use Rattle.lines.specs.Numerals.{digits, valueFrom, needless, spelledFrom, numeral}
-use Rattle.lines.specs.Commands.{one, numerals, before, after, addition, only, listing, form, command}
+use Rattle.tokens.specs.Tokens.{onto, pieces, filled, tokens}
+use Rattle.tokens.specs.Numerals.{digits, valueFrom, needless, spelledFrom, numeral}
+use Rattle.tokens.specs.Tokens.{one}
+use Rattle.lines.specs.Commands.{numerals, before, after, addition, only, listing, form, command}
 use Rattle.lines.specs.Readings.{spaces, blank, reading}
 use Rattle.sheets.specs.Calls.{endedLines, behindNewlines, linesOf, linesCalls, callsOf}
 
