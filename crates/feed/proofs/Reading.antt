@@ -1,5 +1,5 @@
 -- Laws of `Reads`: what the bytes of a sheet print, part by part. Assumes nothing.
-use Prim.Native.Nat.{ℕ, zero, suc, _≤_, _<_}
+use Prim.Native.Nat.{ℕ, zero, suc, _+_, _≤_, _<_}
 use native.Mathlib.Omega.{arith}
 use mathlib.Core.Path.{_≡_, refl}
 use mathlib.Core.Bool.{Bool, true, false}
@@ -63,3 +63,9 @@ pub reads-line :
 reads-line s k bs e l p =
     let here : getD bs k 0 ≡ NEWLINE = rw e (at-end bs (omega arith)) in
     rw (take-suc bs k 0 l, here) (reads-into s k bs (omega arith) (rw append-nil at (newline p stop)))
+
+-- Every line has a byte, its newline: the number grows by no more than the bytes.
+pub reads-number : {s v : State} {bs out : List ℕ} → Reads s bs out v → v .number ≤ s .number + length bs
+reads-number stop = omega arith
+reads-number (byte b r) = omega (arith, reads-number r)
+reads-number (newline p r) = omega (arith, reads-number r)

@@ -1,11 +1,11 @@
 -- A sheet, read byte by byte (document 01, "The sheet program"). Assumes nothing.
-use Prim.Native.Nat.{ℕ}
+use Prim.Native.Nat.{ℕ, suc}
 use mathlib.Core.Path.{_≡_}
 use mathlib.Core.List.{List, [], _∷_, _++_}
+use lib.ListN.{take}
 use Rattle.table.specs.declared.Table.{Table}
 use Rattle.table.specs.Clean.{emptyTable}
 use Rattle.lines.specs.Texts.{NEWLINE}
-use Rattle.lines.specs.Places.{lineAfter}
 use Rattle.sheets.specs.Lines.{Prints}
 
 -- Where the reading of a sheet stands: the table after its whole lines, and the number and the bytes so far of the line
@@ -19,12 +19,12 @@ pub record State : Type 0 where
 abbrev pub start : State
 start = record { table = emptyTable; number = 1; line = [] }
 
--- More bytes of the line at hand; the line at hand ended, with the table after it.
+-- More bytes of the line at hand; the line at hand ended, with the table after it. Every line counts, without an end.
 abbrev pub longer : State → List ℕ → State
 longer s bs = record { table = s .table; number = s .number; line = s .line ++ bs }
 
 abbrev pub ended : State → Table → State
-ended s u = record { table = u; number = lineAfter (s .number); line = [] }
+ended s u = record { table = u; number = suc (s .number); line = [] }
 
 -- These bytes of a sheet, what they print, and where the reading stands after them. A newline ends a line.
 pub data Reads : State → List ℕ → List ℕ → State → Type 0 where
@@ -45,3 +45,15 @@ pub record SheetPrints (input out : List ℕ) : Type 0 where
   pub reads : Reads start input printed before-last
   pub prints : Prints (before-last .table) (before-last .number) (before-last .line) last after
   pub whole : out ≡ printed ++ last
+
+-- Every program reads at most so many bytes of its input, as if it ended there.
+abbrev pub MOST : ℕ
+MOST = 1048576
+
+-- The part of an input that a program reads.
+abbrev pub cut : List ℕ → List ℕ
+cut input = take MOST input
+
+-- All that a program prints of an input: what the part that it reads prints.
+abbrev pub ProgramPrints : List ℕ → List ℕ → Type 0
+ProgramPrints input out = SheetPrints (cut input) out

