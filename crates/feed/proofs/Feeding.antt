@@ -18,11 +18,11 @@ use Rattle.printing.specs.Written.{Wrote}
 use Rattle.printing.proofs.Wrote.{wrote-then, wrote-nothing}
 use Rattle.sheets.specs.Lines.{Prints}
 use Rattle.sheets.specs.Sheets.{State, longer, ended, stop}
-use Rattle.feed.specs.declared.Kept.{Kept}
+use Rattle.feed.specs.declared.Begun.{Begun}
 use Rattle.feed.specs.declared.Sheet.{Sheet}
 use Rattle.feed.specs.declared.Fed.{Fed}
 use Rattle.feed.specs.declared.Run.{Run}
-use Rattle.feed.specs.Sheets.{KeptOf, StandsFor, RepliesAt, ofLine, lineEnd}
+use Rattle.feed.specs.Sheets.{BegunOf, StandsFor, RepliesAt, ofLine, lineEnd}
 use Rattle.feed.specs.Sheets.{FeedsFrom, Feeds}
 use Rattle.feed.specs.Parts.{Longer, PassesEnded, PassesOn, sheetOf, fedOf}
 use Rattle.feed.proofs.Reading.{reads-then, reads-part, reads-line, reads-number}
@@ -32,13 +32,13 @@ pub end-within : (input : List ℕ) (from : ℕ) → from ≤ length input → f
 end-within input from l = omega (arith, leading-within ofLine (drop from input), length-drop from input)
 
 -- No byte of the next line is kept yet.
-abbrev pub nextKept : Place → List ℕ → Kept
-nextKept place bytes = record { place = place; bytes = bytes; length = 0 }
+abbrev pub nextBegun : Place → List ℕ → Begun
+nextBegun place bytes = record { place = place; bytes = bytes; length = 0 }
 
-next-kept :
+next-begun :
     {n : ℕ} (place : Place) {next : Place} (bytes : List ℕ) → place .line ≡ n → next ≡ nextLine place → n + 1 < 2 ^ 32
-    → KeptOf (suc n) [] (nextKept next bytes)
-next-kept {n} place bytes e f small =
+    → BegunOf (suc n) [] (nextBegun next bytes)
+next-begun {n} place bytes e f small =
     let counted : lineAfter n ≡ suc n = omega arith in
     record {
       number = ap (λ (p : Place). p .line) f ∙ ap lineAfter e ∙ counted;
@@ -58,7 +58,7 @@ module _ {c : Sheet} {input : List ℕ} {from end : ℕ} {before : List ℕ} {at
     (found : end ≡ from + lineEnd (drop from input)) where
   -- The piece ends, and with it a part of a line.
   pub feeds-part :
-      {kept : Kept} → Longer (c .kept) (take (end - from) (drop from input)) kept → at ≤ length before
+      {kept : Begun} → Longer (c .begun) (take (end - from) (drop from input)) kept → at ≤ length before
       → Feeds c input from before at (record { sheet = sheetOf (c .table) kept; read = end; printed = at }) before
   feeds-part keeps room =
       record {
@@ -85,7 +85,7 @@ module _ {c : Sheet} {input : List ℕ} {from end : ℕ} {before : List ℕ} {at
       from-state :
           (s : State) → StandsFor s c → s .number + (end + 1 - from) < 2 ^ 32
           → FeedsFrom s input from before at
-          (record { sheet = sheetOf u (nextKept next bytes); read = end + 1; printed = printed }) after
+          (record { sheet = sheetOf u (nextBegun next bytes); read = end + 1; printed = printed }) after
       from-state s f small =
           let part = take (end - from) (drop from input) in
           let reply = told s f in
@@ -94,24 +94,24 @@ module _ {c : Sheet} {input : List ℕ} {from end : ℕ} {before : List ℕ} {at
           record {
             state = ended (longer s part) u;
             printed = reply .printed;
-            stands = record { table = refl; line = next-kept place bytes (reply .number) moved (omega arith) };
+            stands = record { table = refl; line = next-begun place bytes (reply .number) moved (omega arith) };
             reads = rw past (reads-line s (end - from) (drop from input) (omega arith) short (reply .prints));
             wrote = reply .wrote;
           }
 
       feeds-ended :
           Feeds c input from before at
-          (record { sheet = sheetOf u (nextKept next bytes); read = end + 1; printed = printed }) after
+          (record { sheet = sheetOf u (nextBegun next bytes); read = end + 1; printed = printed }) after
       feeds-ended =
           record { begun = omega arith; read = omega arith; printed = within; same-length = same; feeds = from-state }
 
   -- With the table.
   pub feeds-line :
-      {kept : Kept} {after : List ℕ} {r : Reply} {next : Place} (bytes : List ℕ)
-      → Longer (c .kept) (take (end - from) (drop from input)) kept → end < length input → at + ROOM ≤ length before
+      {kept : Begun} {after : List ℕ} {r : Reply} {next : Place} (bytes : List ℕ)
+      → Longer (c .begun) (take (end - from) (drop from input)) kept → end < length input → at + ROOM ≤ length before
       → RepliesAt (sheetOf (c .table) kept) before at after r → next ≡ nextLine (r .place)
       → Feeds c input from before at
-      (record { sheet = sheetOf (r .table) (nextKept next bytes); read = end + 1; printed = r .next }) after
+      (record { sheet = sheetOf (r .table) (nextBegun next bytes); read = end + 1; printed = r .next }) after
   feeds-line {r = r} bytes keeps inside room replies moved =
       feeds-ended {place = r .place} bytes inside moved (replies .inside (omega arith)) (replies .same-length)
       (λ s f.
@@ -139,14 +139,14 @@ met : {t z u : Table} {n : ℕ} {line bs : List ℕ} → t ≡ z → Prints t n 
 met {u = u} {n} {line} {bs} e p = subst (λ (x : Table). Prints x n line bs u) e p
 
 -- Without it: the line was answered whatever the table is, or nothing was done.
-module _ {k : Kept} {input : List ℕ} {from : ℕ} {before : List ℕ} {at : ℕ} {after : List ℕ}
+module _ {k : Begun} {input : List ℕ} {from : ℕ} {before : List ℕ} {at : ℕ} {after : List ℕ}
     (begun : from ≤ length input) (room : at ≤ length before) where
   pub passes-line :
       {end : ℕ} {r : Passed} {next : Place} (bytes : List ℕ) → end ≡ from + lineEnd (drop from input) → end < length input
       → r .answered ≡ true → PassesEnded k (take (end - from) (drop from input)) before at after r
       → next ≡ nextLine (r .place)
       → PassesOn k input from before at after
-      (record { kept = nextKept next bytes; read = end + 1; printed = r .next; more = true })
+      (record { begun = nextBegun next bytes; read = end + 1; printed = r .next; more = true })
   passes-line {r = r} bytes found inside answered h moved =
       record {
         feeds = λ t.
@@ -165,7 +165,7 @@ module _ {k : Kept} {input : List ℕ} {from : ℕ} {before : List ℕ} {at : �
   pub passes-none :
       after ≡ before → (b : Bool)
       → (b ≡ true → from < from)
-      → PassesOn k input from before at after (record { kept = k; read = from; printed = at; more = b })
+      → PassesOn k input from before at after (record { begun = k; read = from; printed = at; more = b })
   passes-none e b never =
       record {
         feeds = λ t. rw e (feeds-nothing (sheetOf t k) input from before at begun room);
@@ -217,9 +217,9 @@ feeds-then {c} {input} {from} {before} {at} {f} {r} {middle} {after} first secon
 
 -- Lines that leave the table alone, one after another; then with the table.
 pub passes-then :
-    {k : Kept} {input : List ℕ} {from : ℕ} {before : List ℕ} {at : ℕ} (q : Run) {r : Run} {middle after : List ℕ}
+    {k : Begun} {input : List ℕ} {from : ℕ} {before : List ℕ} {at : ℕ} (q : Run) {r : Run} {middle after : List ℕ}
     → ((t : Table) → Feeds (sheetOf t k) input from before at (fedOf t q) middle)
-    → PassesOn (q .kept) input (q .read) middle (q .printed) after r
+    → PassesOn (q .begun) input (q .read) middle (q .printed) after r
     → (t : Table) → Feeds (sheetOf t k) input from before at (fedOf t r) after
 passes-then q first second t = feeds-then (first t) (second .feeds t)
 

@@ -23,11 +23,11 @@ use Rattle.printing.proofs.Wrote.{wrote-length}
 use Rattle.sheets.specs.Lines as prints
 use Rattle.sheets.specs.Lines.{Prints}
 use Rattle.sheets.specs.Sheets.{State, longer}
-use Rattle.feed.specs.declared.Kept.{Kept}
+use Rattle.feed.specs.declared.Begun.{Begun}
 use Rattle.feed.specs.declared.Sheet.{Sheet}
-use Rattle.feed.specs.Sheets.{KEPT, KeptOf, StandsFor, RepliesAt}
+use Rattle.feed.specs.Sheets.{KEPT, BegunOf, StandsFor, RepliesAt}
 use Rattle.feed.specs.Parts.{Longer, PassesEnded, sheetOf}
-use Rattle.feed.proofs.Kept as kept-type
+use Rattle.feed.proofs.Begun as begun-type
 use Rattle.feed.proofs.Sheet as sheet-type
 
 -- What a line prints depends on its reading alone.
@@ -82,12 +82,12 @@ take-within n xs long = go (decLe n KEPT)
         rw e (take-all KEPT xs (omega arith) ∙ sym (take-all n xs (omega arith)))
 
 -- The array of the line at hand has 121 bytes.
-pub kept-sized : (k : Kept) (vs : List Val) → Is (row kept-type.the-type) k vs → length (k .bytes) ≡ KEPT
-kept-sized k vs p = simp length-map at (p .1 .1 .1 .0 .1 .0 .1)
+pub begun-sized : (k : Begun) (vs : List Val) → Is (row begun-type.the-type) k vs → length (k .bytes) ≡ KEPT
+begun-sized k vs p = simp length-map at (p .1 .1 .1 .0 .1 .0 .1)
 
 -- A line that got longer, by as many bytes as there is room for.
 pub kept-longer :
-    (k : Kept) {r : Kept} {held : ℕ} (bytes : List ℕ) (i : ℕ) → length (k .bytes) ≡ KEPT
+    (k : Begun) {r : Begun} {held : ℕ} (bytes : List ℕ) (i : ℕ) → length (k .bytes) ≡ KEPT
     → held ≡ min (k .length) KEPT → r .place ≡ k .place → r .length ≡ held + i
     → take (r .length) (r .bytes) ≡ take held (k .bytes) ++ take i bytes → i ≤ length bytes → r .length ≤ KEPT
     → (i ≡ length bytes) ⊎ (r .length ≡ KEPT) → Longer k bytes r
@@ -107,7 +107,7 @@ kept-longer k {r} {held} bytes i long same place size line l m over n xs f =
     }
 
 -- The line at hand is read from the start of what is kept, and that tells what it is.
-module _ {n : ℕ} {line : List ℕ} {k : Kept} (f : KeptOf n line k) where
+module _ {n : ℕ} {line : List ℕ} {k : Begun} (f : BegunOf n line k) where
   pub kept-reading :
       {t u : Table} {bs : List ℕ} → length (k .bytes) ≡ KEPT
       → Prints t (k .place .line) (drop (k .place .offset) (take (min (k .length) KEPT) (k .bytes))) bs u
@@ -117,13 +117,13 @@ module _ {n : ℕ} {line : List ℕ} {k : Kept} (f : KeptOf n line k) where
       prints-same (reading-cut KEPT line (omega arith)) (rw (f .number, f .offset, whole) at p)
 
 -- So has that of a sheet.
-pub sheet-sized : (c : Sheet) (vs : List Val) → Is (row sheet-type.the-type) c vs → length (c .kept .bytes) ≡ KEPT
+pub sheet-sized : (c : Sheet) (vs : List Val) → Is (row sheet-type.the-type) c vs → length (c .begun .bytes) ≡ KEPT
 sheet-sized c vs p = simp length-map at (p .1 .1 .1 .0 .1 .1 .1 .0 .1 .0 .1)
 
 -- The reply to the bytes that are kept is the reply to the line.
 replies-kept :
-    {c : Sheet} {before : List ℕ} {at : ℕ} {after : List ℕ} {r : Reply} → length (c .kept .bytes) ≡ KEPT
-    → RepliesIn (c .table) (c .kept .place) (take (min (c .kept .length) KEPT) (c .kept .bytes)) before at after r
+    {c : Sheet} {before : List ℕ} {at : ℕ} {after : List ℕ} {r : Reply} → length (c .begun .bytes) ≡ KEPT
+    → RepliesIn (c .table) (c .begun .place) (take (min (c .begun .length) KEPT) (c .begun .bytes)) before at after r
     → RepliesAt c before at after r
 replies-kept {c} {before} {at} {after} {r} long h =
     record { inside = bounds .0; same-length = bounds .1; replies = replies; short = h .short }
@@ -152,12 +152,12 @@ replies-kept {c} {before} {at} {after} {r} long h =
         }
 
 pub replies-at :
-    {c : Sheet} {before : List ℕ} {at : ℕ} {after : List ℕ} {r : Reply} {k : ℕ} → k ≡ min (c .kept .length) KEPT
-    → length (c .kept .bytes) ≡ KEPT
-    → RepliesIn (c .table) (c .kept .place) (take k (c .kept .bytes)) before at after r → RepliesAt c before at after r
+    {c : Sheet} {before : List ℕ} {at : ℕ} {after : List ℕ} {r : Reply} {k : ℕ} → k ≡ min (c .begun .length) KEPT
+    → length (c .begun .bytes) ≡ KEPT
+    → RepliesIn (c .table) (c .begun .place) (take k (c .begun .bytes)) before at after r → RepliesAt c before at after r
 replies-at {c} {before} {at} {after} {r} e long h =
     replies-kept long
-    (subst (λ (i : ℕ). RepliesIn (c .table) (c .kept .place) (take i (c .kept .bytes)) before at after r) e h)
+    (subst (λ (i : ℕ). RepliesIn (c .table) (c .begun .place) (take i (c .begun .bytes)) before at after r) e h)
 
 pub apart : true ≡ false → ⊥
 apart e = let z : _≡_ {A = ℕ} 0 1 = cc in omega arith
@@ -168,10 +168,10 @@ no-bytes [] e = refl
 no-bytes (b ∷ bs) e = absurd (omega (arith, ap length e))
 
 -- The line at hand, which these bytes end: where it lies whole in the piece, and where a part of it was kept.
-module _ {k : Kept} {bytes before : List ℕ} {at : ℕ} {after : List ℕ} {r : Passed} where
+module _ {k : Begun} {bytes before : List ℕ} {at : ℕ} {after : List ℕ} {r : Passed} where
   passes-with :
       {p : Place} {line : List ℕ} → Passes p line before at after r
-      → (r .answered ≡ true → (n : ℕ) (xs : List ℕ) → KeptOf n xs k → Answered n (xs ++ bytes) before at after r)
+      → (r .answered ≡ true → (n : ℕ) (xs : List ℕ) → BegunOf n xs k → Answered n (xs ++ bytes) before at after r)
       → PassesEnded k bytes before at after r
   passes-with {p} {line} h told = go (r .answered) refl
     where
@@ -206,7 +206,7 @@ module _ {k : Kept} {bytes before : List ℕ} {at : ℕ} {after : List ℕ} {r :
       })
 
   pub passes-kept :
-      {whole : Kept} {i : ℕ} → Longer k bytes whole → length (whole .bytes) ≡ KEPT → i ≡ min (whole .length) KEPT
+      {whole : Begun} {i : ℕ} → Longer k bytes whole → length (whole .bytes) ≡ KEPT → i ≡ min (whole .length) KEPT
       → Passes (whole .place) (take i (whole .bytes)) before at after r → PassesEnded k bytes before at after r
   passes-kept {whole} keeps long same h =
       passes-with h (λ e n xs f.

@@ -9,7 +9,7 @@ use Rattle.lines.specs.Texts.{NEWLINE}
 use Rattle.lines.specs.Places.{leading}
 use Rattle.sheets.specs.Sheets.{State, Reads}
 use Rattle.replies.specs.declared.Reply.{Reply}
-use Rattle.feed.specs.declared.Kept.{Kept}
+use Rattle.feed.specs.declared.Begun.{Begun}
 use Rattle.feed.specs.declared.Sheet.{Sheet}
 use Rattle.feed.specs.declared.Fed.{Fed}
 use Rattle.replies.specs.Replies.{Replies, ROOM}
@@ -21,7 +21,7 @@ KEPT = 121
 
 -- The line at hand has this number and begins with the bytes that are kept. A length that passes the array counts as
 -- far as the array goes.
-pub record KeptOf (n : ℕ) (line : List ℕ) (k : Kept) : Type 0 where
+pub record BegunOf (n : ℕ) (line : List ℕ) (k : Begun) : Type 0 where
   pub number : k .place .line ≡ n
   pub offset : k .place .offset ≡ 0
   pub bytes : take (k .length) (k .bytes) ≡ take KEPT line
@@ -29,7 +29,7 @@ pub record KeptOf (n : ℕ) (line : List ℕ) (k : Kept) : Type 0 where
 -- The code's sheet stands for a state.
 pub record StandsFor (s : State) (c : Sheet) : Type 0 where
   pub table : c .table ≡ s .table
-  pub line : KeptOf (s .number) (s .line) (c .kept)
+  pub line : BegunOf (s .number) (s .line) (c .begun)
 
 -- The reply to the line at hand, of every state that the sheet stands for, if there is room for every reply; else
 -- nothing is done.
@@ -41,7 +41,7 @@ pub record RepliesAt (c : Sheet) (before : List ℕ) (at : ℕ) (after : List �
       → Replies (s .table) (s .number) (s .line) before at after r
   pub short :
       (at + ROOM ≤ length before → ⊥)
-      → (r ≡ record { table = c .table; place = c .kept .place; next = at }) × (after ≡ before)
+      → (r ≡ record { table = c .table; place = c .begun .place; next = at }) × (after ≡ before)
 
 -- A byte of a line: any but the newline.
 abbrev pub ofLine : ℕ → Bool

@@ -1,5 +1,5 @@
 // A sheet that comes in pieces of any length, and the replies to its lines.
-use lines::Place;
+use places::Place;
 use replies::Passed;
 use replies::Reply;
 use replies::pass;
@@ -15,7 +15,7 @@ ghost use Rattle.feed.specs.Parts.{Longer, PassesEnded, PassesOn};
 
 // The line at hand: the place where it begins, and its bytes up to the length. Of a line that is too long, as many
 // bytes are kept as show that.
-pub struct Kept {
+pub struct Begun {
     pub place: Place,
     pub bytes: [u8; Sheet::KEPT],
     pub length: usize,
@@ -24,7 +24,7 @@ pub struct Kept {
 // A sheet as far as it was read: the table after its whole lines, and the line at hand.
 pub struct Sheet {
     pub table: Table,
-    pub kept: Kept,
+    pub begun: Begun,
 }
 
 impl Sheet {
@@ -37,7 +37,7 @@ impl Sheet {
     {
         Sheet {
             table: Table::empty(),
-            kept: Kept {
+            begun: Begun {
                 place: Place::start(),
                 bytes: [0; Sheet::KEPT],
                 length: 0,
@@ -55,7 +55,7 @@ pub struct Fed {
 
 // The same of lines that leave the table alone, and whether there may be more of them.
 struct Run {
-    kept: Kept,
+    begun: Begun,
     read: usize,
     printed: usize,
     more: bool,
@@ -86,19 +86,19 @@ fn within(length: usize) -> usize
 }
 
 // The line at hand with bytes behind it, as many as are kept.
-fn keep(kept: Kept, bytes: &[u8]) -> Kept
-    ensures { λ r. ⌜ Longer kept (now (bytes .entry)) r ⌝ }
+fn keep(begun: Begun, bytes: &[u8]) -> Begun
+    ensures { λ r. ⌜ Longer begun (now (bytes .entry)) r ⌝ }
 {
-    let mut line = kept.bytes;
-    let place = kept.place;
-    let mut end = within(kept.length);
+    let mut line = begun.bytes;
+    let place = begun.place;
+    let mut end = within(begun.length);
     let mut i: usize = 0;
     while i < bytes.len() && end < Sheet::KEPT {
         line[end] = bytes[i];
         end += 1;
         i += 1;
     }
-    Kept {
+    Begun {
         place: place,
         bytes: line,
         length: end,
@@ -110,10 +110,10 @@ pub fn reply_at(sheet: Sheet, out: &mut [u8], at: usize) -> Reply
     ensures { λ r. ⌜ RepliesAt sheet (now (out .entry)) at (now (out .exit)) r ⌝ }
 {
     let table = sheet.table;
-    let kept = sheet.kept;
-    let place = kept.place;
-    let bytes = kept.bytes;
-    let n = within(kept.length);
+    let begun = sheet.begun;
+    let place = begun.place;
+    let bytes = begun.bytes;
+    let n = within(begun.length);
     reply_to(table, &bytes[..n], place, out, at)
 }
 
@@ -126,11 +126,11 @@ fn feed_line(sheet: Sheet, input: &[u8], from: usize, out: &mut [u8], at: usize)
 {
     let end = line_end(input, from);
     let table = sheet.table;
-    let begun = sheet.kept;
+    let begun = sheet.begun;
     let kept = keep(begun, &input[from..end]);
     let longer = Sheet {
         table: table,
-        kept: kept,
+        begun: kept,
     };
     if end == input.len() {
         return Fed {
@@ -147,7 +147,7 @@ fn feed_line(sheet: Sheet, input: &[u8], from: usize, out: &mut [u8], at: usize)
     Fed {
         sheet: Sheet {
             table: after,
-            kept: Kept {
+            begun: Begun {
                 place: place.next_line(),
                 bytes: bytes,
                 length: 0,
@@ -159,14 +159,14 @@ fn feed_line(sheet: Sheet, input: &[u8], from: usize, out: &mut [u8], at: usize)
 }
 
 // Answers the line at hand, which these bytes end, without the table. A line that lies whole in the piece is read there.
-fn pass_ended(kept: Kept, bytes: &[u8], out: &mut [u8], at: usize) -> Passed
-    ensures { λ r. ⌜ PassesEnded kept (now (bytes .entry)) (now (out .entry)) at (now (out .exit)) r ⌝ }
+fn pass_ended(begun: Begun, bytes: &[u8], out: &mut [u8], at: usize) -> Passed
+    ensures { λ r. ⌜ PassesEnded begun (now (bytes .entry)) (now (out .entry)) at (now (out .exit)) r ⌝ }
 {
-    if kept.length == 0 {
-        let place = kept.place;
+    if begun.length == 0 {
+        let place = begun.place;
         return pass(bytes, place, out, at);
     }
-    let whole = keep(kept, bytes);
+    let whole = keep(begun, bytes);
     let place = whole.place;
     let line = whole.bytes;
     let n = within(whole.length);
@@ -174,13 +174,13 @@ fn pass_ended(kept: Kept, bytes: &[u8], out: &mut [u8], at: usize) -> Passed
 }
 
 // Reads the rest of one line and answers it, if it ends in the piece and leaves the table alone; else does nothing.
-fn pass_line(kept: Kept, input: &[u8], from: usize, out: &mut [u8], at: usize) -> Run
+fn pass_line(begun: Begun, input: &[u8], from: usize, out: &mut [u8], at: usize) -> Run
     requires { ⌜ (from ≤ length (now input)) × (at ≤ length (now out)) ⌝ }
-    ensures { λ r. ⌜ PassesOn kept (now (input .entry)) from (now (out .entry)) at (now (out .exit)) r ⌝ }
+    ensures { λ r. ⌜ PassesOn begun (now (input .entry)) from (now (out .entry)) at (now (out .exit)) r ⌝ }
 {
     let end = line_end(input, from);
     let still = Run {
-        kept: kept,
+        begun: begun,
         read: from,
         printed: at,
         more: false,
@@ -188,15 +188,15 @@ fn pass_line(kept: Kept, input: &[u8], from: usize, out: &mut [u8], at: usize) -
     if end == input.len() {
         return still;
     }
-    let passed = pass_ended(kept, &input[from..end], out, at);
+    let passed = pass_ended(begun, &input[from..end], out, at);
     if !passed.answered {
         return still;
     }
     let place = passed.place;
-    let bytes = kept.bytes;
+    let bytes = begun.bytes;
     let read = end + 1;
     Run {
-        kept: Kept {
+        begun: Begun {
             place: place.next_line(),
             bytes: bytes,
             length: 0,
@@ -208,18 +208,18 @@ fn pass_line(kept: Kept, input: &[u8], from: usize, out: &mut [u8], at: usize) -
 }
 
 // Reads on line by line, up to a command, a line that doesn't end in the piece, or too little room.
-fn pass_lines(kept: Kept, input: &[u8], from: usize, out: &mut [u8], at: usize) -> Run
+fn pass_lines(begun: Begun, input: &[u8], from: usize, out: &mut [u8], at: usize) -> Run
     requires { ⌜ (from ≤ length (now input)) × (at ≤ length (now out)) ⌝ }
-    ensures { λ r. ⌜ PassesOn kept (now (input .entry)) from (now (out .entry)) at (now (out .exit)) r ⌝ }
+    ensures { λ r. ⌜ PassesOn begun (now (input .entry)) from (now (out .entry)) at (now (out .exit)) r ⌝ }
 {
     let mut run = Run {
-        kept: kept,
+        begun: begun,
         read: from,
         printed: at,
         more: true,
     };
     while run.more {
-        let k = run.kept;
+        let k = run.begun;
         run = pass_line(k, input, run.read, out, run.printed);
     }
     run
@@ -234,13 +234,13 @@ fn feed_lines(sheet: Sheet, input: &[u8], from: usize, out: &mut [u8], at: usize
     let fed = feed_line(sheet, input, from, out, at);
     let s = fed.sheet;
     let table = s.table;
-    let begun = s.kept;
+    let begun = s.begun;
     let run = pass_lines(begun, input, fed.read, out, fed.printed);
-    let kept = run.kept;
+    let last = run.begun;
     Fed {
         sheet: Sheet {
             table: table,
-            kept: kept,
+            begun: last,
         },
         read: run.read,
         printed: run.printed,

@@ -102,3 +102,8 @@ pub fn answer_input() -> Reply
     }
     last
 }
+
+// The whole of a program: what `answer_input` hands back is for its contract alone.
+pub fn run() {
+    answer_input();
+}

@@ -9,7 +9,7 @@ use lib.ListN.{length, take, length-set}
 use borrow.Author.Needs.{needs}
 use borrow.Author.Tests.{ltb-true, ltb-false}
 use Rattle.feed.specs.Sheets.{KEPT}
-use Rattle.feed.proofs.Keeping.{kept-longer, kept-next, kept-sized}
+use Rattle.feed.proofs.Keeping.{kept-longer, kept-next, begun-sized}
 use Rattle.feed.proofs.keep.Statement.{statement}
 use Rattle.feed.proofs.keep.Tie as tie
 
@@ -27,7 +27,7 @@ within-requires c κs = search needs
 loop-holds : tie.Need-loop-holds Inv-loop μ-loop
 loop-holds c =
     let s = c .before .before .before .before in
-    let long = kept-sized (s .args .kept) _ (s .good .0) in
+    let long = begun-sized (s .args .begun) _ (s .good .0) in
     (omega arith, omega arith, omega (arith, c .within .ensures), long, sym (append-nil _))
 
 shared-slice-read-line : tie.Need-shared-slice-read-line Inv-loop μ-loop
@@ -50,7 +50,7 @@ loop-again c =
     let at = c .before .before .before in
     let l = at .loop in
     let a = c .before .before .before .before .before .before .before .before .args in
-    let kept = take (at .before .within .result) (a .kept .bytes) in
+    let kept = take (at .before .within .result) (a .begun .bytes) in
     let room = ltb-true (l .end) KEPT (c .before .if1 .taken) in (
       omega arith,
       omega arith,
@@ -65,7 +65,7 @@ returns c =
     let s = c .before .before .before .before .before .before .before in
     let w = c .before .before .before .within in
     let full = ltb-false (l .end) KEPT (c .if1 .left) in
-    kept-longer (s .args .kept) _ (l .i) (kept-sized (s .args .kept) _ (s .good .0)) (w .ensures) refl (l .inv .1) (l .inv .4)
+    kept-longer (s .args .begun) _ (l .i) (begun-sized (s .args .begun) _ (s .good .0)) (w .ensures) refl (l .inv .1) (l .inv .4)
     (l .inv .0) (l .inv .2) (inr (omega arith))
 
 returns-2 : tie.Need-returns-2 Inv-loop μ-loop
@@ -73,7 +73,7 @@ returns-2 c =
     let l = c .before .loop in
     let s = c .before .before .before .before .before .before in
     let w = c .before .before .within in
-    kept-longer (s .args .kept) _ (l .i) (kept-sized (s .args .kept) _ (s .good .0)) (w .ensures) refl (l .inv .1) (l .inv .4)
+    kept-longer (s .args .begun) _ (l .i) (begun-sized (s .args .begun) _ (s .good .0)) (w .ensures) refl (l .inv .1) (l .inv .4)
     (l .inv .0) (l .inv .2) (inl (omega (arith, c .loop-test .left)))
 
 pub keep-spec : {M : Type 1} → statement M

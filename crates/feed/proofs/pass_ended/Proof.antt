@@ -2,7 +2,7 @@
 use native.Mathlib.Omega.{arith}
 use mathlib.Core.Path.{sym}
 use lib.Seq.{length-take-le}
-use Rattle.feed.proofs.Keeping.{kept-sized, passes-whole, passes-kept}
+use Rattle.feed.proofs.Keeping.{begun-sized, passes-whole, passes-kept}
 use borrow.Author.Needs.{needs}
 use Rattle.feed.proofs.pass_ended.Statement.{statement}
 use Rattle.feed.proofs.pass_ended.Tie as tie
@@ -25,12 +25,12 @@ within-requires c κs = search needs
 array-share-prefix-line : tie.Need-array-share-prefix-line
 array-share-prefix-line c =
     let k = c .before .before .before .keep in
-    omega (arith, c .within .ensures, kept-sized (k .result) _ (k .ok))
+    omega (arith, c .within .ensures, begun-sized (k .result) _ (k .ok))
 
 slice-aggregate-pass : tie.Need-slice-aggregate-pass
 slice-aggregate-pass c =
     let k = c .before .before .before .before .keep in
-    let long = kept-sized (k .result) _ (k .ok) in
+    let long = begun-sized (k .result) _ (k .ok) in
     sym (length-take-le _ (k .result .bytes) (omega (arith, c .before .within .ensures)))
 
 pass-requires-2 : tie.Need-pass-requires-2
@@ -42,7 +42,7 @@ same-length-2 c = search needs
 returns-2 : tie.Need-returns-2
 returns-2 c =
     let k = c .before .before .before .before .before .before .before .before .keep in
-    passes-kept (k .ensures) (kept-sized (k .result) _ (k .ok)) (c .before .before .before .before .before .within .ensures) (c .before .before .pass2 .ensures)
+    passes-kept (k .ensures) (begun-sized (k .result) _ (k .ok)) (c .before .before .before .before .before .within .ensures) (c .before .before .pass2 .ensures)
 
 pub pass-ended-spec : {M : Type 1} → statement M
 pass-ended-spec =

@@ -66,7 +66,7 @@ returns-3 : tie.Need-returns-3
 returns-3 c =
     let s = c .before .before .before .before .before .before .before .before .before .before .before .before .before .before in
     let e = c .before .before .before .before .before .before .before .before .before .before in
-    passes-line (s .pre .0) (s .pre .1) (s .args .kept .bytes) (e .before .line-end .ensures) (inside-piece e)
+    passes-line (s .pre .0) (s .pre .1) (s .args .begun .bytes) (e .before .line-end .ensures) (inside-piece e)
     (not-false _ (c .before .before .before .if2 .left)) (c .before .before .before .before .before .before .before .pass-ended .ensures) (c .next-line .ensures)
 
 pub pass-line-spec : {M : Type 1} → statement M

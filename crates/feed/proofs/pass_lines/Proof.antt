@@ -16,7 +16,7 @@ use Rattle.feed.proofs.pass_lines.Tie as tie
 
 abbrev Inv-loop : tie.InvT-loop
 Inv-loop input from out₀ at run₀ out run =
-    (t : Table) → Feeds (sheetOf t (run₀ .kept)) input from out₀ at (fedOf t run) out
+    (t : Table) → Feeds (sheetOf t (run₀ .begun)) input from out₀ at (fedOf t run) out
 
 abbrev μ-loop : tie.MeasureT-loop
 μ-loop input from out₀ at run₀ out run = cond (run .more) (suc (length input - run .read)) 0

@@ -19,7 +19,7 @@ slice-aggregate-reply-to : tie.Need-slice-aggregate-reply-to
 slice-aggregate-reply-to c =
     let a = c .before .before .before .before .before .before .before in
     let long = sheet-sized (a .args .sheet) _ (a .good .0) in
-    sym (length-take-le _ (a .args .sheet .kept .bytes) (omega (arith, c .before .within .ensures)))
+    sym (length-take-le _ (a .args .sheet .begun .bytes) (omega (arith, c .before .within .ensures)))
 
 reply-to-requires : tie.Need-reply-to-requires
 reply-to-requires c κs = search needs
