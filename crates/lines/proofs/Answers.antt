@@ -1,26 +1,29 @@
 -- Laws of an answer. Assumes nothing.
 use Prim.Native.Nat.{ℕ, zero, suc, _+_, _-_, _≤_, _<_}
 use native.Mathlib.Omega.{arith}
+use native.Mathlib.Decide.{decLe}
 use native.Mathlib.Nat.{zero-add, sub-zero, zero-sub, suc-sub-suc}
 use mathlib.Core.Path.{_≡_, refl, sym, _∙_, ap}
-use mathlib.Core.Bool.{true, false}
+use mathlib.Core.Bool.{Bool, true, false}
 use mathlib.Core.List.{List, [], _∷_, _++_, append-assoc}
 use mathlib.Core.Option.{Option}
 use lib.ListN.{length, take, drop, replicate, length-replicate, length-append, drop-of-length-le}
 use lib.Seq.{sets, sets-eq, take-append-seam, drop-append-seam, drop-append-add}
 use borrow.Author.Tests.{le-leb, lt-leb, lt-ltb, le-ltb}
-use Rattle.lines.specs.Tokens.{tokens}
-use Rattle.lines.specs.Commands.{Command, add, one, after, made, command}
+use Rattle.tokens.specs.Tokens.{pieces, filled, tokens, one}
+use Rattle.lines.specs.Commands.{Command, add, after, made, command}
 use Rattle.lines.specs.Readings.{LINE, ENTRIES, spaces, blank, Line, is-blank, too-long, no-command, is, whether}
 use Rattle.lines.specs.Readings.{lineOf, reading, positivesOf, negativesOf, Answers}
-use Rattle.lines.specs.Parts.{firstOf, restOf, empty, leadingNumbers, pastNumbers, numberOf, listed}
-use Rattle.lines.specs.declared.Place.{Place}
+use Rattle.tokens.specs.Parts.{firstOf, restOf, empty, numberOf}
+use Rattle.lines.specs.Parts.{leadingNumbers, pastNumbers, listed}
+use Rattle.places.specs.Places.{isSpace}
+use Rattle.places.specs.declared.Place.{Place}
 use Rattle.lines.specs.declared.Command.the-variants.{Add, Remove, Why, Labels}
 use Rattle.lines.specs.declared.Reading.{Reading}
 use Rattle.lines.specs.declared.Reading.the-variants as of
-use Rattle.lines.specs.declared.read.Number.{Number}
+use Rattle.tokens.specs.declared.Number.{Number}
 use Rattle.lines.specs.declared.Parsed.{Parsed}
-use Rattle.lines.proofs.Tokens.{spaces-tokens}
+use Rattle.tokens.proofs.Tokens.{empty-onto}
 use Rattle.lines.proofs.Commands.{numerals-all, numerals-none, over, parted, spoiled}
 
 -- An answer for what a line was read as is one for what it is.
@@ -134,10 +137,30 @@ pub rest-length : (ts : List (List ℕ)) → length (restOf ts) ≤ length ts
 rest-length [] = omega arith
 rest-length (t ∷ ts) = omega arith
 
--- Past the end of a line nothing stands.
-pub reading-past : (line : List ℕ) (from : ℕ) → length line ≤ from → is-blank ≡ reading (drop from line)
-unfolding reading blank spaces
-reading-past line from h = rw (drop-of-length-le line h)
+-- No token is in a line of blanks alone.
+pub spaces-tokens : (s : List ℕ) → spaces s ≡ empty (tokens s)
+unfolding spaces tokens pieces filled
+spaces-tokens [] = refl
+spaces-tokens (b ∷ s) = go (isSpace b) refl (spaces-tokens s)
+  where
+    go : (t : Bool) → isSpace b ≡ t → spaces s ≡ empty (tokens s) → spaces (b ∷ s) ≡ empty (tokens (b ∷ s))
+    go true t h = rw t h
+    go false t h = rw t (sym (empty-onto b (pieces s)))
+
+-- Where a token is left, the place lies in the line.
+pub some-left : (line : List ℕ) (from : ℕ) → empty (tokens (drop from line)) ≡ false → from ≤ length line
+unfolding tokens pieces filled
+some-left line from e = go (decLe from (length line))
+  where
+    none-left : drop from line ≡ [] → true ≡ false
+    none-left d = sym (ap (λ (s : List ℕ). empty (tokens s)) d) ∙ e
+
+    go : Dec (from ≤ length line) → from ≤ length line
+    go (yes l) = l
+    go (no l) =
+        let past : length line ≤ from = omega arith in
+        let t = none-left (drop-of-length-le line past) in
+        absurd (let z : _≡_ {A = ℕ} 0 1 = cc in omega arith)
 
 -- What a line is, by its length and its tokens.
 module _ (line : List ℕ) where

@@ -6,12 +6,13 @@ use mathlib.Core.Bool.{Bool, true, false, cond}
 use mathlib.Core.List.{List, [], _∷_}
 use mathlib.Core.Option.{Option, none, some}
 use lib.ListN.{length}
-use Rattle.lines.specs.Tokens.{tokens}
-use Rattle.lines.specs.Numerals.{numeral}
-use Rattle.lines.specs.Commands.{add, remove, why, one, consed, numerals, before, after, added}
+use Rattle.tokens.specs.Tokens.{tokens}
+use Rattle.tokens.specs.Numerals.{numeral}
+use Rattle.tokens.specs.Tokens.{one}
+use Rattle.lines.specs.Commands.{add, remove, why, consed, numerals, before, after, added}
 use Rattle.lines.specs.Commands.{addition, only, made, listing, form, command}
 use Rattle.lines.specs.Readings.{LINE}
-use Rattle.lines.proofs.Tokens.{tokens-bound}
+use Rattle.tokens.proofs.Tokens.{tokens-bound}
 
 -- As many numbers as tokens.
 consed-length : (o : Option ℕ) (p : Option (List ℕ)) (ns : List ℕ) (k : ℕ)

@@ -8,24 +8,12 @@ use mathlib.Core.Option.{Option, none, some}
 use lib.ListN.{length, getD}
 use lib.Dec.{eqb}
 use borrow.Author.Tests.{eqb-true}
-use Rattle.lines.specs.Numerals.{digits, needless, spelledFrom, numeral}
-use Rattle.lines.specs.Commands.{remove, why, labels, one, numerals, before, after, added}
+use Rattle.tokens.specs.Numerals.{digits, needless, spelledFrom, numeral}
+use Rattle.tokens.specs.Tokens.{one}
+use Rattle.lines.specs.Commands.{remove, why, labels, numerals, before, after, added}
 use Rattle.lines.specs.Commands.{addition, only, made, listing, form}
-use Rattle.lines.specs.Parts.{firstOf, restOf, empty, leadingNumbers, pastNumbers, listed}
-
--- One byte.
-
-pub one-not : (b : ℕ) (t : List ℕ) → (length t ≡ 1 → ⊥) → false ≡ one b t
-unfolding one
-one-not b [] h = refl
-one-not b (x ∷ []) h = absurd (h refl)
-one-not b (x ∷ y ∷ t) h = refl
-
-pub one-is : (b : ℕ) (t : List ℕ) → length t ≡ 1 → eqb (getD t 0 0) b ≡ one b t
-unfolding one
-one-is b [] h = absurd (omega arith)
-one-is b (x ∷ []) h = refl
-one-is b (x ∷ y ∷ t) h = absurd (omega arith)
+use Rattle.tokens.specs.Parts.{firstOf, restOf, empty}
+use Rattle.lines.specs.Parts.{leadingNumbers, pastNumbers, listed}
 
 -- A number alone; nothing.
 

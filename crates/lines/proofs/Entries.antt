@@ -7,9 +7,10 @@ use mathlib.Core.List.{List}
 use mathlib.Core.Option.{none, some}
 use lib.ListN.{length, set, length-set}
 use lib.Seq.{sets}
-use Rattle.lines.specs.Numerals.{numeral}
+use Rattle.tokens.specs.Numerals.{numeral}
 use Rattle.lines.specs.Readings.{ENTRIES}
-use Rattle.lines.specs.Parts.{firstOf, restOf, leadingNumbers, pastNumbers}
+use Rattle.tokens.specs.Parts.{firstOf, restOf}
+use Rattle.lines.specs.Parts.{leadingNumbers, pastNumbers}
 use Rattle.lines.proofs.Commands.{advance, halt}
 
 -- From entries xs₀, k₀ of them read, with ts₀ left, a loop came to xs, k and ts; what is left gives the whole.

@@ -4,10 +4,11 @@ use Prim.Native.String as text
 use mathlib.Core.Path.{_≡_, refl}
 use mathlib.Core.List.{List, [], _∷_, _++_, map}
 use lib.ListN.{replicate}
-use Rattle.lines.specs.Texts.{bytes}
-use Rattle.lines.specs.Tokens.{onto, pieces, filled, tokens}
-use Rattle.lines.specs.Numerals.{digits, valueFrom, needless, spelledFrom, numeral, decimalIn, decimal}
-use Rattle.lines.specs.Commands.{add, remove, why, labels, one, numerals, before, after}
+use Rattle.fields.specs.Texts.{bytes}
+use Rattle.tokens.specs.Tokens.{onto, pieces, filled, tokens}
+use Rattle.tokens.specs.Numerals.{digits, valueFrom, needless, spelledFrom, numeral}
+use Rattle.tokens.specs.Tokens.{one}
+use Rattle.lines.specs.Commands.{add, remove, why, labels, numerals, before, after}
 use Rattle.lines.specs.Commands.{addition, only, listing, form, command}
 use Rattle.lines.specs.Readings.{spaces, blank, Line, is-blank, too-long, no-command, is, reading}
 
@@ -77,8 +78,3 @@ holds : map (λ (e : Example). reading (e .line)) examples ≡ map (λ (e : Exam
 unfolding bytes example sevens examples onto pieces filled tokens digits valueFrom needless spelledFrom numeral
     one numerals before after addition only listing form command spaces blank reading
 holds = refl
-
--- Numbers as they are printed.
-prints : map decimal (0 ∷ 7 ∷ 10 ∷ 42 ∷ 255 ∷ []) ≡ bytes "0" ∷ bytes "7" ∷ bytes "10" ∷ bytes "42" ∷ bytes "255" ∷ []
-unfolding bytes decimalIn decimal
-prints = refl

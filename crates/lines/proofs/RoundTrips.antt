@@ -9,8 +9,9 @@ use mathlib.Core.Option.{some}
 use lib.ListN.{length, getD, length-append, List·getD-append}
 use lib.Dec.{leb, ltb}
 use borrow.Author.Tests.{lt-ltb, ltb-true, ltb-false, leb-true, leb-false}
-use Rattle.lines.specs.Numerals.{isDigit, digits, valueFrom, needless, spelledFrom, numeral, decimalIn, decimal}
-use Rattle.lines.proofs.Numerals.{digit-true, numeral-other, numeral-digit}
+use Rattle.tokens.specs.Numerals.{isDigit, digits, valueFrom, needless, spelledFrom, numeral}
+use Rattle.fields.specs.Fields.{decimalIn, decimal}
+use Rattle.tokens.proofs.Numerals.{digit-true, numeral-other, numeral-digit}
 
 value-snoc : (m : ℕ) (bs : List ℕ) (d : ℕ) → valueFrom m (bs ++ ((48 + d) ∷ [])) ≡ valueFrom m bs * 10 + d
 unfolding valueFrom

@@ -1,24 +1,17 @@
 -- The commands of a sheet and their forms (document 01, "The sheet program"). Assumes nothing.
 use Prim.Native.Nat.{ℕ}
 use Prim.Native.Char.{code}
-use mathlib.Core.Bool.{Bool, false, cond}
+use mathlib.Core.Bool.{cond}
 use mathlib.Core.List.{List, [], _∷_}
 use mathlib.Core.Option.{Option, none, some}
-use lib.Dec.{eqb}
-use Rattle.lines.specs.Tokens.{tokens}
-use Rattle.lines.specs.Numerals.{numeral}
+use Rattle.tokens.specs.Tokens.{tokens, one}
+use Rattle.tokens.specs.Numerals.{numeral}
 
 pub data Command : Type 0 where
   add : ℕ → List ℕ → List ℕ → Command  -- head, positives, negatives
   remove : ℕ → Command  -- slot
   why : ℕ → Command  -- atom
   labels : Command
-
--- The token is this one byte.
-unfoldable pub one : ℕ → List ℕ → Bool
-one b [] = false
-one b (x ∷ []) = eqb x b
-one b (x ∷ y ∷ t) = false
 
 -- The numbers that tokens are, if each is one.
 abbrev pub consed : Option ℕ → Option (List ℕ) → Option (List ℕ)

@@ -6,7 +6,7 @@ use mathlib.Core.List.{List, [], _∷_}
 use mathlib.Core.Option.{Option, none, some}
 use lib.Dec.{leb, ltb}
 use lib.ListN.{length, take, drop, replicate}
-use Rattle.lines.specs.Tokens.{isSpace}
+use Rattle.places.specs.Places.{isSpace}
 use Rattle.lines.specs.Commands as spec
 use Rattle.lines.specs.Commands.{command}
 use Rattle.lines.specs.declared.Command.{Command}

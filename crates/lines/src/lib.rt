@@ -1,34 +1,7 @@
-// The language of a sheet's line: reading a line's bytes as a command, and writing fields as bytes.
-ghost use mathlib.Core.Path.{_≡_};
-ghost use Rattle.lines.specs.Places.{nextLine};
-ghost use Rattle.lines.specs.Places.{start as start-of-sheet};
+// The language of a sheet's line: reading a line's bytes as a command.
+use places::Place;
 
-pub mod moves; // moves.rt: a lent place, moved past blanks and to the next line
 pub mod read; // read.rt: what a line is
-pub mod write; // write.rt: decimal digits and words at a place of a lent buffer
-
-// A place: an offset in the bytes of a line, and the number of that line.
-pub struct Place {
-    pub offset: usize,
-    pub line: u32,
-}
-
-impl Place {
-    // The start of a sheet. Lines count from 1.
-    pub fn start() -> Place
-        ensures { λ r. ⌜ r ≡ start-of-sheet ⌝ }
-    {
-        Place { offset: 0, line: 1 }
-    }
-
-    // The start of the next line.
-    pub fn next_line(mut self) -> Place
-        ensures { λ r. ⌜ r ≡ nextLine self ⌝ }
-    {
-        moves::count_line(&mut self);
-        self
-    }
-}
 
 // The commands of a sheet. The lists of an addition stand beside it (`Parsed`).
 pub enum Command {

@@ -1,139 +1,32 @@
 // Reading a line.
 use super::Command;
 use super::Parsed;
-use super::Place;
 use super::Reading;
-use super::moves;
+use fields::bytes_left;
+use places::Place;
+use tokens::Number;
+use tokens::ended;
+use tokens::is;
+use tokens::next_token;
+use tokens::numeral;
 ghost use mathlib.Core.Path.{_≡_};
 ghost use mathlib.Core.Bool.{cond};
 ghost use mathlib.Core.List.{[]};
 ghost use Prim.Native.Nat.{_+_, _≤_};
 ghost use lib.ListN.{length, drop};
-ghost use Rattle.lines.specs.Tokens.{tokens};
-ghost use Rattle.lines.specs.Places.{leading, pastBlanks, Onward};
-ghost use Rattle.lines.specs.Numerals.{spelledFrom};
-ghost use Rattle.lines.specs.Numerals.{numeral as numeral-of};
-ghost use Rattle.lines.specs.Commands.{one, made, remove, why, only, command};
+ghost use Rattle.places.specs.Places.{Onward};
+ghost use Rattle.tokens.specs.Tokens.{tokens};
+ghost use Rattle.lines.specs.Commands.{made, remove, why, only, command};
 ghost use Rattle.lines.specs.Commands.{addition as addition-of, listing as listing-of};
 ghost use Rattle.lines.specs.Readings.{Answers, LINE, ENTRIES, whether, lineOf};
 ghost use Rattle.lines.specs.Readings.{reading as reading-of};
-ghost use Rattle.lines.specs.Parts.{inToken, empty, First, numberOf, listed, Collected};
-
-// The bytes from start up to the place next are a token. Where no token is left, they are none.
-struct Token {
-    start: usize,
-    next: Place,
-}
-
-// The number that a token is, where it is one.
-enum Number {
-    Missing,
-    Is(u32),
-}
+ghost use Rattle.lines.specs.Parts.{listed, Collected};
 
 // The first count of the entries are numbers that were read. The rest of the line begins at next.
 struct Numbers {
     entries: [u32; Parsed::ENTRIES],
     count: usize,
     next: Place,
-}
-
-// The place past the blanks that begin at a place.
-pub fn past_blanks(line: &[u8], mut place: Place) -> Place
-    ensures { λ r. ⌜ r ≡ pastBlanks (now (line .entry)) place ⌝ }
-{
-    moves::skip_blanks(line, &mut place);
-    place
-}
-
-// Where the token that begins at an offset ends.
-fn token_end(line: &[u8], start: usize) -> usize
-    ensures { λ r. ⌜ r ≡ start + leading inToken (drop start (now (line .entry))) ⌝ }
-{
-    let mut i = start;
-    while i < line.len() {
-        if line[i] == b' ' {
-            return i;
-        }
-        i += 1;
-    }
-    i
-}
-
-// The next token.
-fn next_token(line: &[u8], place: Place) -> Token
-    requires { ⌜ place .offset ≤ length (now line) ⌝ }
-    ensures { λ r. ⌜ First (now (line .entry)) place r ⌝ }
-{
-    let begin = past_blanks(line, place);
-    let start = begin.offset;
-    let end = token_end(line, start);
-    Token {
-        start: start,
-        next: Place {
-            offset: end,
-            line: begin.line,
-        },
-    }
-}
-
-// Is no token left?
-fn ended(line: &[u8], place: Place) -> bool
-    requires { ⌜ place .offset ≤ length (now line) ⌝ }
-    ensures { λ r. ⌜ r ≡ empty (tokens (drop (place .offset) (now (line .entry)))) ⌝ }
-{
-    let rest = past_blanks(line, place);
-    rest.offset == line.len()
-}
-
-// Is the token this one byte?
-fn is(token: &[u8], byte: u8) -> bool
-    ensures { λ r. ⌜ r ≡ one byte (now (token .entry)) ⌝ }
-{
-    if token.len() != 1 {
-        return false;
-    }
-    token[0] == byte
-}
-
-// What a token spells, if it is of digits.
-fn value(token: &[u8]) -> Number
-    requires { ⌜ length (now token) ≤ 5 ⌝ }
-    ensures { λ r. ⌜ numberOf r ≡ spelledFrom 0 (now (token .entry)) ⌝ }
-{
-    let mut n: u32 = 0;
-    let mut i: usize = 0;
-    while i < token.len() {
-        let b = token[i];
-        if b < b'0' {
-            return Number::Missing;
-        }
-        if b > b'9' {
-            return Number::Missing;
-        }
-        n = n * 10 + (b - b'0') as u32;
-        i += 1;
-    }
-    Number::Is(n)
-}
-
-// The number that a token is.
-fn numeral(token: &[u8]) -> Number
-    ensures { λ r. ⌜ numberOf r ≡ numeral-of (now (token .entry)) ⌝ }
-{
-    let n = token.len();
-    if n == 0 {
-        return Number::Missing;
-    }
-    if n > 5 {
-        return Number::Missing;
-    }
-    if n > 1 {
-        if token[0] == b'0' {
-            return Number::Missing;
-        }
-    }
-    value(token)
 }
 
 // Reads numbers up to the first token that is none, and puts them behind those that are known.
@@ -269,7 +162,6 @@ fn numbered(line: &[u8], place: Place, removes: bool) -> Parsed
 
 // What follows the `L` of a request for the labels.
 fn listing(line: &[u8], place: Place) -> Parsed
-    requires { ⌜ place .offset ≤ length (now line) ⌝ }
     ensures { λ r. ⌜ Answers (whether (listing-of (tokens (drop (place .offset) (now (line .entry)))))) r ⌝ }
     ensures { λ r. ⌜ Onward (now (line .entry)) place (r .place) ⌝ }
 {
@@ -313,11 +205,7 @@ pub fn read(line: &[u8], place: Place) -> Parsed
     ensures { λ r. ⌜ Answers (reading-of (drop (place .offset) (now (line .entry)))) r ⌝ }
     ensures { λ r. ⌜ Onward (now (line .entry)) place (r .place) ⌝ }
 {
-    let from = place.offset;
-    if line.len() < from {
-        return plain(Reading::Blank, place);
-    }
-    if line.len() - from > Parsed::LINE {
+    if bytes_left(line.len(), place.offset) > Parsed::LINE {
         return plain(Reading::TooLong, place);
     }
     if ended(line, place) {

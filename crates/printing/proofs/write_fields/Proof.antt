@@ -5,9 +5,10 @@ use native.Mathlib.Omega.{arith}
 use lib.ListN.{length, take}
 use lib.Seq.{take-all}
 use borrow.Author.Needs.{needs}
-use Rattle.printing.specs.Printed.{fields}
-use Rattle.printing.specs.Written.{Wrote}
-use Rattle.printing.proofs.Wrote.{wrote-nothing, wrote-length, wrote-next-field}
+use Rattle.fields.specs.Fields.{fields}
+use Rattle.fields.specs.Written.{Wrote}
+use Rattle.fields.proofs.Wrote.{wrote-nothing, wrote-length}
+use Rattle.printing.proofs.Fields.{wrote-next-field}
 use Rattle.printing.proofs.write_fields.Statement.{statement}
 use Rattle.printing.proofs.write_fields.Tie as tie
 
@@ -46,7 +47,7 @@ loop-again c =
     let same = wrote-length (l .inv .2) in (
       omega arith,
       omega arith,
-      wrote-next-field _ (l .i) (omega arith) (l .inv .2) (field .write-field .ensures .0),
+      wrote-next-field _ (l .i) (omega arith) (l .inv .2) (field .write-field .ensures .0 .fits (omega arith)),
     )
 
 same-length : tie.Need-same-length Inv-loop μ-loop

@@ -2,7 +2,7 @@
 use native.Mathlib.Omega.{arith}
 use borrow.Author.Needs.{needs}
 use Rattle.printing.specs.Printed.{named}
-use Rattle.printing.proofs.Wrote.{wrote-all, wrote-none, wrote-then}
+use Rattle.fields.proofs.Wrote.{wrote-all, wrote-none, wrote-then}
 use Rattle.printing.proofs.write_named.Statement.{statement}
 use Rattle.printing.proofs.write_named.Tie as tie
 
@@ -15,17 +15,17 @@ add-if1 c = search needs
 returns : tie.Need-returns
 returns c = wrote-none (omega arith)
 
-write-text-requires : tie.Need-write-text-requires
-write-text-requires c κs = search needs
+write-bytes-requires : tie.Need-write-bytes-requires
+write-bytes-requires c κs = search needs
 
 write-field-requires : tie.Need-write-field-requires
 write-field-requires c κs = search needs
 
-slice-aggregate-write-text : tie.Need-slice-aggregate-write-text
-slice-aggregate-write-text c = search needs
+slice-aggregate-write-bytes : tie.Need-slice-aggregate-write-bytes
+slice-aggregate-write-bytes c = search needs
 
-write-text-requires-2 : tie.Need-write-text-requires-2
-write-text-requires-2 c κs = search needs
+write-bytes-requires-2 : tie.Need-write-bytes-requires-2
+write-bytes-requires-2 c κs = search needs
 
 same-length : tie.Need-same-length
 same-length c = search needs
@@ -36,8 +36,10 @@ returns-2 c =
     let end = c .before .before in
     let number = end .before .before .before .before .before in
     let word = number .before .before .before .before in
-    let rest = wrote-then (number .write-field .ensures .0) (end .write-text2 .ensures) in
-    wrote-all (omega arith) (wrote-then (word .write-text .ensures) rest)
+    let first = word .write-bytes .ensures .fits (omega arith) in
+    let second = number .write-field .ensures .0 .fits (omega (arith, first .place)) in
+    let third = end .write-bytes2 .ensures .fits (omega (arith, first .place)) in
+    wrote-all (omega arith) (wrote-then first (wrote-then second third))
 
 pub write-named-spec : {M : Type 1} → statement M
 write-named-spec =
@@ -46,9 +48,9 @@ write-named-spec =
     bytes-left-requires
     add-if1
     returns
-    write-text-requires
+    write-bytes-requires
     write-field-requires
-    slice-aggregate-write-text
-    write-text-requires-2
+    slice-aggregate-write-bytes
+    write-bytes-requires-2
     same-length
     returns-2)

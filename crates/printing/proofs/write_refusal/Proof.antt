@@ -1,9 +1,9 @@
 -- `printing::write_refusal` meets its contract. Assumes nothing.
 use native.Mathlib.Omega.{arith}
 use borrow.Author.Needs.{needs}
-use Rattle.lines.specs.Texts.{bytes}
+use Rattle.fields.specs.Texts.{bytes}
 use Rattle.printing.specs.Printed.{refusalLine}
-use Rattle.printing.proofs.Wrote.{wrote-all, wrote-none, wrote-then}
+use Rattle.fields.proofs.Wrote.{wrote-all, wrote-none, wrote-then}
 use Rattle.printing.proofs.write_refusal.Statement.{statement}
 use Rattle.printing.proofs.write_refusal.Tie as tie
 
@@ -13,29 +13,29 @@ bytes-left-requires c κs = search needs
 returns : tie.Need-returns
 returns c = wrote-none (omega arith)
 
-slice-aggregate-write-text : tie.Need-slice-aggregate-write-text
-slice-aggregate-write-text c = search needs
+slice-aggregate-write-bytes : tie.Need-slice-aggregate-write-bytes
+slice-aggregate-write-bytes c = search needs
 
-write-text-requires : tie.Need-write-text-requires
-write-text-requires c κs = search needs
+write-bytes-requires : tie.Need-write-bytes-requires
+write-bytes-requires c κs = search needs
 
 write-field-requires : tie.Need-write-field-requires
 write-field-requires c κs = search needs
 
-slice-aggregate-write-text-2 : tie.Need-slice-aggregate-write-text-2
-slice-aggregate-write-text-2 c = search needs
+slice-aggregate-write-bytes-2 : tie.Need-slice-aggregate-write-bytes-2
+slice-aggregate-write-bytes-2 c = search needs
 
-write-text-requires-2 : tie.Need-write-text-requires-2
-write-text-requires-2 c κs = search needs
+write-bytes-requires-2 : tie.Need-write-bytes-requires-2
+write-bytes-requires-2 c κs = search needs
 
 write-field-requires-2 : tie.Need-write-field-requires-2
 write-field-requires-2 c κs = search needs
 
-slice-aggregate-write-text-3 : tie.Need-slice-aggregate-write-text-3
-slice-aggregate-write-text-3 c = search needs
+slice-aggregate-write-bytes-3 : tie.Need-slice-aggregate-write-bytes-3
+slice-aggregate-write-bytes-3 c = search needs
 
-write-text-requires-3 : tie.Need-write-text-requires-3
-write-text-requires-3 c κs = search needs
+write-bytes-requires-3 : tie.Need-write-bytes-requires-3
+write-bytes-requires-3 c κs = search needs
 
 same-length : tie.Need-same-length
 same-length c = search needs
@@ -48,10 +48,12 @@ returns-2 c =
     let word = refusal .before .before .before .before in
     let number = word .before .before .before .before .before in
     let first = number .before .before .before .before in
-    let rest = wrote-then (refusal .write-field2 .ensures .0) (end .write-text3 .ensures) in
-    let refused = wrote-then (word .write-text2 .ensures) rest in
-    let numbered = wrote-then (number .write-field .ensures .0) refused in
-    wrote-all (omega arith) (wrote-then (first .write-text .ensures) numbered)
+    let one = first .write-bytes .ensures .fits (omega arith) in
+    let two = number .write-field .ensures .0 .fits (omega (arith, one .place)) in
+    let three = word .write-bytes2 .ensures .fits (omega (arith, one .place)) in
+    let four = refusal .write-field2 .ensures .0 .fits (omega (arith, one .place, three .place)) in
+    let five = end .write-bytes3 .ensures .fits (omega (arith, one .place, three .place)) in
+    wrote-all (omega arith) (wrote-then one (wrote-then two (wrote-then three (wrote-then four five))))
 
 pub write-refusal-spec : {M : Type 1} → statement M
 write-refusal-spec =
@@ -59,13 +61,13 @@ write-refusal-spec =
     (tie.spec
     bytes-left-requires
     returns
-    slice-aggregate-write-text
-    write-text-requires
+    slice-aggregate-write-bytes
+    write-bytes-requires
     write-field-requires
-    slice-aggregate-write-text-2
-    write-text-requires-2
+    slice-aggregate-write-bytes-2
+    write-bytes-requires-2
     write-field-requires-2
-    slice-aggregate-write-text-3
-    write-text-requires-3
+    slice-aggregate-write-bytes-3
+    write-bytes-requires-3
     same-length
     returns-2)

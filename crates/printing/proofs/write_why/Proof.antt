@@ -1,9 +1,9 @@
 -- `printing::write_why` meets its contract. Assumes nothing.
 use native.Mathlib.Omega.{arith}
 use borrow.Author.Needs.{needs}
-use Rattle.lines.specs.Texts.{bytes}
+use Rattle.fields.specs.Texts.{bytes}
 use Rattle.printing.specs.Printed.{whyLine}
-use Rattle.printing.proofs.Wrote.{fields-length, wrote-all, wrote-none, wrote-then}
+use Rattle.fields.proofs.Wrote.{fields-length, wrote-all, wrote-none, wrote-then}
 use Rattle.printing.proofs.write_why.Statement.{statement}
 use Rattle.printing.proofs.write_why.Tie as tie
 
@@ -16,24 +16,22 @@ returns c = wrote-none (omega arith)
 returns-2 : tie.Need-returns-2
 returns-2 c = wrote-none (omega arith)
 
-slice-aggregate-write-text : tie.Need-slice-aggregate-write-text
-slice-aggregate-write-text c = search needs
+slice-aggregate-write-bytes : tie.Need-slice-aggregate-write-bytes
+slice-aggregate-write-bytes c = search needs
 
-write-text-requires : tie.Need-write-text-requires
-write-text-requires c κs = search needs
+write-bytes-requires : tie.Need-write-bytes-requires
+write-bytes-requires c κs = search needs
 
 write-fields-requires : tie.Need-write-fields-requires
-write-fields-requires c κs = search needs
+write-fields-requires c κs =
+    let word = c .before .before .before .write-bytes .ensures .fits (omega arith) in
+    omega (arith, word .place)
 
-slice-aggregate-write-text-2 : tie.Need-slice-aggregate-write-text-2
-slice-aggregate-write-text-2 c = search needs
+slice-aggregate-write-bytes-2 : tie.Need-slice-aggregate-write-bytes-2
+slice-aggregate-write-bytes-2 c = search needs
 
-write-text-requires-2 : tie.Need-write-text-requires-2
-write-text-requires-2 c κs =
-    let tested = c .before .before .before .before .before .before .before .before .before .before .before in
-    let known = tested .before .before .before in
-    let slots = known .before .before .args .slots .now in
-    omega (arith, fields-length slots (λ i. known .shared-slice-known .given i .fits))
+write-bytes-requires-2 : tie.Need-write-bytes-requires-2
+write-bytes-requires-2 c κs = search needs
 
 same-length : tie.Need-same-length
 same-length c = search needs
@@ -44,8 +42,12 @@ returns-3 c =
     let end = c .before .before in
     let slots = end .before .before .before .before .before in
     let word = slots .before .before .before .before in
-    let rest = wrote-then (slots .write-fields .ensures) (end .write-text2 .ensures) in
-    wrote-all (omega arith) (wrote-then (word .write-text .ensures) rest)
+    let known = word .before .before .before .before .before .before in
+    let few = fields-length (known .before .before .args .slots .now) (λ i. known .shared-slice-known .given i .fits) in
+    let first = word .write-bytes .ensures .fits (omega arith) in
+    let second = slots .write-fields .ensures in
+    let third = end .write-bytes2 .ensures .fits (omega (arith, few, first .place, second .place)) in
+    wrote-all (omega arith) (wrote-then first (wrote-then second third))
 
 pub write-why-spec : {M : Type 1} → statement M
 write-why-spec =
@@ -54,10 +56,10 @@ write-why-spec =
     bytes-left-requires
     returns
     returns-2
-    slice-aggregate-write-text
-    write-text-requires
+    slice-aggregate-write-bytes
+    write-bytes-requires
     write-fields-requires
-    slice-aggregate-write-text-2
-    write-text-requires-2
+    slice-aggregate-write-bytes-2
+    write-bytes-requires-2
     same-length
     returns-3)

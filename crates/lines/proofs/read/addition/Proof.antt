@@ -6,13 +6,13 @@ use mathlib.Core.List.{List}
 use lib.ListN.{length, drop}
 use borrow.Author.Needs.{needs}
 use borrow.Author.Tests.{not-true, not-false}
-use Rattle.lines.specs.Tokens.{tokens}
-use Rattle.lines.specs.Places.{Onward}
-use Rattle.lines.specs.Numerals.{numeral}
-use Rattle.lines.specs.Commands.{one}
+use Rattle.tokens.specs.Tokens.{tokens}
+use Rattle.places.specs.Places.{Onward}
+use Rattle.tokens.specs.Numerals.{numeral}
+use Rattle.tokens.specs.Tokens.{one}
 use Rattle.lines.specs.Readings.{whether}
-use Rattle.lines.specs.Parts.{part, firstOf, restOf, numberOf}
-use Rattle.lines.proofs.Places.{onward-then, onward-to}
+use Rattle.tokens.specs.Parts.{part, firstOf, restOf, numberOf}
+use Rattle.places.proofs.Places.{onward-then, onward-to}
 use Rattle.lines.proofs.Commands.{addition-no-head, addition-no-sign, addition-is}
 use Rattle.lines.proofs.Answers.{as-read, rest-length}
 use Rattle.lines.proofs.read.addition.Statement.{statement}
@@ -59,7 +59,7 @@ part-numeral-start : tie.Need-part-numeral-start
 part-numeral-start c = search needs
 
 part-numeral-end : tie.Need-part-numeral-end
-part-numeral-end c = search needs
+part-numeral-end c = search (needs, c .before .next-token .ensures .onward .not-past)
 
 numeral-requires : tie.Need-numeral-requires
 numeral-requires c κs = search needs
@@ -93,7 +93,7 @@ part-is-start : tie.Need-part-is-start
 part-is-start c = search needs
 
 part-is-end : tie.Need-part-is-end
-part-is-end c = search needs
+part-is-end c = to-sign (c .before) .not-past (start (c .before) .pre .0)
 
 is-requires : tie.Need-is-requires
 is-requires c κs = search needs
@@ -112,7 +112,7 @@ lists-requires : tie.Need-lists-requires
 lists-requires c κs =
     let t = c .before .before .before .before in
     let ts = all (start t) in (
-      t .next-token2 .ensures .inside,
+      to-sign t .not-past (start t .pre .0),
       omega (arith, ap length (behind t), rest-length (restOf ts), rest-length ts, start t .pre .1),
     )
 

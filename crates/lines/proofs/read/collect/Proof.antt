@@ -7,11 +7,11 @@ use mathlib.Core.List.{List}
 use mathlib.Core.Option.{some, none}
 use lib.ListN.{length, drop}
 use borrow.Author.Needs.{needs}
-use Rattle.lines.specs.Tokens.{tokens}
-use Rattle.lines.specs.Places.{Onward}
-use Rattle.lines.specs.Numerals.{numeral}
-use Rattle.lines.specs.Parts.{firstOf, numberOf}
-use Rattle.lines.proofs.Places.{onward-here, onward-then}
+use Rattle.tokens.specs.Tokens.{tokens}
+use Rattle.places.specs.Places.{Onward}
+use Rattle.tokens.specs.Numerals.{numeral}
+use Rattle.tokens.specs.Parts.{firstOf, numberOf}
+use Rattle.places.proofs.Places.{onward-here, onward-then}
 use Rattle.lines.proofs.Commands.{advance}
 use Rattle.lines.proofs.Entries.{Collecting, collect-start, collect-next}
 use Rattle.lines.proofs.Entries.{collect-entries, collect-count, collect-rest}
@@ -43,7 +43,7 @@ part-numeral-start : tie.Need-part-numeral-start Inv-loop μ-loop
 part-numeral-start c = search needs
 
 part-numeral-end : tie.Need-part-numeral-end Inv-loop μ-loop
-part-numeral-end c = search needs
+part-numeral-end c = search (needs, c .before .next-token .ensures .onward .not-past)
 
 numeral-requires : tie.Need-numeral-requires Inv-loop μ-loop
 numeral-requires c κs = search needs
@@ -101,7 +101,7 @@ loop-less c =
 loop-again : tie.Need-loop-again Inv-loop μ-loop
 loop-again c =
     let step = c .before .before .before .before .before .before in (
-      step .next-token .ensures .inside,
+      step .next-token .ensures .onward .not-past (step .before .loop .inv .0),
       onward-then (step .before .loop .inv .1) (step .next-token .ensures .onward),
       collect-next _ _ _ _ _ (left c) (step .before .loop .inv .2) _ _ (number c) (step .next-token .ensures .rest),
     )

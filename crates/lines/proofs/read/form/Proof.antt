@@ -1,17 +1,17 @@
 -- `lines::read::form` meets its contract: the first token says which command it is. Assumes nothing.
-use Prim.Native.Nat.{ℕ}
+use Prim.Native.Nat.{ℕ, _≤_}
 use native.Mathlib.Omega.{arith}
 use mathlib.Core.Path.{_≡_, sym, _∙_, ap}
 use mathlib.Core.Bool.{Bool}
 use mathlib.Core.List.{List}
 use lib.ListN.{length, drop}
 use borrow.Author.Needs.{needs}
-use Rattle.lines.specs.Tokens.{tokens}
-use Rattle.lines.specs.Commands.{remove, why, one, addition, only, made, listing, command}
+use Rattle.tokens.specs.Tokens.{tokens, one}
+use Rattle.lines.specs.Commands.{remove, why, addition, only, made, listing, command}
 use Rattle.lines.specs.Readings.{whether}
-use Rattle.lines.specs.Parts.{part, firstOf, restOf}
-use Rattle.lines.proofs.Places.{onward-then, onward-to}
-use Rattle.lines.proofs.Tokens.{tokens-bound}
+use Rattle.tokens.specs.Parts.{part, firstOf, restOf}
+use Rattle.places.proofs.Places.{onward-then, onward-to}
+use Rattle.tokens.proofs.Tokens.{tokens-bound}
 use Rattle.lines.proofs.Commands.{form-add, form-remove, form-why, form-labels, form-none}
 use Rattle.lines.proofs.Answers.{as-read, rest-length}
 use Rattle.lines.proofs.read.form.Statement.{statement}
@@ -31,6 +31,9 @@ module _ (c : tie.After-next-token) where
   told : (b : ℕ) {r v : Bool} → r ≡ one b word → r ≡ v → one b (firstOf (all c)) ≡ v
   told b e v = sym (ap (one b) (c .next-token .ensures .first)) ∙ sym e ∙ v
 
+inside : (c : tie.After-next-token) → c .next-token .result .next .offset ≤ length (c .before .before .args .line .now)
+inside c = c .next-token .ensures .onward .not-past (c .before .before .pre .0)
+
 next-token-requires : tie.Need-next-token-requires
 next-token-requires c κs = search needs
 
@@ -41,7 +44,7 @@ part-word-start : tie.Need-part-word-start
 part-word-start c = search needs
 
 part-word-end : tie.Need-part-word-end
-part-word-end c = search needs
+part-word-end c = search (needs, c .before .next-token .ensures .onward .not-past)
 
 is-requires : tie.Need-is-requires
 is-requires c κs = search needs
@@ -51,7 +54,7 @@ addition-requires c κs =
     let t = c .before .before .before .before in
     let line = t .before .before .args .line .now in
     let from = t .before .before .args .place .offset in (
-      t .next-token .ensures .inside,
+      inside t,
       omega (
         arith,
         ap length (behind t),
@@ -75,7 +78,7 @@ is-requires-2 : tie.Need-is-requires-2
 is-requires-2 c κs = search needs
 
 numbered-requires : tie.Need-numbered-requires
-numbered-requires c κs = search needs
+numbered-requires c κs = inside (c .before .before .before .before .before .before)
 
 returns-2 : tie.Need-returns-2
 unfolding command
@@ -95,7 +98,7 @@ is-requires-3 : tie.Need-is-requires-3
 is-requires-3 c κs = search needs
 
 numbered-requires-2 : tie.Need-numbered-requires-2
-numbered-requires-2 c κs = search needs
+numbered-requires-2 c κs = inside (c .before .before .before .before .before .before .before .before)
 
 returns-3 : tie.Need-returns-3
 unfolding command

@@ -2,7 +2,7 @@
 use mathlib.Core.Path.{sym, _∙_, ap}
 use borrow.Author.Tests.{not-true, not-false}
 use Rattle.lines.specs.Readings.{whether}
-use Rattle.lines.proofs.Places.{onward-here}
+use Rattle.places.proofs.Places.{onward-here}
 use Rattle.lines.proofs.Answers.{as-read}
 use Rattle.lines.proofs.Commands.{listing-last, listing-more}
 use borrow.Author.Needs.{needs}

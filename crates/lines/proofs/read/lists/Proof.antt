@@ -8,11 +8,12 @@ use lib.ListN.{length, drop, replicate}
 use lib.Seq.{sets}
 use borrow.Author.Needs.{needs}
 use borrow.Author.Tests.{not-true, not-false}
-use Rattle.lines.specs.Tokens.{tokens}
-use Rattle.lines.specs.Places.{Onward}
-use Rattle.lines.specs.Commands.{one}
-use Rattle.lines.specs.Parts.{part, firstOf, restOf, empty, leadingNumbers, pastNumbers}
-use Rattle.lines.proofs.Places.{onward-then, onward-to}
+use Rattle.tokens.specs.Tokens.{tokens}
+use Rattle.places.specs.Places.{Onward}
+use Rattle.tokens.specs.Tokens.{one}
+use Rattle.tokens.specs.Parts.{part, firstOf, restOf, empty}
+use Rattle.lines.specs.Parts.{leadingNumbers, pastNumbers}
+use Rattle.places.proofs.Places.{onward-then, onward-to}
 use Rattle.lines.proofs.Commands.{numbers-length}
 use Rattle.lines.proofs.Answers.{as-read, said-over, said-spoiled, said-parted, said-parted-spoiled}
 use Rattle.lines.proofs.Answers.{lists-answer, rest-length}
@@ -104,7 +105,7 @@ part-is-start : tie.Need-part-is-start
 part-is-start c = search needs
 
 part-is-end : tie.Need-part-is-end
-part-is-end c = search needs
+part-is-end c = search (needs, c .before .next-token .ensures .onward .not-past)
 
 is-requires : tie.Need-is-requires
 is-requires c κs = search needs
@@ -128,7 +129,7 @@ collect-requires-2 : tie.Need-collect-requires-2
 collect-requires-2 c κs =
     let t = c .before .before .before .before in
     let p = found t .collect in (
-      t .next-token .ensures .inside,
+      t .next-token .ensures .onward .not-past (p .ensures .inside),
       omega (arith, ap length (behind t), room (found t .before .before), p .ensures .count),
     )
 

@@ -6,12 +6,12 @@ use mathlib.Core.Option.{Option, some}
 use lib.ListN.{drop}
 use borrow.Author.Needs.{needs}
 use borrow.Author.Tests.{not-true, not-false}
-use Rattle.lines.specs.Tokens.{tokens}
-use Rattle.lines.specs.Numerals.{numeral}
+use Rattle.tokens.specs.Tokens.{tokens}
+use Rattle.tokens.specs.Numerals.{numeral}
 use Rattle.lines.specs.Commands.{remove, why, only, made}
 use Rattle.lines.specs.Readings.{whether}
-use Rattle.lines.specs.Parts.{empty, numberOf}
-use Rattle.lines.proofs.Places.{onward-to}
+use Rattle.tokens.specs.Parts.{empty, numberOf}
+use Rattle.places.proofs.Places.{onward-to}
 use Rattle.lines.proofs.Commands.{only-last, only-more}
 use Rattle.lines.proofs.Answers.{as-read, made-read}
 use Rattle.lines.proofs.read.numbered.Statement.{statement}
@@ -67,7 +67,9 @@ part-numeral-start : tie.Need-part-numeral-start
 part-numeral-start c = search needs
 
 part-numeral-end : tie.Need-part-numeral-end
-part-numeral-end c = search needs
+part-numeral-end c =
+    let t = token (c .before) in
+    t .next-token .ensures .onward .not-past (t .before .before .pre)
 
 numeral-requires : tie.Need-numeral-requires
 numeral-requires c κs = search needs

@@ -1,0 +1,4 @@
+-- The laws that the functions' proofs cite.
+pub mod Leading
+pub mod Lent
+pub mod Places

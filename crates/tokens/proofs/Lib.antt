@@ -1,0 +1,4 @@
+-- The laws that the functions' proofs cite.
+pub mod Tests
+pub mod Tokens
+pub mod Numerals
