@@ -8,14 +8,14 @@ use lib.ListN.{length, take, drop, length-drop, length-take}
 use lib.Seq.{take-add, drop-drop}
 use Rattle.table.specs.declared.Table.{Table}
 use Rattle.table.specs.Clean.{emptyTable}
-use Rattle.lines.specs.declared.Place.{Place}
-use Rattle.lines.specs.Places.{lineAfter, nextLine}
-use Rattle.lines.proofs.Leading.{leading-within}
+use Rattle.places.specs.declared.Place.{Place}
+use Rattle.places.specs.Places.{lineAfter, nextLine}
+use Rattle.places.proofs.Leading.{leading-within}
 use Rattle.replies.specs.declared.Reply.{Reply}
 use Rattle.replies.specs.declared.Passed.{Passed}
 use Rattle.replies.specs.Replies.{ROOM}
-use Rattle.printing.specs.Written.{Wrote}
-use Rattle.printing.proofs.Wrote.{wrote-then, wrote-nothing}
+use Rattle.fields.specs.Written.{Wrote}
+use Rattle.fields.proofs.Wrote.{wrote-then, wrote-nothing}
 use Rattle.sheets.specs.Lines.{Prints}
 use Rattle.sheets.specs.Sheets.{State, longer, ended, stop}
 use Rattle.feed.specs.declared.Begun.{Begun}
@@ -77,8 +77,9 @@ module _ {c : Sheet} {input : List ℕ} {from end : ℕ} {before : List ℕ} {at
       }
 
   -- A line ends, and its reply is written.
-  module _ {after : List ℕ} {u : Table} {place next : Place} {printed : ℕ} (bytes : List ℕ) (inside : end < length input)
-      (moved : next ≡ nextLine place) (within : printed ≤ length before) (same : length after ≡ length before)
+  module _ {after : List ℕ} {u : Table} {place next : Place} {printed : ℕ} (bytes : List ℕ)
+      (inside : end < length input) (moved : next ≡ nextLine place) (within : printed ≤ length before)
+      (same : length after ≡ length before)
       (told :
       (s : State) → StandsFor s c → Ends s (take (end - from) (drop from input)) before at after u place printed)
     where
@@ -116,8 +117,9 @@ module _ {c : Sheet} {input : List ℕ} {from end : ℕ} {before : List ℕ} {at
       feeds-ended {place = r .place} bytes inside moved (replies .inside (omega arith)) (replies .same-length)
       (λ s f.
       let part = take (end - from) (drop from input) in
-      let w =
-      replies .replies room (longer s part) (record { table = f .table; line = keeps (s .number) (s .line) (f .line) }) in
+      let stands : StandsFor (longer s part) _ =
+      record { table = f .table; line = keeps (s .number) (s .line) (f .line) } in
+      let w = replies .replies room (longer s part) stands in
       record { printed = w .printed; prints = w .prints; wrote = w .wrote; number = w .number })
 
 -- Nothing is read.
@@ -142,7 +144,8 @@ met {u = u} {n} {line} {bs} e p = subst (λ (x : Table). Prints x n line bs u) e
 module _ {k : Begun} {input : List ℕ} {from : ℕ} {before : List ℕ} {at : ℕ} {after : List ℕ}
     (begun : from ≤ length input) (room : at ≤ length before) where
   pub passes-line :
-      {end : ℕ} {r : Passed} {next : Place} (bytes : List ℕ) → end ≡ from + lineEnd (drop from input) → end < length input
+      {end : ℕ} {r : Passed} {next : Place} (bytes : List ℕ) → end ≡ from + lineEnd (drop from input)
+      → end < length input
       → r .answered ≡ true → PassesEnded k (take (end - from) (drop from input)) before at after r
       → next ≡ nextLine (r .place)
       → PassesOn k input from before at after
@@ -150,7 +153,8 @@ module _ {k : Begun} {input : List ℕ} {from : ℕ} {before : List ℕ} {at : �
   passes-line {r = r} bytes found inside answered h moved =
       record {
         feeds = λ t.
-            feeds-ended {c = sheetOf t k} begun found {u = t} {place = r .place} bytes inside moved (h .inside room) (h .same-length)
+            feeds-ended {c = sheetOf t k} begun found {u = t} {place = r .place} bytes inside moved
+            (h .inside room) (h .same-length)
             (λ s f.
             let w = h .answered answered (s .number) (s .line) (f .line) in
             record {

@@ -15,11 +15,11 @@ use denote.Laws.{Is}
 use Rattle.table.specs.declared.Table.{Table}
 use Rattle.lines.specs.Readings.{reading}
 use Rattle.lines.proofs.Cut.{reading-cut}
-use Rattle.lines.specs.declared.Place.{Place}
+use Rattle.places.specs.declared.Place.{Place}
 use Rattle.replies.specs.declared.Reply.{Reply}
 use Rattle.replies.specs.declared.Passed.{Passed}
 use Rattle.replies.specs.Replies.{ROOM, Replies, RepliesIn, Answered, Passes}
-use Rattle.printing.proofs.Wrote.{wrote-length}
+use Rattle.fields.proofs.Wrote.{wrote-length}
 use Rattle.sheets.specs.Lines as prints
 use Rattle.sheets.specs.Lines.{Prints}
 use Rattle.sheets.specs.Sheets.{State, longer}
@@ -131,7 +131,9 @@ replies-kept {c} {before} {at} {after} {r} long h =
     bounds : (at ≤ length before → r .next ≤ length before) × (length after ≡ length before)
     bounds = go (decLe (at + ROOM) (length before))
       where
-        go : Dec (at + ROOM ≤ length before) → (at ≤ length before → r .next ≤ length before) × (length after ≡ length before)
+        go :
+            Dec (at + ROOM ≤ length before)
+            → (at ≤ length before → r .next ≤ length before) × (length after ≡ length before)
         go (yes l) =
             let w = h .answered l .wrote in
             (λ m. omega (arith, w .room, w .place), wrote-length w)
@@ -154,7 +156,8 @@ replies-kept {c} {before} {at} {after} {r} long h =
 pub replies-at :
     {c : Sheet} {before : List ℕ} {at : ℕ} {after : List ℕ} {r : Reply} {k : ℕ} → k ≡ min (c .begun .length) KEPT
     → length (c .begun .bytes) ≡ KEPT
-    → RepliesIn (c .table) (c .begun .place) (take k (c .begun .bytes)) before at after r → RepliesAt c before at after r
+    → RepliesIn (c .table) (c .begun .place) (take k (c .begun .bytes)) before at after r
+    → RepliesAt c before at after r
 replies-at {c} {before} {at} {after} {r} e long h =
     replies-kept long
     (subst (λ (i : ℕ). RepliesIn (c .table) (c .begun .place) (take i (c .begun .bytes)) before at after r) e h)

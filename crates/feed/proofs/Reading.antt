@@ -9,9 +9,9 @@ use lib.ListN.{length, take, getD}
 use lib.Seq.{take-suc, append-snoc}
 use borrow.Author.Tests.{eqb-true, eqb-false}
 use Rattle.table.specs.declared.Table.{Table}
-use Rattle.lines.specs.Places.{leading}
+use Rattle.places.specs.Places.{leading}
 use Rattle.sheets.specs.Lines.{Prints}
-use Rattle.lines.specs.Texts.{NEWLINE}
+use Rattle.fields.specs.Texts.{NEWLINE}
 use Rattle.sheets.specs.Sheets.{State, longer, ended, Reads, stop, byte, newline}
 use Rattle.feed.specs.Sheets.{lineEnd}
 

@@ -9,7 +9,7 @@ use lib.Seq.{length-take-le}
 use Rattle.replies.specs.declared.Reply.{Reply}
 use Rattle.replies.specs.Replies.{ROOM}
 use Rattle.sheets.specs.Lines.{Prints}
-use Rattle.printing.proofs.Wrote.{wrote-start}
+use Rattle.fields.proofs.Wrote.{wrote-start}
 use Rattle.sheets.proofs.Unique.{prints-unique}
 use Rattle.feed.specs.declared.Sheet.{Sheet}
 use Rattle.sheets.specs.Sheets.{State, start, longer, ended, Reads, stop, byte, newline, SheetPrints, MOST}
@@ -23,8 +23,8 @@ record After (s : State) (input out : List ℕ) (d : Sheet) : Type 0 where
   stands : StandsFor state d
 
 reads-printed :
-    {s v : State} {printed out : List ℕ} (input : List ℕ) (k : ℕ) → Reads s (take (k - 0) input) printed v → out ≡ printed
-    → Reads s (take k input) out v
+    {s v : State} {printed out : List ℕ} (input : List ℕ) (k : ℕ) → Reads s (take (k - 0) input) printed v
+    → out ≡ printed → Reads s (take k input) out v
 reads-printed input k r e = let all : k - 0 ≡ k = omega arith in rw (sym e) at (rw all at r)
 
 pieces-read :

@@ -5,15 +5,15 @@ use mathlib.Core.Bool.{Bool, not}
 use mathlib.Core.List.{List, [], _++_}
 use lib.Dec.{eqb}
 use lib.ListN.{length, take, drop}
-use Rattle.lines.specs.Texts.{NEWLINE}
-use Rattle.lines.specs.Places.{leading}
+use Rattle.fields.specs.Texts.{NEWLINE}
+use Rattle.places.specs.Places.{leading}
 use Rattle.sheets.specs.Sheets.{State, Reads}
 use Rattle.replies.specs.declared.Reply.{Reply}
 use Rattle.feed.specs.declared.Begun.{Begun}
 use Rattle.feed.specs.declared.Sheet.{Sheet}
 use Rattle.feed.specs.declared.Fed.{Fed}
 use Rattle.replies.specs.Replies.{Replies, ROOM}
-use Rattle.printing.specs.Written.{Wrote}
+use Rattle.fields.specs.Written.{Wrote}
 
 -- How many bytes of a line the code keeps: one more than a line may have.
 abbrev pub KEPT : ℕ

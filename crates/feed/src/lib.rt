@@ -158,7 +158,8 @@ fn feed_line(sheet: Sheet, input: &[u8], from: usize, out: &mut [u8], at: usize)
     }
 }
 
-// Answers the line at hand, which these bytes end, without the table. A line that lies whole in the piece is read there.
+// Answers the line at hand, which these bytes end, without the table. A line that lies whole in the piece is read
+// there.
 fn pass_ended(begun: Begun, bytes: &[u8], out: &mut [u8], at: usize) -> Passed
     ensures { λ r. ⌜ PassesEnded begun (now (bytes .entry)) (now (out .entry)) at (now (out .exit)) r ⌝ }
 {
@@ -192,16 +193,16 @@ fn pass_line(begun: Begun, input: &[u8], from: usize, out: &mut [u8], at: usize)
     if !passed.answered {
         return still;
     }
-    let place = passed.place;
+    let moved = passed.place;
     let bytes = begun.bytes;
-    let read = end + 1;
+    let past = end + 1;
     Run {
         begun: Begun {
-            place: place.next_line(),
+            place: moved.next_line(),
             bytes: bytes,
             length: 0,
         },
-        read: read,
+        read: past,
         printed: passed.next,
         more: true,
     }

@@ -20,15 +20,15 @@ use Rattle.calls.specs.Contracts as contract
 use Rattle.calls.specs.Contracts.{ListEnds, ReasonEnds}
 use Rattle.lines.specs.declared.Command.{Command}
 use Rattle.lines.specs.declared.Parsed.{Parsed}
-use Rattle.lines.specs.declared.Place.{Place}
+use Rattle.places.specs.declared.Place.{Place}
 use Rattle.lines.specs.declared.Reading.{Reading}
 use Rattle.lines.specs.declared.Reading.the-variants as reading-of
 use Rattle.lines.specs.Commands as sheet
-use Rattle.lines.specs.Places.{Onward}
+use Rattle.places.specs.Places.{Onward}
 use Rattle.lines.specs.Readings.{is, reading, lineOf, readingOf, commandOf, Answers}
 use Rattle.lines.proofs.Reading as T
 use Rattle.printing.specs.Printed.{refusalLine}
-use Rattle.printing.specs.Written.{Wrote}
+use Rattle.fields.specs.Written.{Wrote}
 use Rattle.sheets.specs.Lines as prints
 use Rattle.sheets.specs.Lines.{lent, tellReason, Prints}
 use Rattle.replies.specs.declared.Reply.{Reply}
@@ -94,7 +94,8 @@ neither (reading-of.Command c) k p = p
 -- A line whose reading is none of the commands is refused by question 13, unless it is blank or too long.
 module _ (p : Parsed) {before : List ℕ} {at : ℕ} {after : List ℕ} {next : ℕ} where
   pub unread :
-      OneOf (0 ∷ 1 ∷ 2 ∷ []) (tagOf T.the-type (p .reading)) → Wrote (refusalLine (p .place .line) 13) before at after next
+      OneOf (0 ∷ 1 ∷ 2 ∷ []) (tagOf T.the-type (p .reading))
+      → Wrote (refusalLine (p .place .line) 13) before at after next
       → Unread p before at after (judged.Told next)
   unread k w = go (p .reading) refl k
     where

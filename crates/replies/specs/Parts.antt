@@ -4,13 +4,13 @@ use mathlib.Core.Path.{_≡_}
 use mathlib.Core.List.{List}
 use lib.ListN.{take, drop}
 use Rattle.table.specs.declared.Table.{Table}
-use Rattle.lines.specs.declared.Place.{Place}
+use Rattle.places.specs.declared.Place.{Place}
 use Rattle.lines.specs.declared.Parsed.{Parsed}
 use Rattle.lines.specs.declared.Reading.{Reading}
 use Rattle.lines.specs.declared.Reading.the-variants as reading-of
 use Rattle.lines.specs.Commands as sheet
 use Rattle.lines.specs.Readings.{is, reading, readingOf, commandOf}
-use Rattle.printing.specs.Written.{Wrote}
+use Rattle.fields.specs.Written.{Wrote}
 use Rattle.sheets.specs.Lines.{Prints}
 use Rattle.replies.specs.declared.Reply.{Reply}
 use Rattle.replies.specs.declared.Judged.{Judged}

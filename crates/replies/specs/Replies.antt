@@ -6,10 +6,10 @@ use mathlib.Core.Logic.{_⊎_}
 use mathlib.Core.List.{List}
 use lib.ListN.{length, drop}
 use Rattle.table.specs.declared.Table.{Table}
-use Rattle.lines.specs.declared.Place.{Place}
+use Rattle.places.specs.declared.Place.{Place}
 use Rattle.lines.specs.Commands as sheet
 use Rattle.lines.specs.Readings.{is, reading}
-use Rattle.printing.specs.Written.{Wrote}
+use Rattle.fields.specs.Written.{Wrote}
 use Rattle.sheets.specs.Lines.{Prints}
 use Rattle.replies.specs.declared.Reply.{Reply}
 use Rattle.replies.specs.declared.Passed.{Passed}

@@ -7,12 +7,12 @@ use calls::RemoveAnswer;
 use calls::refusal_number;
 use changes::add;
 use changes::remove;
+use label_lines::write_labels;
 use lines::Command;
 use lines::Parsed;
-use lines::Place;
 use lines::Reading;
 use lines::read::read;
-use printing::write_labels;
+use places::Place;
 use printing::write_named;
 use printing::write_refusal;
 use printing::write_why;
@@ -219,12 +219,13 @@ fn judge(parsed: Parsed, out: &mut [u8], at: usize) -> Judged
 pub fn pass(line: &[u8], place: Place, out: &mut [u8], at: usize) -> Passed
     ensures { λ r. ⌜ Passes place (now (line .entry)) (now (out .entry)) at (now (out .exit)) r ⌝ }
 {
+    let waits = Passed {
+        answered: false,
+        place: place,
+        next: at,
+    };
     if !has_room(out.len(), at) {
-        return Passed {
-            answered: false,
-            place: place,
-            next: at,
-        };
+        return waits;
     }
     let parsed = read(line, place);
     let judged = judge(parsed, out, at);
@@ -235,11 +236,7 @@ pub fn pass(line: &[u8], place: Place, out: &mut [u8], at: usize) -> Passed
             place: moved,
             next: next,
         },
-        Judged::Command(command) => Passed {
-            answered: false,
-            place: place,
-            next: at,
-        },
+        Judged::Command(command) => waits,
     }
 }
 

@@ -20,7 +20,8 @@ use Rattle.calls.proofs.OneTable.{same-label}
 use Rattle.calls.proofs.Determined.{add-determined, remove-determined, reason-determined}
 use Rattle.lines.specs.Commands as sheet
 use Rattle.lines.specs.Readings.{Line, is-blank, too-long, no-command, is, reading}
-use Rattle.printing.specs.Printed.{labelLine, labelLines, refusalLine}
+use Rattle.printing.specs.Printed.{refusalLine}
+use Rattle.label_lines.specs.LabelLines.{labelLine, labelLines}
 use Rattle.sheets.specs.Lines as prints
 use Rattle.sheets.specs.Lines.{lent, tellAdd, tellRemove, tellReason, Prints}
 

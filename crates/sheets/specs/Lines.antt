@@ -20,8 +20,9 @@ use Rattle.calls.specs.Answers.{numberOf}
 use Rattle.calls.specs.Contracts.{held, AddEnds, RemoveEnds, ReasonEnds}
 use Rattle.lines.specs.Commands as sheet
 use Rattle.lines.specs.Readings.{is-blank, too-long, no-command, is, reading}
-use Rattle.lines.specs.Texts.{bytes}
-use Rattle.printing.specs.Printed.{named, whyLine, labelLines, refusalLine}
+use Rattle.fields.specs.Texts.{bytes}
+use Rattle.printing.specs.Printed.{named, whyLine, refusalLine}
+use Rattle.label_lines.specs.LabelLines.{labelLines}
 
 -- The line that tells the answer of a call, on line n of the sheet.
 abbrev pub tellAdd : ℕ → AddAnswer → List ℕ

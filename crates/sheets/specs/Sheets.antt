@@ -5,7 +5,7 @@ use mathlib.Core.List.{List, [], _∷_, _++_}
 use lib.ListN.{take}
 use Rattle.table.specs.declared.Table.{Table}
 use Rattle.table.specs.Clean.{emptyTable}
-use Rattle.lines.specs.Texts.{NEWLINE}
+use Rattle.fields.specs.Texts.{NEWLINE}
 use Rattle.sheets.specs.Lines.{Prints}
 
 -- Where the reading of a sheet stands: the table after its whole lines, and the number and the bytes so far of the line

@@ -42,11 +42,10 @@ pub pieces-more :
     → (printed : List ℕ) × Pieces c (take (from + r .read) input) printed (r .sheet)
 pieces-more {c} input from {r = r} fed more =
     let rest = take-all (length input - from) (drop from input) (omega (arith, length-drop from input)) in
-    let both = fed-behind fed more in (
-      both .0,
-      subst (λ (ys : List ℕ). Pieces c ys (both .0) (r .sheet))
-          (ap (λ (ys : List ℕ). take from input ++ take (r .read) ys) rest ∙ sym (take-add from (r .read) input)) (both .1),
-    )
+    let joined =
+    ap (λ (ys : List ℕ). take from input ++ take (r .read) ys) rest ∙ sym (take-add from (r .read) input) in
+    let both = fed-behind fed more in
+    (both .0, subst (λ (ys : List ℕ). Pieces c ys (both .0) (r .sheet)) joined (both .1))
 
 -- The sheet so far, and how many bytes are left to read.
 pub record SoFar (left : ℕ) (d : Sheet) : Type 0 where

@@ -57,9 +57,12 @@ same-length c = c .before .before .before .before .loop .inv .0 .same-length
 
 returns : tie.Need-returns Inv-loop μ-loop
 returns c =
-    let l = c .before .before .before .before .loop in
+    let loop = c .before .before .before .before in
+    let s = loop .before .before .before in
+    let l = loop .loop in
     let short = leb-false ROOM (length (l .out) - l .fed .printed) (c .if2 .left) in
-    let full : length (c .before .before .before .before .before .before .before .args .out .now) < l .fed .printed + ROOM = omega (arith, l .inv .0 .printed, l .inv .0 .same-length) in
+    let full : length (s .args .out .now) < l .fed .printed + ROOM =
+    omega (arith, l .inv .0 .printed, l .inv .0 .same-length) in
     (l .inv .0, (λ h. full, λ h m. start-read (l .fed .read) (l .inv .1) full m))
 
 same-length-2 : tie.Need-same-length-2 Inv-loop μ-loop

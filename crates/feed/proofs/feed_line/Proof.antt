@@ -36,8 +36,9 @@ keep-requires c κs = search needs
 
 returns : tie.Need-returns
 returns c =
+    let end = c .before .before .before .before .before .line-end in
     let s = c .before .before .before .before .before .before .before .before in (
-      feeds-part (s .pre .0) (c .before .before .before .before .before .line-end .ensures) (c .before .keep .ensures) (omega arith),
+      feeds-part (s .pre .0) (end .ensures) (c .before .keep .ensures) (omega arith),
       λ l. omega (arith, c .if1 .taken),
     )
 
@@ -47,7 +48,7 @@ reply-at-requires c κs = search needs
 add-read : tie.Need-add-read
 add-read c =
     let e = c .before .before .before .before .before .before .before in
-    omega (arith, inside-piece e, c .before .before .before .before .before .before .before .before .before .before .before .before .before .before .before .good .1 .0)
+    omega (arith, inside-piece e, e .before .before .before .before .before .before .before .before .good .1 .0)
 
 next-line-requires : tie.Need-next-line-requires
 next-line-requires c κs = search needs
@@ -57,10 +58,10 @@ same-length c = search needs
 
 returns-2 : tie.Need-returns-2
 returns-2 c =
-    let s = c .before .before .before .before .before .before .before .before .before .before .before .before .before .before .before .before in
     let e = c .before .before .before .before .before .before .before .before in
+    let s = e .before .before .before .before .before .before .before .before in
     let keep = e .before .keep in
-    let end = c .before .before .before .before .before .before .before .before .before .before .before .before .before .line-end in (
+    let end = e .before .before .before .before .before .line-end in (
       feeds-line (s .pre .0) (end .ensures) (keep .result .bytes) (keep .ensures) (inside-piece e) (s .pre .1)
           (c .before .before .before .before .before .before .reply-at .ensures) (c .next-line .ensures),
       λ l. omega (arith, end .ensures),

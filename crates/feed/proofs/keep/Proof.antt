@@ -65,7 +65,8 @@ returns c =
     let s = c .before .before .before .before .before .before .before in
     let w = c .before .before .before .within in
     let full = ltb-false (l .end) KEPT (c .if1 .left) in
-    kept-longer (s .args .begun) _ (l .i) (begun-sized (s .args .begun) _ (s .good .0)) (w .ensures) refl (l .inv .1) (l .inv .4)
+    let long = begun-sized (s .args .begun) _ (s .good .0) in
+    kept-longer (s .args .begun) _ (l .i) long (w .ensures) refl (l .inv .1) (l .inv .4)
     (l .inv .0) (l .inv .2) (inr (omega arith))
 
 returns-2 : tie.Need-returns-2 Inv-loop μ-loop
@@ -73,7 +74,8 @@ returns-2 c =
     let l = c .before .loop in
     let s = c .before .before .before .before .before .before in
     let w = c .before .before .within in
-    kept-longer (s .args .begun) _ (l .i) (begun-sized (s .args .begun) _ (s .good .0)) (w .ensures) refl (l .inv .1) (l .inv .4)
+    let long = begun-sized (s .args .begun) _ (s .good .0) in
+    kept-longer (s .args .begun) _ (l .i) long (w .ensures) refl (l .inv .1) (l .inv .4)
     (l .inv .0) (l .inv .2) (inl (omega (arith, c .loop-test .left)))
 
 pub keep-spec : {M : Type 1} → statement M

@@ -41,8 +41,11 @@ same-length-2 c = search needs
 
 returns-2 : tie.Need-returns-2
 returns-2 c =
-    let k = c .before .before .before .before .before .before .before .before .keep in
-    passes-kept (k .ensures) (begun-sized (k .result) _ (k .ok)) (c .before .before .before .before .before .within .ensures) (c .before .before .pass2 .ensures)
+    let pass = c .before .before in
+    let within = pass .before .before .before in
+    let keep = within .before .before .before in
+    let k = keep .keep in
+    passes-kept (k .ensures) (begun-sized (k .result) _ (k .ok)) (within .within .ensures) (pass .pass2 .ensures)
 
 pub pass-ended-spec : {M : Type 1} → statement M
 pass-ended-spec =

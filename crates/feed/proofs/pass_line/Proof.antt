@@ -51,8 +51,8 @@ returns-2 c =
     let waits = c .before .before .before .before .pass-ended .ensures .waits (not-true _ (c .if2 .taken)) in
     passes-none (s .pre .0) (s .pre .1) waits false (λ e. absurd (apart (sym e)))
 
-add-read : tie.Need-add-read
-add-read c =
+add-past : tie.Need-add-past
+add-past c =
     let e = c .before .before .before .before .before .before .before .before .before in
     omega (arith, inside-piece e, e .before .before .before .before .good .1 .0)
 
@@ -64,10 +64,12 @@ same-length-2 c = search needs
 
 returns-3 : tie.Need-returns-3
 returns-3 c =
-    let s = c .before .before .before .before .before .before .before .before .before .before .before .before .before .before in
-    let e = c .before .before .before .before .before .before .before .before .before .before in
+    let test = c .before .before .before in
+    let ended = test .before .before .before .before in
+    let e = ended .before .before .before in
+    let s = e .before .before .before .before in
     passes-line (s .pre .0) (s .pre .1) (s .args .begun .bytes) (e .before .line-end .ensures) (inside-piece e)
-    (not-false _ (c .before .before .before .if2 .left)) (c .before .before .before .before .before .before .before .pass-ended .ensures) (c .next-line .ensures)
+    (not-false _ (test .if2 .left)) (ended .pass-ended .ensures) (c .next-line .ensures)
 
 pub pass-line-spec : {M : Type 1} → statement M
 pass-line-spec =
@@ -81,7 +83,7 @@ pass-line-spec =
     pass-ended-requires
     same-length
     returns-2
-    add-read
+    add-past
     next-line-requires
     same-length-2
     returns-3)

@@ -1,5 +1,5 @@
--- `feed::pass_lines` meets its contract. The loop keeps: what was read so far is fed, whatever the table is. The measure
--- is what is left to read. Assumes nothing.
+-- `feed::pass_lines` meets its contract. The loop keeps: what was read so far is fed, whatever the table is. The
+-- measure is what is left to read. Assumes nothing.
 use Prim.Native.Nat.{suc, _-_}
 use native.Mathlib.Omega.{arith}
 use mathlib.Core.Path.{refl, sym, _∙_}
@@ -34,9 +34,13 @@ pass-line-requires c κs =
 
 loop-less : tie.Need-loop-less Inv-loop μ-loop
 loop-less c =
-    let l = c .before .before .before .before .before .before .loop in
-    let p = c .before .before .pass-line in
-    passes-less _ (l .run) (p .result) (c .before .before .before .before .before .loop-test .taken) (p .ensures .more) (p .ensures .feeds emptyTable .read)
+    let pass-line = c .before .before in
+    let loop-test = pass-line .before .before .before in
+    let loop = loop-test .before in
+    let l = loop .loop in
+    let p = pass-line .pass-line in
+    passes-less _ (l .run) (p .result) (loop-test .loop-test .taken) (p .ensures .more)
+    (p .ensures .feeds emptyTable .read)
 
 loop-again : tie.Need-loop-again Inv-loop μ-loop
 loop-again c =

@@ -30,7 +30,8 @@ same-length c = search needs
 returns : tie.Need-returns
 returns c =
     let a = c .before .before .before .before .before .before .before .before .before .before .before in
-    replies-at (c .before .before .before .before .before .within .ensures) (sheet-sized (a .args .sheet) _ (a .good .0)) (c .before .before .reply-to .ensures)
+    let within = c .before .before .before .before .before .within in
+    replies-at (within .ensures) (sheet-sized (a .args .sheet) _ (a .good .0)) (c .before .before .reply-to .ensures)
 
 pub reply-at-spec : {M : Type 1} → statement M
 reply-at-spec =

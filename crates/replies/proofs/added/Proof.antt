@@ -2,7 +2,7 @@
 use native.Mathlib.Omega.{arith}
 use mathlib.Core.Path.{sym, _∙_, ap}
 use lib.ListN.{length-map}
-use Rattle.lines.specs.Texts.{bytes}
+use Rattle.fields.specs.Texts.{bytes}
 use Rattle.printing.specs.Printed.{refusalLine}
 use Rattle.sheets.specs.Lines as prints
 use Rattle.sheets.specs.Lines.{tellAdd}
@@ -47,17 +47,24 @@ same-length c = search needs
 returns : tie.Need-returns
 unfolding bytes
 returns c =
-    λ line e. replied (prints.add _ _ _ _ _ e (c .before .before .before .before .before .before .before .before .before .before .add-listed .ensures))
-    (ap (tellAdd _) (sym (c .before .before .before .before .before .before .before .answer .given .1))) (c .before .before .named .ensures)
+    let named = c .before .before in
+    let answer = named .before .before .before .before .before in
+    let add = answer .before .before .before in
+    λ line e. replied (prints.add _ _ _ _ _ e (add .add-listed .ensures))
+    (ap (tellAdd _) (sym (answer .answer .given .1))) (named .named .ensures)
 
 same-length-2 : tie.Need-same-length-2
 same-length-2 c = search needs
 
 returns-2 : tie.Need-returns-2
 returns-2 c =
-    λ line e. replied (prints.add _ _ _ _ _ e (c .before .before .before .before .before .before .before .before .before .add-listed .ensures))
-    (ap (refusalLine _) (c .before .before .before .before .refusal-number .ensures) ∙ ap (tellAdd _) (sym (c .before .before .before .before .before .before .answer2 .given .1)))
-    (c .before .before .refused .ensures)
+    let refused = c .before .before in
+    let number = refused .before .before in
+    let answer = number .before .before in
+    let add = answer .before .before .before in
+    λ line e. replied (prints.add _ _ _ _ _ e (add .add-listed .ensures))
+    (ap (refusalLine _) (number .refusal-number .ensures) ∙ ap (tellAdd _) (sym (answer .answer2 .given .1)))
+    (refused .refused .ensures)
 
 pub added-spec : {M : Type 1} → statement M
 added-spec =

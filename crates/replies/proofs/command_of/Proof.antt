@@ -15,10 +15,16 @@ same-length : tie.Need-same-length
 same-length c = search needs
 
 returns : tie.Need-returns
-returns c = unread (c .before .before .before .before .before .before .before .args .parsed) (c .before .before .before .before .match .keys2) (c .before .before .write-refusal .ensures .fits (omega arith))
+returns c =
+    let write = c .before .before in
+    let match = write .before .before in
+    let s = match .before .before .before in
+    unread (s .args .parsed) (match .match .keys2) (write .write-refusal .ensures .fits (omega arith))
 
 returns-2 : tie.Need-returns-2
-returns-2 c = commanded (c .before .before .before .before .before .args .parsed) _ _ (c .before .before .before .before .before .args .at) (c .before .reading .given .1)
+returns-2 c =
+    let s = c .before .before .before .before .before in
+    commanded (s .args .parsed) _ _ (s .args .at) (c .before .reading .given .1)
 
 pub command-of-spec : {M : Type 1} → statement M
 command-of-spec =

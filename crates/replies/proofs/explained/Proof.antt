@@ -18,11 +18,16 @@ enum-known-answer c = search needs
 
 array-share-prefix-slots : tie.Need-array-share-prefix-slots
 array-share-prefix-slots c =
-    let w = count-within _ (c .before .before .before .before .before .reason .ensures) (c .before .before .answer .given .1) in
+    let answer = c .before .before in
+    let reason = answer .before .before .before in
+    let w = count-within _ (reason .reason .ensures) (answer .answer .given .1) in
     omega (arith, w .0, w .1)
 
 slice-aggregate-write-why : tie.Need-slice-aggregate-write-why
-slice-aggregate-write-why c = count-within _ (c .before .before .before .before .before .before .reason .ensures) (c .before .before .before .answer .given .1) .2
+slice-aggregate-write-why c =
+    let answer = c .before .before .before in
+    let reason = answer .before .before .before in
+    count-within _ (reason .reason .ensures) (answer .answer .given .1) .2
 
 write-why-requires : tie.Need-write-why-requires
 write-why-requires c κs = search needs
@@ -41,17 +46,24 @@ same-length c = search needs
 
 returns : tie.Need-returns
 returns c =
-    let w = count-within _ (c .before .before .before .before .before .before .before .before .before .reason .ensures) (c .before .before .before .before .before .before .answer .given .1) in
-    λ line e. reason-said _ _ _ line _ e (c .before .before .before .before .before .before .before .before .before .reason .ensures) (c .before .before .before .before .before .before .answer .given .1) refl
-    (record { table = refl; place = refl; wrote = c .before .before .write-why .ensures .fits (omega (arith, w .0, w .2)) })
+    let write = c .before .before in
+    let answer = write .before .before .before .before in
+    let reason = answer .before .before .before in
+    let w = count-within _ (reason .reason .ensures) (answer .answer .given .1) in
+    λ line e. reason-said _ _ _ line _ e (reason .reason .ensures) (answer .answer .given .1) refl
+    (record { table = refl; place = refl; wrote = write .write-why .ensures .fits (omega (arith, w .0, w .2)) })
 
 same-length-2 : tie.Need-same-length-2
 same-length-2 c = search needs
 
 returns-2 : tie.Need-returns-2
 returns-2 c =
-    λ line e. reason-said _ _ _ line _ e (c .before .before .before .before .before .before .before .before .before .reason .ensures) (c .before .before .before .before .before .before .answer2 .given .1)
-    (ap (refusalLine _) (c .before .before .before .before .refusal-number .ensures)) (c .before .before .refused .ensures)
+    let refused = c .before .before in
+    let number = refused .before .before in
+    let answer = number .before .before in
+    let reason = answer .before .before .before in
+    λ line e. reason-said _ _ _ line _ e (reason .reason .ensures) (answer .answer2 .given .1)
+    (ap (refusalLine _) (number .refusal-number .ensures)) (refused .refused .ensures)
 
 pub explained-spec : {M : Type 1} → statement M
 explained-spec =

@@ -24,8 +24,12 @@ same-length c = search needs
 
 returns : tie.Need-returns
 returns c =
-    λ line e. replied (prints.unsound e (not-sound _ (c .before .before .before .before .before .before .sound .ensures) (c .before .before .before .before .before .if1 .taken)))
-    (ap (refusalLine _) (c .before .before .before .before .refusal-number .ensures)) (c .before .before .refused .ensures)
+    let refused = c .before .before in
+    let number = refused .before .before in
+    let test = number .before in
+    let sound = test .before in
+    λ line e. replied (prints.unsound e (not-sound _ (sound .sound .ensures) (test .if1 .taken)))
+    (ap (refusalLine _) (number .refusal-number .ensures)) (refused .refused .ensures)
 
 write-labels-requires : tie.Need-write-labels-requires
 write-labels-requires c κs = search needs
@@ -35,9 +39,12 @@ same-length-2 c = search needs
 
 returns-2 : tie.Need-returns-2
 returns-2 c =
-    λ line e. let S = granted _ (c .before .before .before .before .before .before .sound .ensures) (c .before .before .before .before .before .if1 .left) in
+    let write = c .before .before in
+    let test = write .before .before .before in
+    let sound = test .before in
+    λ line e. let S = granted _ (sound .sound .ensures) (test .if1 .left) in
     replied (prints.labels (S .labels .model) _ e S (S .labels .admissible) (S .labels .labels)) refl
-    (record { table = refl; place = refl; wrote = c .before .before .write-labels .ensures .fits (omega arith) })
+    (record { table = refl; place = refl; wrote = write .write-labels .ensures .fits (omega arith) })
 
 pub listed-spec : {M : Type 1} → statement M
 listed-spec =

@@ -28,16 +28,22 @@ same-length c = search needs
 
 returns-2 : tie.Need-returns-2
 returns-2 c =
-    let r = c .before .before .before .before .before .before .before .before .read in
-    passed-told _ _ _ (r .result) (c .before .before .before .before .before .before .judge .result) (r .ensures .0) (r .ensures .1) (c .before .before .before .before .before .before .judge .ensures) (c .before .judged .given .1)
+    let judge = c .before .before .before .before .before .before in
+    let read = judge .before .before in
+    let r = read .read in
+    passed-told _ _ _ (r .result) (judge .judge .result) (r .ensures .0) (r .ensures .1)
+    (judge .judge .ensures) (c .before .judged .given .1)
 
 same-length-2 : tie.Need-same-length-2
 same-length-2 c = search needs
 
 returns-3 : tie.Need-returns-3
 returns-3 c =
-    let r = c .before .before .before .before .before .before .before .before .read in
-    passed-command _ _ _ (r .result) (c .before .before .before .before .before .before .judge .result) (r .ensures .0) (r .ensures .1) (c .before .before .before .before .before .before .judge .ensures) (c .before .judged2 .given .1)
+    let judge = c .before .before .before .before .before .before in
+    let read = judge .before .before in
+    let r = read .read in
+    passed-command _ _ _ (r .result) (judge .judge .result) (r .ensures .0) (r .ensures .1)
+    (judge .judge .ensures) (c .before .judged2 .given .1)
 
 pub pass-spec : {M : Type 1} → statement M
 pass-spec =

@@ -12,7 +12,9 @@ same-length : tie.Need-same-length
 same-length c = search needs
 
 returns : tie.Need-returns
-returns c = record { table = refl; place = refl; wrote = c .before .before .write-refusal .ensures .fits (omega arith) }
+returns c =
+    let write = c .before .before in
+    record { table = refl; place = refl; wrote = write .write-refusal .ensures .fits (omega arith) }
 
 pub refused-spec : {M : Type 1} → statement M
 refused-spec = tie.close (tie.spec write-refusal-requires same-length returns)

@@ -26,27 +26,42 @@ enum-known-judged-2 c = search needs
 
 obeyed-requires : tie.Need-obeyed-requires
 obeyed-requires c κs =
-    let a = c .before .before .before .before .before .before .before .before .before .before .before .before .before .before .args in
-    let room = has (a .at) (length (a .out .now)) (c .before .before .before .before .before .before .before .before .before .before .before .has-room .ensures) (c .before .before .before .before .before .before .before .before .before .before .if1 .left) in
-    (c .before .before .before .before .before .before .before .before .before .read .ensures .0 .within, omega (arith, room, c .before .before .before .before .before .before .before .judge .kept .1 .0))
+    let judge = c .before .before .before .before .before .before .before in
+    let read = judge .before .before in
+    let test = read .before in
+    let room-step = test .before in
+    let s = room-step .before .before .before in
+    let a = s .args in
+    let room = has (a .at) (length (a .out .now)) (room-step .has-room .ensures) (test .if1 .left) in
+    (read .read .ensures .0 .within, omega (arith, room, judge .judge .kept .1 .0))
 
 same-length : tie.Need-same-length
 same-length c = search needs
 
 returns-2 : tie.Need-returns-2
 returns-2 c =
-    let r = c .before .before .before .before .before .before .before .before .read in
-    reply-told _ _ _ (r .result) (c .before .before .before .before .before .before .judge .result) (r .ensures .0) (r .ensures .1) (c .before .before .before .before .before .before .judge .ensures)
-    (has _ _ (c .before .before .before .before .before .before .before .before .before .before .has-room .ensures) (c .before .before .before .before .before .before .before .before .before .if1 .left)) (c .before .judged .given .1)
+    let judge = c .before .before .before .before .before .before in
+    let read = judge .before .before in
+    let test = read .before in
+    let room = test .before in
+    let r = read .read in
+    reply-told _ _ _ (r .result) (judge .judge .result) (r .ensures .0) (r .ensures .1) (judge .judge .ensures)
+    (has _ _ (room .has-room .ensures) (test .if1 .left)) (c .before .judged .given .1)
 
 same-length-2 : tie.Need-same-length-2
 same-length-2 c = search needs
 
 returns-3 : tie.Need-returns-3
 returns-3 c =
-    let r = c .before .before .before .before .before .before .before .before .before .before .before .before .read in
-    reply-obeyed _ _ _ (r .result) (c .before .before .before .before .before .before .before .before .before .before .judge .result) (r .ensures .0) (r .ensures .1) (c .before .before .before .before .before .before .before .before .before .before .judge .ensures)
-    (has _ _ (c .before .before .before .before .before .before .before .before .before .before .before .before .before .before .has-room .ensures) (c .before .before .before .before .before .before .before .before .before .before .before .before .before .if1 .left)) (c .before .before .before .before .before .judged2 .given .1) (c .before .before .obeyed .ensures)
+    let obeyed = c .before .before in
+    let judged = obeyed .before .before .before in
+    let judge = judged .before .before .before .before .before in
+    let read = judge .before .before in
+    let test = read .before in
+    let room = test .before in
+    let r = read .read in
+    reply-obeyed _ _ _ (r .result) (judge .judge .result) (r .ensures .0) (r .ensures .1) (judge .judge .ensures)
+    (has _ _ (room .has-room .ensures) (test .if1 .left)) (judged .judged2 .given .1) (obeyed .obeyed .ensures)
 
 pub reply-to-spec : {M : Type 1} → statement M
 reply-to-spec =

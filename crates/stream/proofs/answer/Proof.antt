@@ -1,5 +1,5 @@
--- `stream::answer` meets its contract. The loop keeps: the bytes before the offset were fed. The measure is what is left of
--- the piece: with room for a reply each turn reads at least a byte. Assumes nothing.
+-- `stream::answer` meets its contract. The loop keeps: the bytes before the offset were fed. The measure is what is
+-- left of the piece: with room for a reply each turn reads at least a byte. Assumes nothing.
 use Prim.Native.Nat.{ℕ, _-_, _≤_, _<_}
 use native.Mathlib.Omega.{arith}
 use mathlib.Core.Path.{_≡_, refl, sym, _∙_}
@@ -55,19 +55,24 @@ add-from c = search needs
 
 loop-less : tie.Need-loop-less Inv-loop μ-loop
 loop-less c =
-    let l = c .before .before .before .before .before .before .before .before .before .before .before .loop in
-    let f = c .before .before .before .before .before .before .feed .ensures in
-    let input = c .before .before .before .before .before .before .before .before .before .before .before .before .before .before .args .input .now in
+    let fed = c .before .before .before .before .before .before in
+    let test = fed .before .before .before in
+    let top = test .before .before in
+    let l = top .loop in
+    let f = fed .feed .ensures in
+    let input = top .before .before .before .args .input .now in
     let size = part-length (l .from) input in
-    let here = ltb-true (l .from) (length input) (c .before .before .before .before .before .before .before .before .before .if1 .taken) in
+    let here = ltb-true (l .from) (length input) (test .if1 .taken) in
     let some : 0 < length (take (length input - l .from) (drop (l .from) input)) = omega (arith, size) in
     omega (arith, f .1 .1 some (l .inv .1), f .0 .read, size)
 
 loop-again : tie.Need-loop-again Inv-loop μ-loop
 loop-again c =
-    let l = c .before .before .before .before .before .before .before .before .before .before .before .loop in
-    let f = c .before .before .before .before .before .before .feed .ensures .0 in
-    let input = c .before .before .before .before .before .before .before .before .before .before .before .before .before .before .args .input .now in (
+    let fed = c .before .before .before .before .before .before in
+    let top = fed .before .before .before .before .before in
+    let l = top .loop in
+    let f = fed .feed .ensures .0 in
+    let input = top .before .before .before .args .input .now in (
       omega (arith, f .read, part-length (l .from) input),
       omega (arith, l .inv .1, f .same-length),
       f .same-length ∙ l .inv .2,
@@ -81,7 +86,8 @@ returns : tie.Need-returns Inv-loop μ-loop
 returns c =
     let l = c .before .before .loop in
     let left = ltb-false (l .from) _ (c .if1 .left) in
-    let whole : l .from ≡ length (c .before .before .before .before .before .args .input .now) = omega (arith, l .inv .0, left) in
+    let input = c .before .before .before .before .before .args .input .now in
+    let whole : l .from ≡ length input = omega (arith, l .inv .0, left) in
     record { read = l .from; printed = l .inv .3 .0; pieces = l .inv .3 .1; whole = λ e. whole }
 
 same-length-2 : tie.Need-same-length-2 Inv-loop μ-loop

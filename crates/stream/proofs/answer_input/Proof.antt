@@ -34,10 +34,16 @@ write-out-requires : tie.Need-write-out-requires
 write-out-requires c κs = search needs
 
 returns : tie.Need-returns
-returns c = last-answered (c .before .before .before .before .before .before .before .before .answer-lines .ensures) (c .before .before .before .before .reply-at .ensures) (search needs)
+returns c =
+    let reply = c .before .before .before .before in
+    let lines = reply .before .before .before .before in
+    last-answered (lines .answer-lines .ensures) (reply .reply-at .ensures) (search needs)
 
 returns-2 : tie.Need-returns-2
-returns-2 c = last-answered (c .before .before .before .before .before .before .answer-lines .ensures) (c .before .before .reply-at .ensures) (search needs)
+returns-2 c =
+    let reply = c .before .before in
+    let lines = reply .before .before .before .before in
+    last-answered (lines .answer-lines .ensures) (reply .reply-at .ensures) (search needs)
 
 pub answer-input-spec : {M : Type 1} → statement M
 answer-input-spec =
