@@ -1,117 +1,180 @@
 -- Laws of `Feeds`: a part of a line, a line that ends, both parts of a piece, and nothing. Assumes nothing.
-use Prim.Native.Nat.{ℕ, suc, _+_, _-_, _≤_, _<_}
+use Prim.Native.Nat.{ℕ, suc, _+_, _-_, _^_, _≤_, _<_}
 use native.Mathlib.Omega.{arith}
-use mathlib.Core.Path.{_≡_, refl, sym, _∙_, ap}
+use mathlib.Core.Path.{_≡_, refl, sym, _∙_, ap, subst}
+use mathlib.Core.Bool.{Bool, true, false, cond}
 use mathlib.Core.List.{List, [], _++_}
-use lib.ListN.{length, take, drop, replicate, length-drop, length-take}
-use lib.Seq.{take-at, take-add, drop-drop}
+use lib.ListN.{length, take, drop, length-drop, length-take}
+use lib.Seq.{take-add, drop-drop}
 use Rattle.table.specs.declared.Table.{Table}
-use Rattle.lines.specs.declared.Place.{Place}
-use Rattle.lines.specs.Places.{lineAfter, nextLine}
-use Rattle.lines.specs.Buffers.{put}
-use Rattle.lines.specs.Buffers as buffers
-use Rattle.lines.proofs.Leading.{leading-within}
+use Rattle.table.specs.Clean.{emptyTable}
+use Rattle.places.specs.declared.Place.{Place}
+use Rattle.places.specs.Places.{lineAfter, nextLine}
+use Rattle.places.proofs.Leading.{leading-within}
 use Rattle.replies.specs.declared.Reply.{Reply}
-use Rattle.replies.specs.Replies.{ROOM, Says}
-use Rattle.printing.specs.Written.{Wrote}
-use Rattle.printing.proofs.Wrote.{wrote-put, wrote-then, wrote-nothing, wrote-length}
+use Rattle.replies.specs.declared.Passed.{Passed}
+use Rattle.replies.specs.Replies.{ROOM}
+use Rattle.fields.specs.Written.{Wrote}
+use Rattle.fields.proofs.Wrote.{wrote-then, wrote-nothing}
+use Rattle.sheets.specs.Lines.{Prints}
+use Rattle.sheets.specs.Sheets.{State, longer, ended, stop}
+use Rattle.feed.specs.declared.Begun.{Begun}
 use Rattle.feed.specs.declared.Sheet.{Sheet}
 use Rattle.feed.specs.declared.Fed.{Fed}
-use Rattle.sheets.specs.Sheets.{State, longer, ended, stop}
-use Rattle.feed.specs.Sheets.{KEPT, StandsFor, Keeps, RepliesAt, ofLine, lineEnd}
+use Rattle.feed.specs.declared.Run.{Run}
+use Rattle.feed.specs.Sheets.{BegunOf, StandsFor, RepliesAt, ofLine, lineEnd}
 use Rattle.feed.specs.Sheets.{FeedsFrom, Feeds}
-use Rattle.feed.proofs.Reading.{reads-then, reads-part, reads-line}
+use Rattle.feed.specs.Parts.{Longer, PassesEnded, PassesOn, sheetOf, fedOf}
+use Rattle.feed.proofs.Reading.{reads-then, reads-part, reads-line, reads-number}
 
 -- A line ends within the piece.
 pub end-within : (input : List ℕ) (from : ℕ) → from ≤ length input → from + lineEnd (drop from input) ≤ length input
 end-within input from l = omega (arith, leading-within ofLine (drop from input), length-drop from input)
 
--- The bytes of a reply.
-pub said : {bs : List ℕ} {u : Table} {r : Reply} → Says bs u r → take (r .count) (r .bytes) ≡ bs
-said {bs} {u} {r} says =
-    ap (take (r .count)) (says .bytes) ∙ take-at bs (replicate (ROOM - length bs) 0) (r .count) (sym (says .count))
+-- No byte of the next line is kept yet.
+abbrev pub nextBegun : Place → List ℕ → Begun
+nextBegun place bytes = record { place = place; bytes = bytes; length = 0 }
 
--- The sheet at the start of the next line, with the table that the reply left.
-abbrev pub nextSheet : Sheet → Reply → Place → Sheet
-nextSheet c r place = record { table = r .table; place = place; line = c .line }
-
-next-stands :
-    {s : State} {c : Sheet} {r : Reply} {place : Place} {bs : List ℕ} {u : Table} → StandsFor s c → Says bs u r
-    → place ≡ nextLine (c .place) → StandsFor (ended s u) (nextSheet c r place)
-next-stands {c = c} f says e =
+next-begun :
+    {n : ℕ} (place : Place) {next : Place} (bytes : List ℕ) → place .line ≡ n → next ≡ nextLine place → n + 1 < 2 ^ 32
+    → BegunOf (suc n) [] (nextBegun next bytes)
+next-begun {n} place bytes e f small =
+    let counted : lineAfter n ≡ suc n = omega arith in
     record {
-      table = says .table;
-      number = ap (λ (p : Place). p .line) e ∙ ap lineAfter (f .number);
-      offset = ap (λ (p : Place). p .offset) e;
-      kept = ap (λ (p : Place). take (p .offset) (c .line)) e;
+      number = ap (λ (p : Place). p .line) f ∙ ap lineAfter e ∙ counted;
+      offset = ap (λ (p : Place). p .offset) f;
+      bytes = refl;
     }
 
-module _ {c kept : Sheet} {input : List ℕ} {from end : ℕ} {before : List ℕ} {at : ℕ} (begun : from ≤ length input)
-    (found : end ≡ from + lineEnd (drop from input)) (keeps : Keeps c (take (end - from) (drop from input)) kept) where
+-- What a line prints that these bytes end, from a state.
+record Ends (s : State) (part before : List ℕ) (at : ℕ) (after : List ℕ) (u : Table) (place : Place) (next : ℕ) :
+    Type 0 where
+  printed : List ℕ
+  prints : Prints (s .table) (s .number) (s .line ++ part) printed u
+  wrote : Wrote printed before at after next
+  number : place .line ≡ s .number
+
+module _ {c : Sheet} {input : List ℕ} {from end : ℕ} {before : List ℕ} {at : ℕ} (begun : from ≤ length input)
+    (found : end ≡ from + lineEnd (drop from input)) where
   -- The piece ends, and with it a part of a line.
   pub feeds-part :
-      at ≤ length before → Feeds c input from before at (record { sheet = kept; read = end; printed = at }) before
-  feeds-part room =
+      {kept : Begun} → Longer (c .begun) (take (end - from) (drop from input)) kept → at ≤ length before
+      → Feeds c input from before at (record { sheet = sheetOf (c .table) kept; read = end; printed = at }) before
+  feeds-part keeps room =
       record {
         begun = omega arith;
         read = omega (arith, end-within input from begun);
         printed = room;
         same-length = refl;
-        inside = keeps .inside;
-        feeds = λ s f.
+        feeds = λ s f small.
             record {
               state = longer s (take (end - from) (drop from input));
               printed = [];
-              stands = keeps .longer-line s f;
+              stands = record { table = f .table; line = keeps (s .number) (s .line) (f .line) };
               reads = reads-part s (end - from) (drop from input) (omega arith);
               wrote = wrote-nothing room;
             };
       }
 
   -- A line ends, and its reply is written.
-  module _ {r : Reply} {place : Place} {after : List ℕ} {printed : ℕ} (inside : end < length input)
-      (replies : RepliesAt kept r) (next : place ≡ nextLine (kept .place))
-      (wrote : Wrote (take (r .count) (r .bytes)) before at after printed) where
-    from-state :
-        (s : State) → StandsFor s c
-        → FeedsFrom s input from before at
-        (record { sheet = nextSheet kept r place; read = end + 1; printed = printed }) after
-    from-state s f =
-        let part = take (end - from) (drop from input) in
-        let stands = keeps .longer-line s f in
-        let reply = replies .replies (longer s part) stands in
-        let past : end + 1 - from ≡ suc (end - from) = omega arith in
-        let short : end - from < length (drop from input) = omega (arith, length-drop from input) in
-        record {
-          state = ended (longer s part) (reply .after);
-          printed = reply .printed;
-          stands = next-stands stands (reply .says) next;
-          reads = rw past (reads-line s (end - from) (drop from input) (omega arith) short (reply .prints));
-          wrote = rw (said (reply .says)) at wrote;
-        }
+  module _ {after : List ℕ} {u : Table} {place next : Place} {printed : ℕ} (bytes : List ℕ)
+      (inside : end < length input) (moved : next ≡ nextLine place) (within : printed ≤ length before)
+      (same : length after ≡ length before)
+      (told :
+      (s : State) → StandsFor s c → Ends s (take (end - from) (drop from input)) before at after u place printed)
+    where
+      from-state :
+          (s : State) → StandsFor s c → s .number + (end + 1 - from) < 2 ^ 32
+          → FeedsFrom s input from before at
+          (record { sheet = sheetOf u (nextBegun next bytes); read = end + 1; printed = printed }) after
+      from-state s f small =
+          let part = take (end - from) (drop from input) in
+          let reply = told s f in
+          let past : end + 1 - from ≡ suc (end - from) = omega arith in
+          let short : end - from < length (drop from input) = omega (arith, length-drop from input) in
+          record {
+            state = ended (longer s part) u;
+            printed = reply .printed;
+            stands = record { table = refl; line = next-begun place bytes (reply .number) moved (omega arith) };
+            reads = rw past (reads-line s (end - from) (drop from input) (omega arith) short (reply .prints));
+            wrote = reply .wrote;
+          }
 
-    pub feeds-line :
-        Feeds c input from before at
-        (record { sheet = nextSheet kept r place; read = end + 1; printed = printed }) after
-    feeds-line =
-        record {
-          begun = omega arith;
-          read = omega arith;
-          printed = omega (arith, wrote .place, wrote .room);
-          same-length = wrote-length wrote;
-          inside = omega (arith, ap (λ (p : Place). p .offset) next);
-          feeds = from-state;
-        }
+      feeds-ended :
+          Feeds c input from before at
+          (record { sheet = sheetOf u (nextBegun next bytes); read = end + 1; printed = printed }) after
+      feeds-ended =
+          record { begun = omega arith; read = omega arith; printed = within; same-length = same; feeds = from-state }
 
--- A reply is written where there is room for every reply.
-pub wrote-reply :
-    (r : Reply) {before after : List ℕ} {at printed : ℕ} → r .count ≤ ROOM → at + ROOM ≤ length before
-    → (after ≡ put before at (take (r .count) (r .bytes)))
-    × (printed ≡ buffers.next before at (take (r .count) (r .bytes)))
-    → Wrote (take (r .count) (r .bytes)) before at after printed
-wrote-reply r few room wrote =
-    let most = length-take (r .count) (r .bytes) in
-    wrote-put (omega arith) wrote
+  -- With the table.
+  pub feeds-line :
+      {kept : Begun} {after : List ℕ} {r : Reply} {next : Place} (bytes : List ℕ)
+      → Longer (c .begun) (take (end - from) (drop from input)) kept → end < length input → at + ROOM ≤ length before
+      → RepliesAt (sheetOf (c .table) kept) before at after r → next ≡ nextLine (r .place)
+      → Feeds c input from before at
+      (record { sheet = sheetOf (r .table) (nextBegun next bytes); read = end + 1; printed = r .next }) after
+  feeds-line {r = r} bytes keeps inside room replies moved =
+      feeds-ended {place = r .place} bytes inside moved (replies .inside (omega arith)) (replies .same-length)
+      (λ s f.
+      let part = take (end - from) (drop from input) in
+      let stands : StandsFor (longer s part) _ =
+      record { table = f .table; line = keeps (s .number) (s .line) (f .line) } in
+      let w = replies .replies room (longer s part) stands in
+      record { printed = w .printed; prints = w .prints; wrote = w .wrote; number = w .number })
+
+-- Nothing is read.
+pub feeds-nothing :
+    (c : Sheet) (input : List ℕ) (from : ℕ) (before : List ℕ) (at : ℕ) → from ≤ length input → at ≤ length before
+    → Feeds c input from before at (record { sheet = c; read = from; printed = at }) before
+feeds-nothing c input from before at l m =
+    let none : from - from ≡ 0 = omega arith in
+    record {
+      begun = omega arith;
+      read = l;
+      printed = m;
+      same-length = refl;
+      feeds = λ s f small.
+          record { state = s; printed = []; stands = f; reads = rw none stop; wrote = wrote-nothing m };
+    }
+
+met : {t z u : Table} {n : ℕ} {line bs : List ℕ} → t ≡ z → Prints t n line bs u → Prints z n line bs u
+met {u = u} {n} {line} {bs} e p = subst (λ (x : Table). Prints x n line bs u) e p
+
+-- Without it: the line was answered whatever the table is, or nothing was done.
+module _ {k : Begun} {input : List ℕ} {from : ℕ} {before : List ℕ} {at : ℕ} {after : List ℕ}
+    (begun : from ≤ length input) (room : at ≤ length before) where
+  pub passes-line :
+      {end : ℕ} {r : Passed} {next : Place} (bytes : List ℕ) → end ≡ from + lineEnd (drop from input)
+      → end < length input
+      → r .answered ≡ true → PassesEnded k (take (end - from) (drop from input)) before at after r
+      → next ≡ nextLine (r .place)
+      → PassesOn k input from before at after
+      (record { begun = nextBegun next bytes; read = end + 1; printed = r .next; more = true })
+  passes-line {r = r} bytes found inside answered h moved =
+      record {
+        feeds = λ t.
+            feeds-ended {c = sheetOf t k} begun found {u = t} {place = r .place} bytes inside moved
+            (h .inside room) (h .same-length)
+            (λ s f.
+            let w = h .answered answered (s .number) (s .line) (f .line) in
+            record {
+              printed = w .printed;
+              prints = met (f .table) (w .prints t);
+              wrote = w .wrote;
+              number = w .number;
+            });
+        more = λ _. omega arith;
+      }
+
+  pub passes-none :
+      after ≡ before → (b : Bool)
+      → (b ≡ true → from < from)
+      → PassesOn k input from before at after (record { begun = k; read = from; printed = at; more = b })
+  passes-none e b never =
+      record {
+        feeds = λ t. rw e (feeds-nothing (sheetOf t k) input from before at begun room);
+        more = never;
+      }
 
 -- Both parts of a piece.
 parts : (xs : List ℕ) (from middle end : ℕ) → from ≤ middle → middle ≤ end
@@ -121,6 +184,21 @@ parts xs from middle end l m =
     let past : from + (middle - from) ≡ middle = omega arith in
     rw (all, take-add (middle - from) (end - middle) (drop from xs), drop-drop (middle - from) from xs, past)
 
+feeds-both :
+    {s : State} {input : List ℕ} {from : ℕ} {before : List ℕ} {at : ℕ} {f r : Fed} {middle after : List ℕ}
+    → take (r .read - from) (drop from input)
+    ≡ take (f .read - from) (drop from input) ++ take (r .read - f .read) (drop (f .read) input)
+    → (one : FeedsFrom s input from before at f middle)
+    → FeedsFrom (one .state) input (f .read) middle (f .printed) r after → FeedsFrom s input from before at r after
+feeds-both whole one two =
+    record {
+      state = two .state;
+      printed = one .printed ++ two .printed;
+      stands = two .stands;
+      reads = rw whole (reads-then (one .reads) (two .reads));
+      wrote = wrote-then (one .wrote) (two .wrote);
+    }
+
 pub feeds-then :
     {c : Sheet} {input : List ℕ} {from : ℕ} {before : List ℕ} {at : ℕ} {f r : Fed} {middle after : List ℕ}
     → Feeds c input from before at f middle
@@ -128,33 +206,33 @@ pub feeds-then :
 feeds-then {c} {input} {from} {before} {at} {f} {r} {middle} {after} first second =
     let whole = parts input from (f .read) (r .read) (first .begun) (second .begun) in
     record {
-      begun = omega arith;
+      begun = omega (arith, first .begun, second .begun);
       read = second .read;
-      printed = omega arith;
+      printed = omega (arith, second .printed, first .same-length);
       same-length = second .same-length ∙ first .same-length;
-      inside = second .inside;
-      feeds = λ s stands.
-          let one = first .feeds s stands in
-          let two = second .feeds (one .state) (one .stands) in
-          record {
-            state = two .state;
-            printed = one .printed ++ two .printed;
-            stands = two .stands;
-            reads = rw whole (reads-then (one .reads) (two .reads));
-            wrote = wrote-then (one .wrote) (two .wrote);
-          };
+      feeds = λ s stands small.
+          let one = first .feeds s stands (omega (arith, first .begun, second .begun)) in
+          let few = length-take (f .read - from) (drop from input) in
+          let two =
+          second .feeds (one .state) (one .stands)
+          (omega (arith, few, reads-number (one .reads), first .begun, second .begun)) in
+          feeds-both whole one two;
     }
 
--- Nothing is read yet.
-pub feeds-nothing :
-    (c : Sheet) (input before : List ℕ) → c .place .offset ≤ KEPT
-    → Feeds c input 0 before 0 (record { sheet = c; read = 0; printed = 0 }) before
-feeds-nothing c input before l =
-    record {
-      begun = omega arith;
-      read = omega arith;
-      printed = omega arith;
-      same-length = refl;
-      inside = l;
-      feeds = λ s f. record { state = s; printed = []; stands = f; reads = stop; wrote = wrote-nothing (omega arith) };
-    }
+-- Lines that leave the table alone, one after another; then with the table.
+pub passes-then :
+    {k : Begun} {input : List ℕ} {from : ℕ} {before : List ℕ} {at : ℕ} (q : Run) {r : Run} {middle after : List ℕ}
+    → ((t : Table) → Feeds (sheetOf t k) input from before at (fedOf t q) middle)
+    → PassesOn (q .begun) input (q .read) middle (q .printed) after r
+    → (t : Table) → Feeds (sheetOf t k) input from before at (fedOf t r) after
+passes-then q first second t = feeds-then (first t) (second .feeds t)
+
+-- Each line leaves less to read, and where there are no more of them nothing is left.
+pub passes-less :
+    (size : ℕ) (q r : Run) → q .more ≡ true → (r .more ≡ true → q .read < r .read) → r .read ≤ size
+    → cond (r .more) (suc (size - r .read)) 0 < cond (q .more) (suc (size - q .read)) 0
+passes-less size q r e more within = rw e (go (r .more) more)
+  where
+    go : (b : Bool) → (b ≡ true → q .read < r .read) → cond b (suc (size - r .read)) 0 < suc (size - q .read)
+    go true m = omega (arith, m refl)
+    go false m = omega arith

@@ -1,39 +1,47 @@
 -- The code's sheet that comes in pieces. Assumes nothing.
-use Prim.Native.Nat.{ℕ, _-_, _≤_}
+use Prim.Native.Nat.{ℕ, _+_, _-_, _^_, _≤_, _<_}
 use mathlib.Core.Path.{_≡_}
 use mathlib.Core.Bool.{Bool, not}
 use mathlib.Core.List.{List, [], _++_}
 use lib.Dec.{eqb}
 use lib.ListN.{length, take, drop}
-use Rattle.lines.specs.Texts.{NEWLINE}
-use Rattle.lines.specs.Places.{leading}
-use Rattle.sheets.specs.Sheets.{State, longer, Reads}
+use Rattle.fields.specs.Texts.{NEWLINE}
+use Rattle.places.specs.Places.{leading}
+use Rattle.sheets.specs.Sheets.{State, Reads}
 use Rattle.replies.specs.declared.Reply.{Reply}
+use Rattle.feed.specs.declared.Begun.{Begun}
 use Rattle.feed.specs.declared.Sheet.{Sheet}
 use Rattle.feed.specs.declared.Fed.{Fed}
 use Rattle.replies.specs.Replies.{Replies, ROOM}
-use Rattle.printing.specs.Written.{Wrote}
+use Rattle.fields.specs.Written.{Wrote}
 
 -- How many bytes of a line the code keeps: one more than a line may have.
 abbrev pub KEPT : ℕ
 KEPT = 121
 
--- The code's sheet stands for a state: it has the first bytes of the line at hand.
+-- The line at hand has this number and begins with the bytes that are kept. A length that passes the array counts as
+-- far as the array goes.
+pub record BegunOf (n : ℕ) (line : List ℕ) (k : Begun) : Type 0 where
+  pub number : k .place .line ≡ n
+  pub offset : k .place .offset ≡ 0
+  pub bytes : take (k .length) (k .bytes) ≡ take KEPT line
+
+-- The code's sheet stands for a state.
 pub record StandsFor (s : State) (c : Sheet) : Type 0 where
   pub table : c .table ≡ s .table
-  pub number : c .place .line ≡ s .number
-  pub offset : c .place .offset ≡ length (take KEPT (s .line))
-  pub kept : take (c .place .offset) (c .line) ≡ take KEPT (s .line)
+  pub line : BegunOf (s .number) (s .line) (c .begun)
 
--- Bytes behind the line at hand.
-pub record Keeps (c : Sheet) (bytes : List ℕ) (r : Sheet) : Type 0 where
-  pub inside : r .place .offset ≤ KEPT
-  pub longer-line : (s : State) → StandsFor s c → StandsFor (longer s bytes) r
-
--- The reply to the line at hand, of every state that the sheet stands for.
-pub record RepliesAt (c : Sheet) (r : Reply) : Type 0 where
-  pub room : r .count ≤ ROOM
-  pub replies : (s : State) → StandsFor s c → Replies (s .table) (s .number) (s .line) r
+-- The reply to the line at hand, of every state that the sheet stands for, if there is room for every reply; else
+-- nothing is done.
+pub record RepliesAt (c : Sheet) (before : List ℕ) (at : ℕ) (after : List ℕ) (r : Reply) : Type 0 where
+  pub inside : at ≤ length before → r .next ≤ length before
+  pub same-length : length after ≡ length before
+  pub replies :
+      at + ROOM ≤ length before → (s : State) → StandsFor s c
+      → Replies (s .table) (s .number) (s .line) before at after r
+  pub short :
+      (at + ROOM ≤ length before → ⊥)
+      → (r ≡ record { table = c .table; place = c .begun .place; next = at }) × (after ≡ before)
 
 -- A byte of a line: any but the newline.
 abbrev pub ofLine : ℕ → Bool
@@ -53,15 +61,16 @@ pub record FeedsFrom (s : State) (input : List ℕ) (from : ℕ) (before : List 
   pub reads : Reads s (take (r .read - from) (drop from input)) printed state
   pub wrote : Wrote printed before at after (r .printed)
 
--- The same from every state that the sheet stands for.
+-- The same from every state that the sheet stands for, as long as line numbers fit 32 bits: no line is without a byte,
+-- so none passes the number at hand and the bytes read.
 pub record Feeds (c : Sheet) (input : List ℕ) (from : ℕ) (before : List ℕ) (at : ℕ) (r : Fed) (after : List ℕ) :
     Type 0 where
   pub begun : from ≤ r .read
   pub read : r .read ≤ length input
   pub printed : r .printed ≤ length before
   pub same-length : length after ≡ length before
-  pub inside : r .sheet .place .offset ≤ KEPT
-  pub feeds : (s : State) → StandsFor s c → FeedsFrom s input from before at r after
+  pub feeds :
+      (s : State) → StandsFor s c → s .number + (r .read - from) < 2 ^ 32 → FeedsFrom s input from before at r after
 
 -- A sheet fed piece by piece, each from where the last stood: the bytes that were read, and those that were printed,
 -- one after another. What isn't read of a piece is fed again.

@@ -1,4 +1,4 @@
-// The reply to a line of a sheet: the table after it, and the bytes that it prints.
+// The reply to a line of a sheet: the table after it, and the bytes that it prints, written into a lent buffer.
 use calls::AddAnswer;
 use calls::Added;
 use calls::ListAnswer;
@@ -7,33 +7,36 @@ use calls::RemoveAnswer;
 use calls::refusal_number;
 use changes::add;
 use changes::remove;
+use label_lines::write_labels;
 use lines::Command;
 use lines::Parsed;
 use lines::Reading;
 use lines::read::read;
-use printing::write_labels;
+use places::Place;
 use printing::write_named;
 use printing::write_refusal;
 use printing::write_why;
 use reasons::reason;
 use sound::sound;
 use table::Table;
-ghost use mathlib.Core.List.{[]};
+ghost use mathlib.Core.Path.{_≡_};
 ghost use Prim.Native.Nat.{_+_, _≤_};
+ghost use lib.Dec.{leb};
 ghost use lib.ListN.{length, take, drop};
 ghost use Rattle.table.specs.Questions.{ruleFrom};
 ghost use Rattle.calls.specs.Contracts.{AddEnds};
 ghost use Rattle.lines.specs.Commands as sheet;
 ghost use Rattle.lines.specs.Readings.{ENTRIES, commandOf};
-ghost use Rattle.printing.specs.Printed.{named, refusalLine};
-ghost use Rattle.replies.specs.Replies.{Says, Replies};
-ghost use Rattle.replies.specs.Parts.{Obeys, RepliesRead, positives, negatives};
+ghost use Rattle.printing.specs.Printed.{refusalLine};
+ghost use Rattle.printing.specs.Printed.{named as namedLine};
+ghost use Rattle.replies.specs.Replies.{ROOM, RepliesIn, Passes};
+ghost use Rattle.replies.specs.Parts.{Says, Obeys, Judges, Unread, positives, negatives};
 
-// The table after a line, and the bytes that the line prints: the first `count` of them. All that follow are 0.
+// The table after a line, the place where its reading stopped, and the place in the buffer behind what it prints.
 pub struct Reply {
     pub table: Table,
-    pub count: usize,
-    pub bytes: [u8; Reply::ROOM],
+    pub place: Place,
+    pub next: usize,
 }
 
 impl Reply {
@@ -41,40 +44,51 @@ impl Reply {
     pub const ROOM: usize = 8192;
 }
 
-// A line that prints nothing.
-fn silent(table: Table) -> Reply
-    ensures { λ r. ⌜ Says [] table r ⌝ }
-{
-    Reply {
-        table: table,
-        count: 0,
-        bytes: [0; Reply::ROOM],
-    }
+// A line answered without the table, unless it is a command or there is no room.
+pub struct Passed {
+    pub answered: bool,
+    pub place: Place,
+    pub next: usize,
 }
 
-fn refused(table: Table, number: u32, refusal: u32) -> Reply
-    ensures { λ r. ⌜ Says (refusalLine number refusal) table r ⌝ }
+// Questions 14 and 13 of a line: what it prints ends at this place of the buffer, or it is a command.
+enum Judged {
+    Told(usize),
+    Command(Command),
+}
+
+// Is there room for every reply at this place of a buffer?
+fn has_room(length: usize, at: usize) -> bool
+    ensures { λ r. ⌜ r ≡ leb (at + ROOM) length ⌝ }
 {
-    let mut bytes: [u8; Reply::ROOM] = [0; Reply::ROOM];
-    let count = write_refusal(&mut bytes, number, refusal);
+    if length < Reply::ROOM {
+        return false;
+    }
+    at <= length - Reply::ROOM
+}
+
+fn refused(table: Table, place: Place, refusal: u32, out: &mut [u8], at: usize) -> Reply
+    requires { ⌜ at + ROOM ≤ length (now out) ⌝ }
+    ensures { λ r. ⌜ Says (refusalLine (place .line) refusal) table place (now (out .entry)) at (now (out .exit)) r ⌝ }
+{
+    let next = write_refusal(out, at, place.line, refusal);
     Reply {
         table: table,
-        count: count,
-        bytes: bytes,
+        place: place,
+        next: next,
     }
 }
 
 // A word and a number.
-fn named(table: Table, word: &[u8], n: u32) -> Reply
-    requires { ⌜ length (now word) ≤ 8 ⌝ }
-    ensures { λ r. ⌜ Says (named (now (word .entry)) n) table r ⌝ }
+fn named(table: Table, place: Place, word: &[u8], n: u32, out: &mut [u8], at: usize) -> Reply
+    requires { ⌜ (length (now word) ≤ 8) × (at + ROOM ≤ length (now out)) ⌝ }
+    ensures { λ r. ⌜ Says (namedLine (now (word .entry)) n) table place (now (out .entry)) at (now (out .exit)) r ⌝ }
 {
-    let mut bytes: [u8; Reply::ROOM] = [0; Reply::ROOM];
-    let count = write_named(&mut bytes, word, n);
+    let next = write_named(out, at, word, n);
     Reply {
         table: table,
-        count: count,
-        bytes: bytes,
+        place: place,
+        next: next,
     }
 }
 
@@ -90,105 +104,163 @@ fn add_listed(table: Table, head: u32, entries: &[u32], p: usize, n: usize) -> A
 }
 
 // `A`: the addition, and the slot that it took.
-fn added(table: Table, number: u32, head: u32, parsed: Parsed) -> Reply
-    requires { ⌜ parsed .positives + parsed .negatives ≤ ENTRIES ⌝ }
-    ensures { λ r. ⌜ Obeys table number (sheet.add head (positives parsed) (negatives parsed)) r ⌝ }
+fn added(table: Table, head: u32, parsed: Parsed, out: &mut [u8], at: usize) -> Reply
+    requires { ⌜ (parsed .positives + parsed .negatives ≤ ENTRIES) × (at + ROOM ≤ length (now out)) ⌝ }
+    ensures { λ r. ⌜ Obeys table (parsed .place) (sheet.add head (positives parsed) (negatives parsed))
+        (now (out .entry)) at (now (out .exit)) r ⌝ }
 {
+    let place = parsed.place;
     let entries = parsed.entries;
     let done = add_listed(table, head, &entries, parsed.positives, parsed.negatives);
     let answer = done.answer;
     let after = done.table;
     match answer {
-        AddAnswer::Taken(slot) => named(after, b"slot", slot.0 as u32),
-        AddAnswer::Refused(f) => refused(after, number, refusal_number(f)),
+        AddAnswer::Taken(slot) => named(after, place, b"slot", slot.0 as u32, out, at),
+        AddAnswer::Refused(f) => refused(after, place, refusal_number(f), out, at),
     }
 }
 
 // `R`: the removal.
-fn removed(table: Table, number: u32, slot: u32) -> Reply
-    ensures { λ r. ⌜ Obeys table number (sheet.remove slot) r ⌝ }
+fn removed(table: Table, place: Place, slot: u32, out: &mut [u8], at: usize) -> Reply
+    requires { ⌜ at + ROOM ≤ length (now out) ⌝ }
+    ensures { λ r. ⌜ Obeys table place (sheet.remove slot) (now (out .entry)) at (now (out .exit)) r ⌝ }
 {
     let done = remove(table, slot);
     let answer = done.answer;
     let after = done.table;
     match answer {
-        RemoveAnswer::Removed => named(after, b"removed", slot),
-        RemoveAnswer::Refused(f) => refused(after, number, refusal_number(f)),
+        RemoveAnswer::Removed => named(after, place, b"removed", slot, out, at),
+        RemoveAnswer::Refused(f) => refused(after, place, refusal_number(f), out, at),
     }
 }
 
 // `W`: the reason of an atom. It has at most one slot for each atom.
-fn explained(table: Table, number: u32, atom: u32) -> Reply
-    ensures { λ r. ⌜ Obeys table number (sheet.why atom) r ⌝ }
+fn explained(table: Table, place: Place, atom: u32, out: &mut [u8], at: usize) -> Reply
+    requires { ⌜ at + ROOM ≤ length (now out) ⌝ }
+    ensures { λ r. ⌜ Obeys table place (sheet.why atom) (now (out .entry)) at (now (out .exit)) r ⌝ }
 {
     let mut slots: [u32; Table::ATOMS] = [0; Table::ATOMS];
     let answer = reason(table, atom, &mut slots);
     match answer {
         ListAnswer::Count(n) => {
-            let mut bytes: [u8; Reply::ROOM] = [0; Reply::ROOM];
-            let count = write_why(&mut bytes, &slots[..n]);
+            let next = write_why(out, at, &slots[..n]);
             Reply {
                 table: table,
-                count: count,
-                bytes: bytes,
+                place: place,
+                next: next,
             }
         }
-        ListAnswer::Refused(f) => refused(table, number, refusal_number(f)),
+        ListAnswer::Refused(f) => refused(table, place, refusal_number(f), out, at),
     }
 }
 
 // `L`: the label of each atom that occurs. As every call, it asks 15 first.
-fn listed(table: Table, number: u32) -> Reply
-    ensures { λ r. ⌜ Obeys table number sheet.labels r ⌝ }
+fn listed(table: Table, place: Place, out: &mut [u8], at: usize) -> Reply
+    requires { ⌜ at + ROOM ≤ length (now out) ⌝ }
+    ensures { λ r. ⌜ Obeys table place sheet.labels (now (out .entry)) at (now (out .exit)) r ⌝ }
 {
     if !sound(table) {
-        return refused(table, number, refusal_number(Refusal::Unsound));
+        return refused(table, place, refusal_number(Refusal::Unsound), out, at);
     }
     let labels = table.labels;
-    let mut bytes: [u8; Reply::ROOM] = [0; Reply::ROOM];
-    let count = write_labels(&mut bytes, labels);
+    let next = write_labels(out, at, labels);
     Reply {
         table: table,
-        count: count,
-        bytes: bytes,
+        place: place,
+        next: next,
     }
 }
 
 // What a command replies.
-fn obeyed(table: Table, number: u32, command: Command, parsed: Parsed) -> Reply
-    requires { ⌜ parsed .positives + parsed .negatives ≤ ENTRIES ⌝ }
-    ensures { λ r. ⌜ Obeys table number (commandOf command (positives parsed) (negatives parsed)) r ⌝ }
+fn obeyed(table: Table, command: Command, parsed: Parsed, out: &mut [u8], at: usize) -> Reply
+    requires { ⌜ (parsed .positives + parsed .negatives ≤ ENTRIES) × (at + ROOM ≤ length (now out)) ⌝ }
+    ensures { λ r. ⌜ Obeys table (parsed .place) (commandOf command (positives parsed) (negatives parsed))
+        (now (out .entry)) at (now (out .exit)) r ⌝ }
 {
+    let place = parsed.place;
     match command {
-        Command::Add(head) => added(table, number, head, parsed),
-        Command::Remove(slot) => removed(table, number, slot),
-        Command::Why(atom) => explained(table, number, atom),
-        Command::Labels => listed(table, number),
+        Command::Add(head) => added(table, head, parsed, out, at),
+        Command::Remove(slot) => removed(table, place, slot, out, at),
+        Command::Why(atom) => explained(table, place, atom, out, at),
+        Command::Labels => listed(table, place, out, at),
     }
 }
 
-// What a line replies whose questions 14 and 13 are to be asked. A line without the form is refused before the table
-// is touched.
-fn answered(table: Table, number: u32, parsed: Parsed) -> Reply
-    requires { ⌜ parsed .positives + parsed .negatives ≤ ENTRIES ⌝ }
-    ensures { λ r. ⌜ RepliesRead table number parsed r ⌝ }
+// Question 13 of a line that is neither blank nor too long. A line without the form is refused before the table is
+// touched.
+fn command_of(parsed: Parsed, out: &mut [u8], at: usize) -> Judged
+    requires { ⌜ at + ROOM ≤ length (now out) ⌝ }
+    ensures { λ r. ⌜ Unread parsed (now (out .entry)) at (now (out .exit)) r ⌝ }
 {
+    let place = parsed.place;
     let reading = parsed.reading;
     let Reading::Command(command) = reading else {
-        return refused(table, number, 13);
+        return Judged::Told(write_refusal(out, at, place.line, 13));
     };
-    obeyed(table, number, command, parsed)
+    Judged::Command(command)
 }
 
-// The reply to a line: a blank one prints nothing; else question 14, 13, and those of the call.
-pub fn reply_to(table: Table, number: u32, line: &[u8]) -> Reply
-    ensures { λ r. ⌜ Replies table number (now (line .entry)) r ⌝ }
+// A blank line prints nothing; else question 14, then 13.
+fn judge(parsed: Parsed, out: &mut [u8], at: usize) -> Judged
+    requires { ⌜ at + ROOM ≤ length (now out) ⌝ }
+    ensures { λ r. ⌜ Judges parsed (now (out .entry)) at (now (out .exit)) r ⌝ }
 {
-    let parsed = read(line);
+    let place = parsed.place;
     let reading = parsed.reading;
     match reading {
-        Reading::Blank => silent(table),
-        Reading::TooLong => refused(table, number, 14),
-        _ => answered(table, number, parsed),
+        Reading::Blank => Judged::Told(at),
+        Reading::TooLong => Judged::Told(write_refusal(out, at, place.line, 14)),
+        _ => command_of(parsed, out, at),
+    }
+}
+
+// The reply to the line that begins at the place, without the table: a command waits, and so does any line where there
+// is no room for every reply.
+pub fn pass(line: &[u8], place: Place, out: &mut [u8], at: usize) -> Passed
+    ensures { λ r. ⌜ Passes place (now (line .entry)) (now (out .entry)) at (now (out .exit)) r ⌝ }
+{
+    let waits = Passed {
+        answered: false,
+        place: place,
+        next: at,
+    };
+    if !has_room(out.len(), at) {
+        return waits;
+    }
+    let parsed = read(line, place);
+    let judged = judge(parsed, out, at);
+    let moved = parsed.place;
+    match judged {
+        Judged::Told(next) => Passed {
+            answered: true,
+            place: moved,
+            next: next,
+        },
+        Judged::Command(command) => waits,
+    }
+}
+
+// The reply to the line that begins at the place: its questions are 14, 13, and those of the call. Where there is no
+// room for every reply, nothing is done.
+pub fn reply_to(table: Table, line: &[u8], place: Place, out: &mut [u8], at: usize) -> Reply
+    ensures { λ r. ⌜ RepliesIn table place (now (line .entry)) (now (out .entry)) at (now (out .exit)) r ⌝ }
+{
+    if !has_room(out.len(), at) {
+        return Reply {
+            table: table,
+            place: place,
+            next: at,
+        };
+    }
+    let parsed = read(line, place);
+    let judged = judge(parsed, out, at);
+    let moved = parsed.place;
+    match judged {
+        Judged::Told(next) => Reply {
+            table: table,
+            place: moved,
+            next: next,
+        },
+        Judged::Command(command) => obeyed(table, command, parsed, out, at),
     }
 }

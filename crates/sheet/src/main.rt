@@ -1,4 +1,5 @@
 // The sheet program.
+// It reads at most the first 1,048,576 bytes of its input (`MOST` in crates/sheets/specs/Sheets.antt).
 fn main() {
-    stream::answer_input();
+    stream::run();
 }

@@ -1,4 +1,5 @@
 // The small tables of document 01, T1 to T11, with their labels and reasons.
+// It reads at most the first 1,048,576 bytes of its input (`MOST` in crates/sheets/specs/Sheets.antt).
 fn main() {
-    stream::answer_input();
+    stream::run();
 }

@@ -2,14 +2,33 @@
 use feed::Sheet;
 use feed::feed;
 use feed::reply_at;
+use libc::STDERR_FILENO;
 use libc::STDIN_FILENO;
 use libc::STDOUT_FILENO;
+use replies::Reply;
 ghost use Prim.Native.Nat.{_≤_};
 ghost use lib.ListN.{length};
-ghost use Rattle.feed.specs.Sheets.{KEPT};
+ghost use Rattle.replies.specs.Replies.{ROOM};
+ghost use Rattle.stream.specs.Answered.{AnswersPiece, AnswersLines, AnswersLast};
 
-// The most bytes of input that are read: what follows is as if the input ended there.
+// The most bytes of input that are read (`MOST` in crates/sheets/specs/Sheets.antt): what follows is as if the input
+// ended there.
 const MOST: usize = 1048576;
+
+// The sheet after what was fed to it, and whether all that it printed could be written.
+struct Answered {
+    sheet: Sheet,
+    written: bool,
+}
+
+// Writes bytes on standard output. Where that fails, one line on standard error says so.
+fn write_out(bytes: &[u8]) -> bool {
+    let written = io::write_all(STDOUT_FILENO, bytes);
+    if !written {
+        io::write_all(STDERR_FILENO, b"yeqontur: the output cannot be written\n");
+    }
+    written
+}
 
 // Reads once, at most as many bytes as are left to read.
 fn read_some(input: &mut [u8], left: usize) -> usize
@@ -24,41 +43,67 @@ fn read_some(input: &mut [u8], left: usize) -> usize
     io::count(got, input)
 }
 
-// Answers the lines of a piece.
-fn answer(sheet: Sheet, input: &[u8], out: &mut [u8]) -> Sheet
-    requires { ⌜ sheet .place .offset ≤ KEPT ⌝ }
-    ensures { λ r. ⌜ r .place .offset ≤ KEPT ⌝ }
+// Answers the lines of a piece: all of its bytes are fed, in order, unless what they print can't be written.
+fn answer(sheet: Sheet, input: &[u8], out: &mut [u8]) -> Answered
+    requires { ⌜ ROOM ≤ length (now out) ⌝ }
+    ensures { λ r. ⌜ AnswersPiece sheet (now (input .entry)) r ⌝ }
 {
     let mut s = sheet;
     let mut from: usize = 0;
-    let mut turns = input.len();
-    while turns > 0 && from < input.len() {
+    let mut written = true;
+    while written && from < input.len() {
         let fed = feed(s, &input[from..], out);
         let n = fed.printed;
-        io::write_all(STDOUT_FILENO, &out[..n]);
+        written = write_out(&out[..n]);
         s = fed.sheet;
         from += fed.read;
-        turns -= 1;
     }
-    s
+    Answered {
+        sheet: s,
+        written: written,
+    }
 }
 
-// Answers each line as it comes. A read that fails ends the input as its end does; the last line may lack its newline.
-pub fn answer_input() {
+// Answers each line as it comes, up to the end of the input. A read that fails ends the input as its end does.
+fn answer_lines(out: &mut [u8]) -> Answered
+    requires { ⌜ ROOM ≤ length (now out) ⌝ }
+    ensures { λ r. ⌜ AnswersLines (r .sheet) ⌝ }
+{
     let mut input = io::large_buffer();
-    let mut out = io::large_buffer();
-    let mut sheet = Sheet::start();
+    let mut done = Answered {
+        sheet: Sheet::start(),
+        written: true,
+    };
     let mut left = MOST;
-    while left > 0 {
+    while left > 0 && done.written {
         let n = read_some(&mut input, left);
         if n == 0 {
             break;
         }
-        sheet = answer(sheet, &input[..n], &mut out);
+        let s = done.sheet;
+        done = answer(s, &input[..n], out);
         left -= n;
     }
-    let last = reply_at(sheet);
-    let bytes = last.bytes;
-    let n = last.count;
-    io::write_all(STDOUT_FILENO, &bytes[..n]);
+    done
+}
+
+// Answers each line as it comes, and then the last one, which may lack its newline. Once something can't be written,
+// nothing more is read or written. What is handed back is the reply to the last line.
+pub fn answer_input() -> Reply
+    ensures { λ r. ⌜ AnswersLast r ⌝ }
+{
+    let mut out = io::large_buffer();
+    let done = answer_lines(&mut out);
+    let sheet = done.sheet;
+    let last = reply_at(sheet, &mut out, 0);
+    let n = last.next;
+    if done.written {
+        write_out(&out[..n]);
+    }
+    last
+}
+
+// The whole of a program: what `answer_input` hands back is for its contract alone.
+pub fn run() {
+    answer_input();
 }

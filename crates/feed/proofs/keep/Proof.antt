@@ -9,22 +9,26 @@ use lib.ListN.{length, take, length-set}
 use borrow.Author.Needs.{needs}
 use borrow.Author.Tests.{ltb-true, ltb-false}
 use Rattle.feed.specs.Sheets.{KEPT}
-use Rattle.feed.proofs.Kept.{keeps, kept-next, sheet-sized}
+use Rattle.feed.proofs.Keeping.{kept-longer, kept-next, begun-sized}
 use Rattle.feed.proofs.keep.Statement.{statement}
 use Rattle.feed.proofs.keep.Tie as tie
 
 abbrev Inv-loop : tie.InvT-loop
-Inv-loop bytes line₀ place table end₀ i₀ line end i =
+Inv-loop bytes line₀ place end₀ i₀ line end i =
     (i ≤ length bytes) × (end ≡ end₀ + i) × (end ≤ KEPT) × (length line ≡ KEPT)
     × (take end line ≡ take end₀ line₀ ++ take i bytes)
 
 abbrev μ-loop : tie.MeasureT-loop
-μ-loop bytes line₀ place table end₀ i₀ line end i = length bytes - i
+μ-loop bytes line₀ place end₀ i₀ line end i = length bytes - i
+
+within-requires : tie.Need-within-requires Inv-loop μ-loop
+within-requires c κs = search needs
 
 loop-holds : tie.Need-loop-holds Inv-loop μ-loop
 loop-holds c =
-    let s = c .before .before .before in
-    (omega arith, omega arith, s .pre, sheet-sized (s .args .sheet) _ (s .good .0), sym (append-nil _))
+    let s = c .before .before .before .before in
+    let long = begun-sized (s .args .begun) _ (s .good .0) in
+    (omega arith, omega arith, omega (arith, c .within .ensures), long, sym (append-nil _))
 
 shared-slice-read-line : tie.Need-shared-slice-read-line Inv-loop μ-loop
 shared-slice-read-line c = search needs
@@ -45,8 +49,8 @@ loop-again : tie.Need-loop-again Inv-loop μ-loop
 loop-again c =
     let at = c .before .before .before in
     let l = at .loop in
-    let a = at .before .before .before .before .args in
-    let kept = take (a .sheet .place .offset) (a .sheet .line) in
+    let a = c .before .before .before .before .before .before .before .before .args in
+    let kept = take (at .before .within .result) (a .begun .bytes) in
     let room = ltb-true (l .end) KEPT (c .before .if1 .taken) in (
       omega arith,
       omega arith,
@@ -58,13 +62,21 @@ loop-again c =
 returns : tie.Need-returns Inv-loop μ-loop
 returns c =
     let l = c .before .before .loop in
+    let s = c .before .before .before .before .before .before .before in
+    let w = c .before .before .before .within in
     let full = ltb-false (l .end) KEPT (c .if1 .left) in
-    keeps _ (l .i) refl refl (l .inv .1) (l .inv .4) (l .inv .0) (l .inv .2) (inr (omega arith))
+    let long = begun-sized (s .args .begun) _ (s .good .0) in
+    kept-longer (s .args .begun) _ (l .i) long (w .ensures) refl (l .inv .1) (l .inv .4)
+    (l .inv .0) (l .inv .2) (inr (omega arith))
 
 returns-2 : tie.Need-returns-2 Inv-loop μ-loop
 returns-2 c =
     let l = c .before .loop in
-    keeps _ (l .i) refl refl (l .inv .1) (l .inv .4) (l .inv .0) (l .inv .2) (inl (omega (arith, c .loop-test .left)))
+    let s = c .before .before .before .before .before .before in
+    let w = c .before .before .within in
+    let long = begun-sized (s .args .begun) _ (s .good .0) in
+    kept-longer (s .args .begun) _ (l .i) long (w .ensures) refl (l .inv .1) (l .inv .4)
+    (l .inv .0) (l .inv .2) (inl (omega (arith, c .loop-test .left)))
 
 pub keep-spec : {M : Type 1} → statement M
 keep-spec =
@@ -72,6 +84,7 @@ keep-spec =
     (tie.spec
     Inv-loop
     μ-loop
+    within-requires
     loop-holds
     shared-slice-read-line
     array-write-line

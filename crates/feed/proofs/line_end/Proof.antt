@@ -7,7 +7,7 @@ use mathlib.Core.Bool.{not}
 use lib.ListN.{length, drop}
 use borrow.Author.Needs.{needs}
 use borrow.Author.Tests.{eq-eqb, ne-eqb}
-use Rattle.lines.proofs.Leading.{seek-next, seek-stop, seek-end}
+use Rattle.places.proofs.Leading.{seek-next, seek-stop, seek-end}
 use Rattle.feed.specs.Sheets.{ofLine, lineEnd}
 use Rattle.feed.proofs.line_end.Statement.{statement}
 use Rattle.feed.proofs.line_end.Tie as tie

@@ -13,7 +13,9 @@ add-end : tie.Need-add-end
 add-end c = search needs
 
 slice-aggregate-add : tie.Need-slice-aggregate-add
-slice-aggregate-add c = omega (arith, c .before .before .pre, length-take (c .before .before .args .p) (c .before .before .args .entries .now))
+slice-aggregate-add c =
+    let s = c .before .before in
+    omega (arith, s .pre, length-take (s .args .p) (s .args .entries .now))
 
 mul-add : tie.Need-mul-add
 mul-add c = search needs

@@ -1,8 +1,8 @@
 -- `replies::added` meets its contract. Assumes nothing.
 use native.Mathlib.Omega.{arith}
-use lib.ListN.{length-map}
 use mathlib.Core.Path.{sym, _∙_, ap}
-use Rattle.lines.specs.Texts.{bytes}
+use lib.ListN.{length-map}
+use Rattle.fields.specs.Texts.{bytes}
 use Rattle.printing.specs.Printed.{refusalLine}
 use Rattle.sheets.specs.Lines as prints
 use Rattle.sheets.specs.Lines.{tellAdd}
@@ -16,9 +16,9 @@ slice-aggregate-add-listed c = search needs
 
 add-listed-requires : tie.Need-add-listed-requires
 add-listed-requires c κs =
-    let s = c .before .before in
-    let long = simp length-map at (s .good .1 .1 .1 .0 .1 .1 .1 .1 .1 .0 .1 .0 .1) in
-    omega (arith, s .pre, long)
+    let s = c .before .before .before .before in
+    let long = simp length-map at (s .good .1 .1 .0 .1 .1 .1 .1 .1 .1 .0 .1 .0 .1) in
+    omega (arith, s .pre .0, long)
 
 enum-known-answer : tie.Need-enum-known-answer
 enum-known-answer c = search needs
@@ -41,16 +41,30 @@ refusal-number-requires c κs = search needs
 refused-requires : tie.Need-refused-requires
 refused-requires c κs = search needs
 
+same-length : tie.Need-same-length
+same-length c = search needs
+
 returns : tie.Need-returns
 unfolding bytes
 returns c =
-    λ line e. replied (prints.add _ _ _ _ _ e (c .before .before .before .before .before .before .before .add-listed .ensures))
-    (ap (tellAdd _) (sym (c .before .before .before .before .answer .given .1))) (c .named .ensures)
+    let named = c .before .before in
+    let answer = named .before .before .before .before .before in
+    let add = answer .before .before .before in
+    λ line e. replied (prints.add _ _ _ _ _ e (add .add-listed .ensures))
+    (ap (tellAdd _) (sym (answer .answer .given .1))) (named .named .ensures)
+
+same-length-2 : tie.Need-same-length-2
+same-length-2 c = search needs
 
 returns-2 : tie.Need-returns-2
 returns-2 c =
-    λ line e. replied (prints.add _ _ _ _ _ e (c .before .before .before .before .before .before .add-listed .ensures))
-    (ap (refusalLine _) (c .before .refusal-number .ensures) ∙ ap (tellAdd _) (sym (c .before .before .before .answer2 .given .1))) (c .refused .ensures)
+    let refused = c .before .before in
+    let number = refused .before .before in
+    let answer = number .before .before in
+    let add = answer .before .before .before in
+    λ line e. replied (prints.add _ _ _ _ _ e (add .add-listed .ensures))
+    (ap (refusalLine _) (number .refusal-number .ensures) ∙ ap (tellAdd _) (sym (answer .answer2 .given .1)))
+    (refused .refused .ensures)
 
 pub added-spec : {M : Type 1} → statement M
 added-spec =
@@ -65,5 +79,7 @@ added-spec =
     enum-known-answer-2
     refusal-number-requires
     refused-requires
+    same-length
     returns
+    same-length-2
     returns-2)

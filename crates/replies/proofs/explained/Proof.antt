@@ -2,7 +2,7 @@
 use native.Mathlib.Omega.{arith}
 use mathlib.Core.Path.{refl, ap}
 use Rattle.printing.specs.Printed.{refusalLine}
-use Rattle.replies.proofs.Saying.{says, reason-said, count-within}
+use Rattle.replies.proofs.Saying.{reason-said, count-within}
 use borrow.Author.Needs.{needs}
 use Rattle.replies.proofs.explained.Statement.{statement}
 use Rattle.replies.proofs.explained.Tie as tie
@@ -16,23 +16,21 @@ reason-requires c κs = search needs
 enum-known-answer : tie.Need-enum-known-answer
 enum-known-answer c = search needs
 
-slice-aggregate-write-why : tie.Need-slice-aggregate-write-why
-slice-aggregate-write-why c = search needs
-
 array-share-prefix-slots : tie.Need-array-share-prefix-slots
 array-share-prefix-slots c =
-    let w = count-within _ (c .before .before .before .before .before .reason .ensures) (c .before .before .answer .given .1) in
+    let answer = c .before .before in
+    let reason = answer .before .before .before in
+    let w = count-within _ (reason .reason .ensures) (answer .answer .given .1) in
     omega (arith, w .0, w .1)
 
-slice-aggregate-write-why-2 : tie.Need-slice-aggregate-write-why-2
-slice-aggregate-write-why-2 c =
-    let w = count-within _ (c .before .before .before .before .before .before .reason .ensures) (c .before .before .before .answer .given .1) in
-    w .2
+slice-aggregate-write-why : tie.Need-slice-aggregate-write-why
+slice-aggregate-write-why c =
+    let answer = c .before .before .before in
+    let reason = answer .before .before .before in
+    count-within _ (reason .reason .ensures) (answer .answer .given .1) .2
 
 write-why-requires : tie.Need-write-why-requires
-write-why-requires c κs =
-    let w = count-within _ (c .before .before .before .before .before .before .reason .ensures) (c .before .before .before .answer .given .1) in
-    omega (arith, w .0, w .2)
+write-why-requires c κs = search needs
 
 enum-known-answer-2 : tie.Need-enum-known-answer-2
 enum-known-answer-2 c = search needs
@@ -43,15 +41,29 @@ refusal-number-requires c κs = search needs
 refused-requires : tie.Need-refused-requires
 refused-requires c κs = search needs
 
+same-length : tie.Need-same-length
+same-length c = search needs
+
 returns : tie.Need-returns
 returns c =
-    λ line e. reason-said _ _ _ _ line _ e (c .before .before .before .before .before .before .before .before .reason .ensures)
-    (c .before .before .before .before .before .answer .given .1) refl (says _ _ _ _ (c .before .write-why .ensures))
+    let write = c .before .before in
+    let answer = write .before .before .before .before in
+    let reason = answer .before .before .before in
+    let w = count-within _ (reason .reason .ensures) (answer .answer .given .1) in
+    λ line e. reason-said _ _ _ line _ e (reason .reason .ensures) (answer .answer .given .1) refl
+    (record { table = refl; place = refl; wrote = write .write-why .ensures .fits (omega (arith, w .0, w .2)) })
+
+same-length-2 : tie.Need-same-length-2
+same-length-2 c = search needs
 
 returns-2 : tie.Need-returns-2
 returns-2 c =
-    λ line e. reason-said _ _ _ _ line _ e (c .before .before .before .before .before .before .reason .ensures)
-    (c .before .before .before .answer2 .given .1) (ap (refusalLine _) (c .before .refusal-number .ensures)) (c .refused .ensures)
+    let refused = c .before .before in
+    let number = refused .before .before in
+    let answer = number .before .before in
+    let reason = answer .before .before .before in
+    λ line e. reason-said _ _ _ line _ e (reason .reason .ensures) (answer .answer2 .given .1)
+    (ap (refusalLine _) (number .refusal-number .ensures)) (refused .refused .ensures)
 
 pub explained-spec : {M : Type 1} → statement M
 explained-spec =
@@ -60,12 +72,13 @@ explained-spec =
     slice-aggregate-reason
     reason-requires
     enum-known-answer
-    slice-aggregate-write-why
     array-share-prefix-slots
-    slice-aggregate-write-why-2
+    slice-aggregate-write-why
     write-why-requires
     enum-known-answer-2
     refusal-number-requires
     refused-requires
+    same-length
     returns
+    same-length-2
     returns-2)

@@ -1,10 +1,11 @@
 -- `replies::listed` meets its contract. Assumes nothing.
+use native.Mathlib.Omega.{arith}
 use mathlib.Core.Path.{refl, ap}
 use Rattle.sound.proofs.Passes.{granted}
 use Rattle.sound.proofs.Passes.{refused as not-sound}
 use Rattle.printing.specs.Printed.{refusalLine}
 use Rattle.sheets.specs.Lines as prints
-use Rattle.replies.proofs.Saying.{says, replied}
+use Rattle.replies.proofs.Saying.{replied}
 use borrow.Author.Needs.{needs}
 use Rattle.replies.proofs.listed.Statement.{statement}
 use Rattle.replies.proofs.listed.Tie as tie
@@ -18,22 +19,32 @@ refusal-number-requires c κs = search needs
 refused-requires : tie.Need-refused-requires
 refused-requires c κs = search needs
 
+same-length : tie.Need-same-length
+same-length c = search needs
+
 returns : tie.Need-returns
 returns c =
-    λ line e. replied (prints.unsound e (not-sound _ (c .before .before .before .sound .ensures) (c .before .before .if1 .taken)))
-    (ap (refusalLine _) (c .before .refusal-number .ensures)) (c .refused .ensures)
-
-slice-aggregate-write-labels : tie.Need-slice-aggregate-write-labels
-slice-aggregate-write-labels c = search needs
+    let refused = c .before .before in
+    let number = refused .before .before in
+    let test = number .before in
+    let sound = test .before in
+    λ line e. replied (prints.unsound e (not-sound _ (sound .sound .ensures) (test .if1 .taken)))
+    (ap (refusalLine _) (number .refusal-number .ensures)) (refused .refused .ensures)
 
 write-labels-requires : tie.Need-write-labels-requires
 write-labels-requires c κs = search needs
 
+same-length-2 : tie.Need-same-length-2
+same-length-2 c = search needs
+
 returns-2 : tie.Need-returns-2
 returns-2 c =
-    λ line e. let S = granted _ (c .before .before .before .before .before .sound .ensures) (c .before .before .before .before .if1 .left) in
+    let write = c .before .before in
+    let test = write .before .before .before in
+    let sound = test .before in
+    λ line e. let S = granted _ (sound .sound .ensures) (test .if1 .left) in
     replied (prints.labels (S .labels .model) _ e S (S .labels .admissible) (S .labels .labels)) refl
-    (says _ _ _ _ (c .before .write-labels .ensures))
+    (record { table = refl; place = refl; wrote = write .write-labels .ensures .fits (omega arith) })
 
 pub listed-spec : {M : Type 1} → statement M
 listed-spec =
@@ -42,7 +53,8 @@ listed-spec =
     sound-requires
     refusal-number-requires
     refused-requires
+    same-length
     returns
-    slice-aggregate-write-labels
     write-labels-requires
+    same-length-2
     returns-2)

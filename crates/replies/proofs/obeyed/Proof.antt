@@ -8,11 +8,11 @@ use borrow.Author.Needs.{needs}
 use Rattle.replies.proofs.obeyed.Statement.{statement}
 use Rattle.replies.proofs.obeyed.Tie as tie
 
-enum-known-command : tie.Need-enum-known-command
-enum-known-command c = search needs
-
 abbrev told : Parsed → Command → Line
 told p x = is (commandOf x (positives p) (negatives p))
+
+enum-known-command : tie.Need-enum-known-command
+enum-known-command c = search needs
 
 added-requires : tie.Need-added-requires
 added-requires c κs = search needs
@@ -35,17 +35,45 @@ enum-told c = search needs
 listed-requires : tie.Need-listed-requires
 listed-requires c κs = search needs
 
+same-length : tie.Need-same-length
+same-length c = search needs
+
 returns : tie.Need-returns
-returns c = λ line e. c .added .ensures line (e ∙ ap (told (c .before .before .before .before .args .parsed)) (c .before .before .command .given .1))
+returns c =
+    let added = c .before .before in
+    let command = added .before .before .before in
+    let s = command .before .before .before .before in
+    λ line e. added .added .ensures line (e ∙ ap (told (s .args .parsed)) (command .command .given .1))
+
+same-length-2 : tie.Need-same-length-2
+same-length-2 c = search needs
 
 returns-2 : tie.Need-returns-2
-returns-2 c = λ line e. c .removed .ensures line (e ∙ ap (told (c .before .before .before .before .args .parsed)) (c .before .before .command2 .given .1))
+returns-2 c =
+    let removed = c .before .before in
+    let command = removed .before .before .before in
+    let s = command .before .before .before .before in
+    λ line e. removed .removed .ensures line (e ∙ ap (told (s .args .parsed)) (command .command2 .given .1))
+
+same-length-3 : tie.Need-same-length-3
+same-length-3 c = search needs
 
 returns-3 : tie.Need-returns-3
-returns-3 c = λ line e. c .explained .ensures line (e ∙ ap (told (c .before .before .before .before .args .parsed)) (c .before .before .command3 .given .1))
+returns-3 c =
+    let explained = c .before .before in
+    let command = explained .before .before .before in
+    let s = command .before .before .before .before in
+    λ line e. explained .explained .ensures line (e ∙ ap (told (s .args .parsed)) (command .command3 .given .1))
+
+same-length-4 : tie.Need-same-length-4
+same-length-4 c = search needs
 
 returns-4 : tie.Need-returns-4
-returns-4 c = λ line e. c .listed .ensures line (e ∙ ap (told (c .before .before .before .args .parsed)) (c .before .enum-told .given .1))
+returns-4 c =
+    let listed = c .before .before in
+    let told-step = listed .before .before in
+    let s = told-step .before .before .before .before in
+    λ line e. listed .listed .ensures line (e ∙ ap (told (s .args .parsed)) (told-step .enum-told .given .1))
 
 pub obeyed-spec : {M : Type 1} → statement M
 obeyed-spec =
@@ -59,7 +87,11 @@ obeyed-spec =
     explained-requires
     enum-told
     listed-requires
+    same-length
     returns
+    same-length-2
     returns-2
+    same-length-3
     returns-3
+    same-length-4
     returns-4)

@@ -1,6 +1,6 @@
 -- `replies::removed` meets its contract. Assumes nothing.
 use mathlib.Core.Path.{sym, _∙_, ap}
-use Rattle.lines.specs.Texts.{bytes}
+use Rattle.fields.specs.Texts.{bytes}
 use Rattle.printing.specs.Printed.{refusalLine}
 use Rattle.sheets.specs.Lines as prints
 use Rattle.sheets.specs.Lines.{tellRemove}
@@ -30,16 +30,30 @@ refusal-number-requires c κs = search needs
 refused-requires : tie.Need-refused-requires
 refused-requires c κs = search needs
 
+same-length : tie.Need-same-length
+same-length c = search needs
+
 returns : tie.Need-returns
 unfolding bytes
 returns c =
-    λ line e. replied (prints.remove _ _ _ e (c .before .before .before .before .before .remove .ensures))
-    (ap (tellRemove _ _) (sym (c .before .before .enum-told .given .1))) (c .named .ensures)
+    let named = c .before .before in
+    let told-step = named .before .before .before in
+    let remove = told-step .before .before .before in
+    λ line e. replied (prints.remove _ _ _ e (remove .remove .ensures))
+    (ap (tellRemove _ _) (sym (told-step .enum-told .given .1))) (named .named .ensures)
+
+same-length-2 : tie.Need-same-length-2
+same-length-2 c = search needs
 
 returns-2 : tie.Need-returns-2
 returns-2 c =
-    λ line e. replied (prints.remove _ _ _ e (c .before .before .before .before .before .before .remove .ensures))
-    (ap (refusalLine _) (c .before .refusal-number .ensures) ∙ ap (tellRemove _ _) (sym (c .before .before .before .answer .given .1))) (c .refused .ensures)
+    let refused = c .before .before in
+    let number = refused .before .before in
+    let answer = number .before .before in
+    let remove = answer .before .before .before in
+    λ line e. replied (prints.remove _ _ _ e (remove .remove .ensures))
+    (ap (refusalLine _) (number .refusal-number .ensures) ∙ ap (tellRemove _ _) (sym (answer .answer .given .1)))
+    (refused .refused .ensures)
 
 pub removed-spec : {M : Type 1} → statement M
 removed-spec =
@@ -52,5 +66,7 @@ removed-spec =
     enum-known-answer
     refusal-number-requires
     refused-requires
+    same-length
     returns
+    same-length-2
     returns-2)

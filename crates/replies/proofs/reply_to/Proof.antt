@@ -1,56 +1,80 @@
 -- `replies::reply_to` meets its contract. Assumes nothing.
-use mathlib.Core.Path.{refl, sym, _∙_}
-use Rattle.sheets.specs.Lines as prints
-use Rattle.replies.proofs.Saying.{replied, judged, told}
+use native.Mathlib.Omega.{arith}
+use lib.ListN.{length}
+use Rattle.replies.proofs.Saying.{has, lacks, reply-told, reply-obeyed, reply-short}
 use borrow.Author.Needs.{needs}
 use Rattle.replies.proofs.reply_to.Statement.{statement}
 use Rattle.replies.proofs.reply_to.Tie as tie
 
+has-room-requires : tie.Need-has-room-requires
+has-room-requires c κs = search needs
+
+returns : tie.Need-returns
+returns c = reply-short (lacks _ _ (c .before .has-room .ensures) (c .if1 .taken))
+
 read-requires : tie.Need-read-requires
 read-requires c κs = search needs
 
-enum-told : tie.Need-enum-told
-enum-told c = search needs
+judge-requires : tie.Need-judge-requires
+judge-requires c κs = has _ _ (c .before .before .before .has-room .ensures) (c .before .before .if1 .left)
 
-silent-requires : tie.Need-silent-requires
-silent-requires c κs = search needs
+enum-known-judged : tie.Need-enum-known-judged
+enum-known-judged c = search needs
 
-enum-told-2 : tie.Need-enum-told-2
-enum-told-2 c = search needs
+enum-known-judged-2 : tie.Need-enum-known-judged-2
+enum-known-judged-2 c = search needs
 
-refused-requires : tie.Need-refused-requires
-refused-requires c κs = search needs
+obeyed-requires : tie.Need-obeyed-requires
+obeyed-requires c κs =
+    let judge = c .before .before .before .before .before .before .before in
+    let read = judge .before .before in
+    let test = read .before in
+    let room-step = test .before in
+    let s = room-step .before .before .before in
+    let a = s .args in
+    let room = has (a .at) (length (a .out .now)) (room-step .has-room .ensures) (test .if1 .left) in
+    (read .read .ensures .0 .within, omega (arith, room, judge .judge .kept .1 .0))
 
-answered-requires : tie.Need-answered-requires
-answered-requires c κs = search needs
-
-returns : tie.Need-returns
-returns c =
-    let r = c .before .before .before .read in
-    replied (prints.blank (sym (r .ensures .meaning) ∙ told (r .result) _ (c .before .enum-told .given .1))) refl
-    (c .silent .ensures)
+same-length : tie.Need-same-length
+same-length c = search needs
 
 returns-2 : tie.Need-returns-2
 returns-2 c =
-    let r = c .before .before .before .read in
-    replied (prints.long (sym (r .ensures .meaning) ∙ told (r .result) _ (c .before .enum-told2 .given .1))) refl
-    (c .refused .ensures)
+    let judge = c .before .before .before .before .before .before in
+    let read = judge .before .before in
+    let test = read .before in
+    let room = test .before in
+    let r = read .read in
+    reply-told _ _ _ (r .result) (judge .judge .result) (r .ensures .0) (r .ensures .1) (judge .judge .ensures)
+    (has _ _ (room .has-room .ensures) (test .if1 .left)) (c .before .judged .given .1)
+
+same-length-2 : tie.Need-same-length-2
+same-length-2 c = search needs
 
 returns-3 : tie.Need-returns-3
 returns-3 c =
-    judged (c .before .before .read .result .reading) (c .before .match .keys3)
-    (c .answered .ensures _ (sym (c .before .before .read .ensures .meaning)))
+    let obeyed = c .before .before in
+    let judged = obeyed .before .before .before in
+    let judge = judged .before .before .before .before .before in
+    let read = judge .before .before in
+    let test = read .before in
+    let room = test .before in
+    let r = read .read in
+    reply-obeyed _ _ _ (r .result) (judge .judge .result) (r .ensures .0) (r .ensures .1) (judge .judge .ensures)
+    (has _ _ (room .has-room .ensures) (test .if1 .left)) (judged .judged2 .given .1) (obeyed .obeyed .ensures)
 
 pub reply-to-spec : {M : Type 1} → statement M
 reply-to-spec =
     tie.close
     (tie.spec
-    read-requires
-    enum-told
-    silent-requires
-    enum-told-2
-    refused-requires
-    answered-requires
+    has-room-requires
     returns
+    read-requires
+    judge-requires
+    enum-known-judged
+    enum-known-judged-2
+    obeyed-requires
+    same-length
     returns-2
+    same-length-2
     returns-3)

@@ -1,22 +1,31 @@
--- `stream::answer` meets its contract: what is kept of a line stays within its array. Assumes nothing.
-use Prim.Native.Nat.{_≤_}
+-- `stream::answer` meets its contract. The loop keeps: the bytes before the offset were fed. The measure is what is
+-- left of the piece: with room for a reply each turn reads at least a byte. Assumes nothing.
+use Prim.Native.Nat.{ℕ, _-_, _≤_, _<_}
 use native.Mathlib.Omega.{arith}
-use mathlib.Core.Path.{_≡_}
-use lib.ListN.{length}
-use Rattle.feed.specs.Sheets.{KEPT}
-use Rattle.stream.proofs.Parts.{first-part}
+use mathlib.Core.Path.{_≡_, refl, sym, _∙_}
+use mathlib.Core.List.{List, []}
+use lib.ListN.{length, take, drop}
+use Rattle.replies.specs.Replies.{ROOM}
+use Rattle.feed.specs.Sheets.{Pieces, none}
+use Rattle.feed.proofs.Keeping.{apart}
+use Rattle.stream.proofs.Parts.{first-part, part-length, pieces-more}
 use borrow.Author.Needs.{needs}
+use borrow.Author.Tests.{ltb-true, ltb-false}
 use Rattle.stream.proofs.answer.Statement.{statement}
 use Rattle.stream.proofs.answer.Tie as tie
 
 abbrev Inv-loop : tie.InvT-loop
-Inv-loop input out₀ s₀ from₀ turns₀ out s from turns = (s .place .offset ≤ KEPT) × (from ≤ length input) × (length out ≡ length out₀)
+Inv-loop input out₀ s₀ from₀ written₀ out s from written =
+    (from ≤ length input) × (ROOM ≤ length out) × (length out ≡ length out₀)
+    × ((printed : List ℕ) × Pieces s₀ (take from input) printed s)
 
 abbrev μ-loop : tie.MeasureT-loop
-μ-loop input out₀ s₀ from₀ turns₀ out s from turns = turns
+μ-loop input out₀ s₀ from₀ written₀ out s from written = length input - from
 
 loop-holds : tie.Need-loop-holds Inv-loop μ-loop
-loop-holds c = search needs
+loop-holds c =
+    let s = c .before .before in
+    (omega arith, s .pre, refl, ([], none))
 
 sub-feed : tie.Need-sub-feed Inv-loop μ-loop
 sub-feed c = search needs
@@ -30,40 +39,69 @@ part-feed-end c = search needs
 feed-requires : tie.Need-feed-requires Inv-loop μ-loop
 feed-requires c κs = search needs
 
-slice-reshare-prefix-write-all : tie.Need-slice-reshare-prefix-write-all Inv-loop μ-loop
-slice-reshare-prefix-write-all c = search needs
+slice-reshare-prefix-write-out : tie.Need-slice-reshare-prefix-write-out Inv-loop μ-loop
+slice-reshare-prefix-write-out c = search needs
 
-slice-aggregate-write-all : tie.Need-slice-aggregate-write-all Inv-loop μ-loop
-slice-aggregate-write-all c =
+slice-aggregate-write-out : tie.Need-slice-aggregate-write-out Inv-loop μ-loop
+slice-aggregate-write-out c =
     let f = c .before .before .before .feed .ensures .0 in
     first-part _ _ (omega (arith, f .printed, f .same-length))
 
-write-all-requires : tie.Need-write-all-requires Inv-loop μ-loop
-write-all-requires c κs = search needs
+write-out-requires : tie.Need-write-out-requires Inv-loop μ-loop
+write-out-requires c κs = search needs
 
 add-from : tie.Need-add-from Inv-loop μ-loop
 add-from c = search needs
 
-sub-turns : tie.Need-sub-turns Inv-loop μ-loop
-sub-turns c = search needs
-
 loop-less : tie.Need-loop-less Inv-loop μ-loop
-loop-less c = search needs
+loop-less c =
+    let fed = c .before .before .before .before .before .before in
+    let test = fed .before .before .before in
+    let top = test .before .before in
+    let l = top .loop in
+    let f = fed .feed .ensures in
+    let input = top .before .before .before .args .input .now in
+    let size = part-length (l .from) input in
+    let here = ltb-true (l .from) (length input) (test .if1 .taken) in
+    let some : 0 < length (take (length input - l .from) (drop (l .from) input)) = omega (arith, size) in
+    omega (arith, f .1 .1 some (l .inv .1), f .0 .read, size)
 
 loop-again : tie.Need-loop-again Inv-loop μ-loop
-loop-again c = search needs
+loop-again c =
+    let fed = c .before .before .before .before .before .before in
+    let top = fed .before .before .before .before .before in
+    let l = top .loop in
+    let f = fed .feed .ensures .0 in
+    let input = top .before .before .before .args .input .now in (
+      omega (arith, f .read, part-length (l .from) input),
+      omega (arith, l .inv .1, f .same-length),
+      f .same-length ∙ l .inv .2,
+      pieces-more input (l .from) (l .inv .3 .1) f,
+    )
 
 same-length : tie.Need-same-length Inv-loop μ-loop
 same-length c = search needs
 
 returns : tie.Need-returns Inv-loop μ-loop
-returns c = search needs
+returns c =
+    let l = c .before .before .loop in
+    let left = ltb-false (l .from) _ (c .if1 .left) in
+    let input = c .before .before .before .before .before .args .input .now in
+    let whole : l .from ≡ length input = omega (arith, l .inv .0, left) in
+    record { read = l .from; printed = l .inv .3 .0; pieces = l .inv .3 .1; whole = λ e. whole }
 
 same-length-2 : tie.Need-same-length-2 Inv-loop μ-loop
 same-length-2 c = search needs
 
 returns-2 : tie.Need-returns-2 Inv-loop μ-loop
-returns-2 c = search needs
+returns-2 c =
+    let l = c .before .loop in
+    record {
+      read = l .from;
+      printed = l .inv .3 .0;
+      pieces = l .inv .3 .1;
+      whole = λ e. absurd (apart (sym e ∙ c .loop-test .left));
+    }
 
 pub answer-spec : {M : Type 1} → statement M
 answer-spec =
@@ -76,11 +114,10 @@ answer-spec =
     part-feed-start
     part-feed-end
     feed-requires
-    slice-reshare-prefix-write-all
-    slice-aggregate-write-all
-    write-all-requires
+    slice-reshare-prefix-write-out
+    slice-aggregate-write-out
+    write-out-requires
     add-from
-    sub-turns
     loop-less
     loop-again
     same-length

@@ -23,8 +23,10 @@ same-length c = search needs
 
 returns : tie.Need-returns
 returns c =
-    count-whole _ _ (c .before .before .before .before .before .before .read .last .1 .0) _ (c .before .before .count .ensures .0 .0)
-    (c .before .before .before .before .before .before .read .kept .1 .0 ∙ sym (first-part _ _ (omega (arith, c .before .before .before .before .before .before .before .before .before .if1 .taken))))
+    let read = c .before .before .before .before .before .before in
+    let test = read .before .before .before in
+    count-whole _ _ (read .read .last .1 .0) _ (c .before .before .count .ensures .0 .0)
+    (read .read .kept .1 .0 ∙ sym (first-part _ _ (omega (arith, test .if1 .taken))))
 
 read-requires-2 : tie.Need-read-requires-2
 read-requires-2 c κs = search needs
