@@ -25,7 +25,8 @@ use Rattle.feed.specs.declared.Run.{Run}
 use Rattle.feed.specs.Sheets.{BegunOf, StandsFor, RepliesAt, ofLine, lineEnd}
 use Rattle.feed.specs.Sheets.{FeedsFrom, Feeds}
 use Rattle.feed.specs.Parts.{Longer, PassesEnded, PassesOn, sheetOf, fedOf}
-use Rattle.feed.proofs.Reading.{reads-then, reads-part, reads-line, reads-number}
+use Rattle.sheets.proofs.Reading.{reads-then, lines-at-most}
+use Rattle.feed.proofs.Reading.{reads-part, reads-line}
 
 -- A line ends within the piece.
 pub end-within : (input : List ℕ) (from : ℕ) → from ≤ length input → from + lineEnd (drop from input) ≤ length input
@@ -215,7 +216,7 @@ feeds-then {c} {input} {from} {before} {at} {f} {r} {middle} {after} first secon
           let few = length-take (f .read - from) (drop from input) in
           let two =
           second .feeds (one .state) (one .stands)
-          (omega (arith, few, reads-number (one .reads), first .begun, second .begun)) in
+          (omega (arith, few, lines-at-most (one .reads), first .begun, second .begun)) in
           feeds-both whole one two;
     }
 
