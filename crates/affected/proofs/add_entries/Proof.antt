@@ -20,7 +20,7 @@ abbrev μ-loop : tie.MeasureT-loop
 μ-loop from₀ to₀ count rule head n at₀ j₀ from to at j = n - j
 
 negative-end-requires : tie.Need-negative-end-requires Inv-loop μ-loop
-negative-end-requires c κs = search needs
+negative-end-requires c κs = tt
 
 -- what owning the rule tells of its entries
 long : (s : tie.Start Inv-loop μ-loop) → length (s .args .t1 .entries) ≡ document .entries

@@ -1,12 +1,11 @@
 -- `affected::is_kept` meets its contract. Assumes nothing.
 use mathlib.Core.Path.{ap}
 use lib.Dec.{eqb}
-use borrow.Author.Needs.{needs}
 use Rattle.affected.proofs.is_kept.Statement.{statement}
 use Rattle.affected.proofs.is_kept.Tie as tie
 
 slot-of-requires : tie.Need-slot-of-requires
-slot-of-requires c κs = search needs
+slot-of-requires c κs = tt
 
 returns : tie.Need-returns
 returns c = (let call = c .before .before in ap (λ k. eqb k (call .before .args .slot .0)) (call .slot-of .ensures))

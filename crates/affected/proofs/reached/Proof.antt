@@ -59,7 +59,7 @@ slice-aggregate-reach-2 : tie.Need-slice-aggregate-reach-2 Inv-loop μ-loop
 slice-aggregate-reach-2 c = (let w = c .before .before .before .loop .inv .1 .size-to in search needs)
 
 reach-requires : tie.Need-reach-requires Inv-loop μ-loop
-reach-requires c κs = search needs
+reach-requires c κs = tt
 
 returns : tie.Need-returns Inv-loop μ-loop
 returns c =

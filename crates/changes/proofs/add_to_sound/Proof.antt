@@ -39,13 +39,13 @@ other c =
     (c .if2 .left)
 
 first-no-requires : tie.Need-first-no-requires
-first-no-requires c κs = search needs
+first-no-requires c κs = tt
 
 refusal-of-requires : tie.Need-refusal-of-requires
-refusal-of-requires c κs = search needs
+refusal-of-requires c κs = tt
 
 refuse-requires : tie.Need-refuse-requires
-refuse-requires c κs = search needs
+refuse-requires c κs = tt
 
 returns : tie.Need-returns
 returns c =
@@ -60,10 +60,10 @@ make-rule-requires : tie.Need-make-rule-requires
 make-rule-requires c κs = pass c
 
 holds-same-requires : tie.Need-holds-same-requires
-holds-same-requires c κs = search needs
+holds-same-requires c κs = tt
 
 refuse-requires-2 : tie.Need-refuse-requires-2
-refuse-requires-2 c κs = search needs
+refuse-requires-2 c κs = tt
 
 returns-2 : tie.Need-returns-2
 returns-2 c =
@@ -76,7 +76,7 @@ returns-2 c =
     (c .before .if2 .taken)))
 
 lowest-free-requires : tie.Need-lowest-free-requires
-lowest-free-requires c κs = search needs
+lowest-free-requires c κs = tt
 
 enum-known-lowest : tie.Need-enum-known-lowest
 enum-known-lowest c = search needs
@@ -85,7 +85,7 @@ enum-told : tie.Need-enum-told
 enum-told c = search needs
 
 refuse-requires-3 : tie.Need-refuse-requires-3
-refuse-requires-3 c κs = search needs
+refuse-requires-3 c κs = tt
 
 returns-3 : tie.Need-returns-3
 returns-3 c =
@@ -98,7 +98,7 @@ returns-3 c =
     (lowest-none _ _ (low .lowest-free .ensures) (full .enum-told .given .1)))
 
 with-rule-requires : tie.Need-with-rule-requires
-with-rule-requires c κs = search needs
+with-rule-requires c κs = tt
 
 labels-of-requires : tie.Need-labels-of-requires
 labels-of-requires c κs =
@@ -111,7 +111,7 @@ labels-of-requires c κs =
     (free .1) (made .make-rule .result) (made .make-rule .ensures) _ (c .with-rule .ensures)
 
 refuse-requires-4 : tie.Need-refuse-requires-4
-refuse-requires-4 c κs = search needs
+refuse-requires-4 c κs = tt
 
 returns-4 : tie.Need-returns-4
 returns-4 c =

@@ -7,7 +7,7 @@ use Rattle.changes.proofs.remove.Statement.{statement}
 use Rattle.changes.proofs.remove.Tie as tie
 
 ask-slot-requires : tie.Need-ask-slot-requires
-ask-slot-requires c κs = search needs
+ask-slot-requires c κs = tt
 
 enum-known-asked : tie.Need-enum-known-asked
 enum-known-asked c = search needs
@@ -16,10 +16,10 @@ enum-known-asked-2 : tie.Need-enum-known-asked-2
 enum-known-asked-2 c = search needs
 
 free-requires : tie.Need-free-requires
-free-requires c κs = search needs
+free-requires c κs = tt
 
 with-rule-requires : tie.Need-with-rule-requires
-with-rule-requires c κs = search needs
+with-rule-requires c κs = tt
 
 labels-of-requires : tie.Need-labels-of-requires
 labels-of-requires c κs =

@@ -14,7 +14,7 @@ enum-known-answer-2 : tie.Need-enum-known-answer-2
 enum-known-answer-2 c = search needs
 
 refusal-number-requires : tie.Need-refusal-number-requires
-refusal-number-requires c κs = search needs
+refusal-number-requires c κs = tt
 
 returns : tie.Need-returns
 returns c = add-taken _ _ _ (c .before .before .answer .given .1)

@@ -11,10 +11,10 @@ enum-known-answer-2 : tie.Need-enum-known-answer-2
 enum-known-answer-2 c = search needs
 
 refusal-number-requires : tie.Need-refusal-number-requires
-refusal-number-requires c κs = search needs
+refusal-number-requires c κs = tt
 
 needed-requires : tie.Need-needed-requires
-needed-requires c κs = search needs
+needed-requires c κs = tt
 
 returns : tie.Need-returns
 returns c = list-told _ _ (c .before .answer .given .1)

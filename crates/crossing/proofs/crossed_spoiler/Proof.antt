@@ -29,7 +29,7 @@ enum-known-answer-3 : tie.Need-enum-known-answer-3
 enum-known-answer-3 c = search needs
 
 refusal-number-requires : tie.Need-refusal-number-requires
-refusal-number-requires c κs = search needs
+refusal-number-requires c κs = tt
 
 returns : tie.Need-returns
 returns c = spoiler-told _ _ (c .enum-told .given .1)

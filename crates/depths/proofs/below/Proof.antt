@@ -24,7 +24,7 @@ abbrev μ-loop : tie.MeasureT-loop
 μ-loop depths limit rule n j₀ j = n - j
 
 positive-end-requires : tie.Need-positive-end-requires Inv-loop μ-loop
-positive-end-requires c κs = search needs
+positive-end-requires c κs = tt
 
 -- what owning the rule tells of its entries
 long : (s : tie.Start Inv-loop μ-loop) → length (s .args .t1 .entries) ≡ document .entries
@@ -47,7 +47,7 @@ element-copy-out-a : tie.Need-element-copy-out-a Inv-loop μ-loop
 element-copy-out-a c = search needs
 
 number-of-requires : tie.Need-number-of-requires Inv-loop μ-loop
-number-of-requires c κs = search needs
+number-of-requires c κs = tt
 
 returns : tie.Need-returns Inv-loop μ-loop
 returns c =

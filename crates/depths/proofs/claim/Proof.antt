@@ -1,27 +1,26 @@
 -- `depths::claim` meets its contract. Assumes nothing.
 use mathlib.Core.Path.{sym, _∙_}
 use Rattle.depths.proofs.Slots.{claimed-found, claimed-not, claimed-new}
-use borrow.Author.Needs.{needs}
 use Rattle.depths.proofs.claim.Statement.{statement}
 use Rattle.depths.proofs.claim.Tie as tie
 
 has-requires : tie.Need-has-requires
-has-requires c κs = search needs
+has-requires c κs = tt
 
 returns : tie.Need-returns
 returns c = claimed-found _ _ _ _ _ _ _ (sym (c .before .has .ensures) ∙ c .if1 .taken)
 
 number-of-requires : tie.Need-number-of-requires
-number-of-requires c κs = search needs
+number-of-requires c κs = tt
 
 ready-requires : tie.Need-ready-requires
-ready-requires c κs = search needs
+ready-requires c κs = tt
 
 mark-requires : tie.Need-mark-requires
-mark-requires c κs = search needs
+mark-requires c κs = tt
 
 set-slot-requires : tie.Need-set-slot-requires
-set-slot-requires c κs = search needs
+set-slot-requires c κs = tt
 
 returns-2 : tie.Need-returns-2
 returns-2 c =

@@ -38,7 +38,7 @@ loop2-holds c =
     (omega arith, pass-start _ _ _ _ _ _ (at .lowered) (c .loop-test .taken) (at .inv))
 
 slot-at-requires : tie.Need-slot-at-requires Inv-loop2 μ-loop2 Inv-loop μ-loop
-slot-at-requires c κs = search needs
+slot-at-requires c κs = tt
 
 -- the slot come to is one of the table's
 below : (c : tie.After-slot-at Inv-loop2 μ-loop2 Inv-loop μ-loop) → c .slot-at .result < document .slots
@@ -51,7 +51,7 @@ array-copy-out-rule : tie.Need-array-copy-out-rule Inv-loop2 μ-loop2 Inv-loop �
 array-copy-out-rule c = (let l = below c in search needs)
 
 lower-requires : tie.Need-lower-requires Inv-loop2 μ-loop2 Inv-loop μ-loop
-lower-requires c κs = search needs
+lower-requires c κs = tt
 
 add-i : tie.Need-add-i Inv-loop2 μ-loop2 Inv-loop μ-loop
 add-i c = search needs

@@ -12,7 +12,7 @@ returns : tie.Need-returns
 returns c = lower-free _ (document .atoms) (c .before .before .args .rule) _ (c .if1 .taken)
 
 below-requires : tie.Need-below-requires
-below-requires c κs = search needs
+below-requires c κs = tt
 
 returns-2 : tie.Need-returns-2
 returns-2 c =
@@ -21,7 +21,7 @@ returns-2 c =
     (sym (c .before .below .ensures) ∙ not-true _ (c .if2 .taken))
 
 level-requires : tie.Need-level-requires
-level-requires c κs = search needs
+level-requires c κs = tt
 
 returns-3 : tie.Need-returns-3
 returns-3 c =
@@ -29,10 +29,10 @@ returns-3 c =
     lower-high _ (document .atoms) (h .before .before .args .rule) _ (h .if1 .left) _ (c .before .level .ensures) (c .if3 .taken)
 
 number-of-requires : tie.Need-number-of-requires
-number-of-requires c κs = search needs
+number-of-requires c κs = tt
 
 falls-requires : tie.Need-falls-requires
-falls-requires c κs = search needs
+falls-requires c κs = tt
 
 returns-4 : tie.Need-returns-4
 returns-4 c =
@@ -41,7 +41,7 @@ returns-4 c =
     (c .before .before .number-of .ensures) _ (c .before .falls .ensures) (not-true _ (c .if4 .taken))
 
 valid-requires : tie.Need-valid-requires
-valid-requires c κs = search needs
+valid-requires c κs = tt
 
 returns-5 : tie.Need-returns-5
 returns-5 c =
@@ -53,7 +53,7 @@ cast-set-number : tie.Need-cast-set-number
 cast-set-number c = search needs
 
 set-number-requires : tie.Need-set-number-requires
-set-number-requires c κs = search needs
+set-number-requires c κs = tt
 
 returns-6 : tie.Need-returns-6
 returns-6 c =

@@ -19,7 +19,7 @@ abbrev μ-loop : tie.MeasureT-loop
 μ-loop flags₀ rule n j₀ flags j = n - j
 
 negative-end-requires : tie.Need-negative-end-requires Inv-loop μ-loop
-negative-end-requires c κs = search needs
+negative-end-requires c κs = tt
 
 -- what owning the rule tells of its entries
 long : (s : tie.Start Inv-loop μ-loop) → length (s .args .t1 .entries) ≡ document .entries
@@ -35,7 +35,7 @@ element-copy-out-a : tie.Need-element-copy-out-a Inv-loop μ-loop
 element-copy-out-a c = search needs
 
 mark-requires : tie.Need-mark-requires Inv-loop μ-loop
-mark-requires c κs = search needs
+mark-requires c κs = tt
 
 add-j : tie.Need-add-j Inv-loop μ-loop
 add-j c = search needs

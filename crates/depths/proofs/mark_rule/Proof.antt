@@ -1,6 +1,5 @@
 -- `depths::mark_rule` meets its contract. Assumes nothing.
 use Rattle.depths.proofs.Marks.{marked-free, marked-held}
-use borrow.Author.Needs.{needs}
 use Rattle.depths.proofs.mark_rule.Statement.{statement}
 use Rattle.depths.proofs.mark_rule.Tie as tie
 
@@ -8,10 +7,10 @@ returns : tie.Need-returns
 returns c = marked-free (c .before .before .args .rule) _ (c .if1 .taken)
 
 mark-requires : tie.Need-mark-requires
-mark-requires c κs = search needs
+mark-requires c κs = tt
 
 mark-entries-requires : tie.Need-mark-entries-requires
-mark-entries-requires c κs = search needs
+mark-entries-requires c κs = tt
 
 returns-2 : tie.Need-returns-2
 returns-2 c =

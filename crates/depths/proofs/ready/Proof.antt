@@ -2,7 +2,6 @@
 use mathlib.Core.Path.{sym, _∙_}
 use Rattle.theory.proofs.Lists.{not-true, not-false}
 use Rattle.depths.proofs.Slots.{ready-free, ready-high, ready-valid}
-use borrow.Author.Needs.{needs}
 use Rattle.depths.proofs.ready.Statement.{statement}
 use Rattle.depths.proofs.ready.Tie as tie
 
@@ -10,7 +9,7 @@ returns : tie.Need-returns
 returns c = ready-free _ _ _ (c .before .before .args .rule) (c .if1 .taken)
 
 below-requires : tie.Need-below-requires
-below-requires c κs = search needs
+below-requires c κs = tt
 
 returns-2 : tie.Need-returns-2
 returns-2 c =
@@ -18,7 +17,7 @@ returns-2 c =
     (sym (c .before .below .ensures) ∙ not-true _ (c .if2 .taken))
 
 valid-requires : tie.Need-valid-requires
-valid-requires c κs = search needs
+valid-requires c κs = tt
 
 returns-3 : tie.Need-returns-3
 returns-3 c =

@@ -33,7 +33,7 @@ cast-n : tie.Need-cast-n Inv-loop μ-loop
 cast-n c = search needs
 
 claim-requires : tie.Need-claim-requires Inv-loop μ-loop
-claim-requires c κs = search needs
+claim-requires c κs = tt
 
 add-i : tie.Need-add-i Inv-loop μ-loop
 add-i c = search needs

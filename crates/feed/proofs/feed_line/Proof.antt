@@ -18,7 +18,7 @@ inside-piece c =
     omega (arith, c .if1 .left, c .before .before .before .before .before .line-end .ensures)
 
 line-end-requires : tie.Need-line-end-requires
-line-end-requires c κs = search needs
+line-end-requires c κs = tt
 
 sub-keep : tie.Need-sub-keep
 sub-keep c = search needs
@@ -32,7 +32,7 @@ part-keep-end c =
     omega (arith, c .before .before .line-end .ensures, end-within (a .args .input .now) (a .args .from) (a .pre .0))
 
 keep-requires : tie.Need-keep-requires
-keep-requires c κs = search needs
+keep-requires c κs = tt
 
 returns : tie.Need-returns
 returns c =
@@ -43,7 +43,7 @@ returns c =
     )
 
 reply-at-requires : tie.Need-reply-at-requires
-reply-at-requires c κs = search needs
+reply-at-requires c κs = tt
 
 add-read : tie.Need-add-read
 add-read c =
@@ -51,7 +51,7 @@ add-read c =
     omega (arith, inside-piece e, e .before .before .before .before .before .before .before .before .good .1 .0)
 
 next-line-requires : tie.Need-next-line-requires
-next-line-requires c κs = search needs
+next-line-requires c κs = tt
 
 same-length : tie.Need-same-length
 same-length c = search needs

@@ -8,7 +8,7 @@ use Rattle.feed.proofs.pass_ended.Statement.{statement}
 use Rattle.feed.proofs.pass_ended.Tie as tie
 
 pass-requires : tie.Need-pass-requires
-pass-requires c κs = search needs
+pass-requires c κs = tt
 
 same-length : tie.Need-same-length
 same-length c = search needs
@@ -17,10 +17,10 @@ returns : tie.Need-returns
 returns c = passes-whole (c .before .before .before .before .before .if1 .taken) (c .before .before .pass .ensures)
 
 keep-requires : tie.Need-keep-requires
-keep-requires c κs = search needs
+keep-requires c κs = tt
 
 within-requires : tie.Need-within-requires
-within-requires c κs = search needs
+within-requires c κs = tt
 
 array-share-prefix-line : tie.Need-array-share-prefix-line
 array-share-prefix-line c =
@@ -34,7 +34,7 @@ slice-aggregate-pass c =
     sym (length-take-le _ (k .result .bytes) (omega (arith, c .before .within .ensures)))
 
 pass-requires-2 : tie.Need-pass-requires-2
-pass-requires-2 c κs = search needs
+pass-requires-2 c κs = tt
 
 same-length-2 : tie.Need-same-length-2
 same-length-2 c = search needs

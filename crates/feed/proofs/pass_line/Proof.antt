@@ -21,7 +21,7 @@ inside-piece c =
     omega (arith, c .if1 .left, c .before .line-end .ensures)
 
 line-end-requires : tie.Need-line-end-requires
-line-end-requires c κs = search needs
+line-end-requires c κs = tt
 
 returns : tie.Need-returns
 returns c =
@@ -40,7 +40,7 @@ part-pass-ended-end c =
     omega (arith, c .before .line-end .ensures, end-within (a .args .input .now) (a .args .from) (a .pre .0))
 
 pass-ended-requires : tie.Need-pass-ended-requires
-pass-ended-requires c κs = search needs
+pass-ended-requires c κs = tt
 
 same-length : tie.Need-same-length
 same-length c = search needs
@@ -57,7 +57,7 @@ add-past c =
     omega (arith, inside-piece e, e .before .before .before .before .good .1 .0)
 
 next-line-requires : tie.Need-next-line-requires
-next-line-requires c κs = search needs
+next-line-requires c κs = tt
 
 same-length-2 : tie.Need-same-length-2
 same-length-2 c = search needs

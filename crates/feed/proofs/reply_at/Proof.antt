@@ -8,7 +8,7 @@ use Rattle.feed.proofs.reply_at.Statement.{statement}
 use Rattle.feed.proofs.reply_at.Tie as tie
 
 within-requires : tie.Need-within-requires
-within-requires c κs = search needs
+within-requires c κs = tt
 
 array-share-prefix-bytes : tie.Need-array-share-prefix-bytes
 array-share-prefix-bytes c =
@@ -22,7 +22,7 @@ slice-aggregate-reply-to c =
     sym (length-take-le _ (a .args .sheet .begun .bytes) (omega (arith, c .before .within .ensures)))
 
 reply-to-requires : tie.Need-reply-to-requires
-reply-to-requires c κs = search needs
+reply-to-requires c κs = tt
 
 same-length : tie.Need-same-length
 same-length c = search needs

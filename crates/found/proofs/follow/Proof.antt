@@ -2,12 +2,11 @@
 use mathlib.Core.Path.{sym, _∙_, ap}
 use Rattle.theory.proofs.Lists.{not-true, not-false}
 use Rattle.found.specs.Marks.{mark-if}
-use borrow.Author.Needs.{needs}
 use Rattle.found.proofs.follow.Statement.{statement}
 use Rattle.found.proofs.follow.Tie as tie
 
 has-entry-requires : tie.Need-has-entry-requires
-has-entry-requires c κs = search needs
+has-entry-requires c κs = tt
 
 returns : tie.Need-returns
 returns c =
@@ -17,7 +16,7 @@ returns c =
     (sym (h .has-entry .ensures) ∙ not-true _ (c .if1 .taken)))
 
 mark-requires : tie.Need-mark-requires
-mark-requires c κs = search needs
+mark-requires c κs = tt
 
 returns-2 : tie.Need-returns-2
 returns-2 c =

@@ -31,7 +31,7 @@ returns : tie.Need-returns Inv-loop μ-loop
 returns c = test-free _ (c .before .args .t1) (c .if1 .taken)
 
 negative-end-requires : tie.Need-negative-end-requires Inv-loop μ-loop
-negative-end-requires c κs = search needs
+negative-end-requires c κs = tt
 
 loop-holds : tie.Need-loop-holds Inv-loop μ-loop
 loop-holds c = refl

@@ -32,7 +32,7 @@ array-copy-out-rule : tie.Need-array-copy-out-rule Inv-loop μ-loop
 array-copy-out-rule c = search needs
 
 has-head-requires : tie.Need-has-head-requires Inv-loop μ-loop
-has-head-requires c κs = search needs
+has-head-requires c κs = tt
 
 array-write-flags : tie.Need-array-write-flags Inv-loop μ-loop
 array-write-flags c = search needs

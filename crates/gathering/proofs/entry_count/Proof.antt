@@ -4,7 +4,6 @@ use mathlib.Core.Path.{_≡_, sym, ap, _∙_}
 use lib.ListN.{length, length-map}
 use Rattle.theory.specs.Limits.{document}
 use Rattle.gathering.proofs.Kept.{positives-none, positives-in, positives-length}
-use borrow.Author.Needs.{needs}
 use Rattle.gathering.proofs.entry_count.Statement.{statement}
 use Rattle.gathering.proofs.entry_count.Tie as tie
 
@@ -14,7 +13,7 @@ returns c =
     (sym (ap length (positives-none (s .args .label) (s .args .rule) (c .if1 .taken))), omega arith)
 
 positive-end-requires : tie.Need-positive-end-requires
-positive-end-requires c κs = search needs
+positive-end-requires c κs = tt
 
 returns-2 : tie.Need-returns-2
 returns-2 c =

@@ -40,7 +40,7 @@ array-copy-out-rule : tie.Need-array-copy-out-rule Inv-loop μ-loop
 array-copy-out-rule c = c .before .before .before .before .pre (c .before .before .before .loop .i)
 
 entry-count-requires : tie.Need-entry-count-requires Inv-loop μ-loop
-entry-count-requires c κs = search needs
+entry-count-requires c κs = tt
 
 mul-copy-entries : tie.Need-mul-copy-entries Inv-loop μ-loop
 mul-copy-entries c = search needs

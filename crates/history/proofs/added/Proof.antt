@@ -15,7 +15,7 @@ enum-known-answer-2 : tie.Need-enum-known-answer-2
 enum-known-answer-2 c = search needs
 
 refusal-number-requires : tie.Need-refusal-number-requires
-refusal-number-requires c κs = search needs
+refusal-number-requires c κs = tt
 
 add-result : tie.Need-add-result
 add-result c = omega (arith, small (c .before .before .answer2 .given .0 .0) _ (c .refusal-number .ensures))

@@ -12,7 +12,7 @@ enum-known-answer : tie.Need-enum-known-answer
 enum-known-answer c = search needs
 
 refusal-number-requires : tie.Need-refusal-number-requires
-refusal-number-requires c κs = search needs
+refusal-number-requires c κs = tt
 
 add-result : tie.Need-add-result
 add-result c = omega (arith, small (c .before .before .answer .given .0 .0) _ (c .refusal-number .ensures))

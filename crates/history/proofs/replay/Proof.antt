@@ -15,13 +15,13 @@ abbrev μ-loop : tie.MeasureT-loop
 μ-loop words answers₀ table₀ at₀ count₀ answers table at count = length answers₀ - count
 
 empty-requires : tie.Need-empty-requires Inv-loop μ-loop
-empty-requires c κs = search needs
+empty-requires c κs = tt
 
 loop-holds : tie.Need-loop-holds Inv-loop μ-loop
 loop-holds c = going-start _ _ _ (c .empty .ensures)
 
 step-requires : tie.Need-step-requires Inv-loop μ-loop
-step-requires c κs = search needs
+step-requires c κs = tt
 
 same-length : tie.Need-same-length Inv-loop μ-loop
 same-length c = (let g = going-length _ _ _ _ _ _ (c .before .before .before .before .loop .inv) in search needs)

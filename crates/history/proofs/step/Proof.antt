@@ -8,7 +8,7 @@ use Rattle.history.proofs.step.Statement.{statement}
 use Rattle.history.proofs.step.Tie as tie
 
 next-call-requires : tie.Need-next-call-requires
-next-call-requires c κs = search needs
+next-call-requires c κs = tt
 
 enum-told : tie.Need-enum-told
 enum-told c = search needs
@@ -17,7 +17,7 @@ enum-known-next : tie.Need-enum-known-next
 enum-known-next c = search needs
 
 remove-requires : tie.Need-remove-requires
-remove-requires c κs = search needs
+remove-requires c κs = tt
 
 removed-requires : tie.Need-removed-requires
 removed-requires c κs = search needs
@@ -58,7 +58,7 @@ part-add-end-2 : tie.Need-part-add-end-2
 part-add-end-2 c = (let o = order (c .before) in search needs)
 
 add-requires : tie.Need-add-requires
-add-requires c κs = search needs
+add-requires c κs = tt
 
 added-requires : tie.Need-added-requires
 added-requires c κs = search needs

@@ -1,6 +1,5 @@
 -- `labels::label_for` answers the label of an atom that is in, occurs, or neither. Assumes nothing.
 use mathlib.Core.Path.{_∙_}
-use borrow.Author.Needs.{needs}
 use Rattle.labels.proofs.Kept.{kept-in, kept-out, kept-absent}
 use Rattle.labels.proofs.label_for.Statement.{statement}
 use Rattle.labels.proofs.label_for.Tie as tie
@@ -12,7 +11,7 @@ returns-2 : tie.Need-returns-2
 returns-2 c = kept-out _ _ _ _ (c .before .if1 .left) (c .if2 .taken)
 
 absent-requires : tie.Need-absent-requires
-absent-requires c κs = search needs
+absent-requires c κs = tt
 
 returns-3 : tie.Need-returns-3
 returns-3 c = c .absent .ensures ∙ kept-absent _ _ _ _ (c .before .before .if1 .left) (c .before .if2 .left)

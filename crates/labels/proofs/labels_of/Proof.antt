@@ -10,7 +10,7 @@ strata-requires : tie.Need-strata-requires
 strata-requires c κs = search needs
 
 absent-requires : tie.Need-absent-requires
-absent-requires c κs = search needs
+absent-requires c κs = tt
 
 returns : tie.Need-returns
 returns c =
@@ -35,7 +35,7 @@ occurring-requires : tie.Need-occurring-requires
 occurring-requires c κs = search needs
 
 assemble-requires : tie.Need-assemble-requires
-assemble-requires c κs = search needs
+assemble-requires c κs = tt
 
 returns-2 : tie.Need-returns-2
 returns-2 c =

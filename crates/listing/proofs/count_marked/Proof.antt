@@ -25,7 +25,7 @@ shared-slice-read-flag : tie.Need-shared-slice-read-flag Inv-loop μ-loop
 shared-slice-read-flag c = search needs
 
 one-if-requires : tie.Need-one-if-requires Inv-loop μ-loop
-one-if-requires c κs = search needs
+one-if-requires c κs = tt
 
 add-n : tie.Need-add-n Inv-loop μ-loop
 add-n c =

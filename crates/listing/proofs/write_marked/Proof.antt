@@ -20,7 +20,7 @@ abbrev μ-loop : tie.MeasureT-loop
 μ-loop flags buffer₀ needed n₀ i₀ buffer n i = length flags - i
 
 count-marked-requires : tie.Need-count-marked-requires Inv-loop μ-loop
-count-marked-requires c κs = search needs
+count-marked-requires c κs = tt
 
 returns : tie.Need-returns Inv-loop μ-loop
 returns c = written-short _ _ _ (c .before .count-marked .ensures) (c .if1 .taken)

@@ -55,7 +55,7 @@ element-copy-out-t18 : tie.Need-element-copy-out-t18 Inv-loop2 μ-loop2 Inv-loop
 element-copy-out-t18 c = (let l = c .before .loop2 .inv .2 in search needs)
 
 missing-requires : tie.Need-missing-requires Inv-loop2 μ-loop2 Inv-loop μ-loop
-missing-requires c κs = search needs
+missing-requires c κs = tt
 
 loop2-less : tie.Need-loop2-less Inv-loop2 μ-loop2 Inv-loop μ-loop
 loop2-less c = search needs
@@ -78,7 +78,7 @@ array-copy-out-rule : tie.Need-array-copy-out-rule Inv-loop2 μ-loop2 Inv-loop �
 array-copy-out-rule c = (let l = c .before .before .before .before .loop2 .inv .2 in search needs)
 
 holds-valid-requires : tie.Need-holds-valid-requires Inv-loop2 μ-loop2 Inv-loop μ-loop
-holds-valid-requires c κs = search needs
+holds-valid-requires c κs = tt
 
 loop2-less-2 : tie.Need-loop2-less-2 Inv-loop2 μ-loop2 Inv-loop μ-loop
 loop2-less-2 c = search needs
@@ -95,7 +95,7 @@ loop2-again-2 c =
     )
 
 mark-requires : tie.Need-mark-requires Inv-loop2 μ-loop2 Inv-loop μ-loop
-mark-requires c κs = search needs
+mark-requires c κs = tt
 
 loop2-less-3 : tie.Need-loop2-less-3 Inv-loop2 μ-loop2 Inv-loop μ-loop
 loop2-less-3 c = search needs

@@ -9,7 +9,7 @@ returns : tie.Need-returns
 returns c = search needs
 
 valid-requires : tie.Need-valid-requires
-valid-requires c κs = search needs
+valid-requires c κs = tt
 
 returns-2 : tie.Need-returns-2
 returns-2 c = c .valid .ensures ∙ rule-decides _ (c .before .before .before .args .rule) (c .before .if1 .left)

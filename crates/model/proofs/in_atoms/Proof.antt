@@ -20,7 +20,7 @@ abbrev μ-loop : tie.MeasureT-loop
 μ-loop rules strata top found₀ k₀ found k = top - k
 
 highest-requires : tie.Need-highest-requires Inv-loop μ-loop
-highest-requires c κs = search needs
+highest-requires c κs = tt
 
 loop-holds : tie.Need-loop-holds Inv-loop μ-loop
 loop-holds c = ready-start (c .before .args .rules) _ (c .before .pre) (document .atoms) refl

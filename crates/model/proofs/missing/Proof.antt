@@ -2,18 +2,17 @@
 use mathlib.Core.Path.{sym, _∙_, ap}
 use mathlib.Core.Bool.{not}
 use Rattle.model.proofs.Visits.{missing-other, missing-here}
-use borrow.Author.Needs.{needs}
 use Rattle.model.proofs.missing.Statement.{statement}
 use Rattle.model.proofs.missing.Tie as tie
 
 number-of-requires : tie.Need-number-of-requires
-number-of-requires c κs = search needs
+number-of-requires c κs = tt
 
 returns : tie.Need-returns
 returns c = missing-other _ _ _ (λ e. c .if1 .taken (c .before .number-of .ensures ∙ e))
 
 has-requires : tie.Need-has-requires
-has-requires c κs = search needs
+has-requires c κs = tt
 
 returns-2 : tie.Need-returns-2
 returns-2 c =

@@ -2,7 +2,6 @@
 use Prim.Native.Nat.{ℕ, _<_}
 use mathlib.Core.Path.{_≡_, refl}
 use lib.ListN.{length, length-map, getD}
-use borrow.Author.Needs.{needs}
 use Rattle.theory.specs.Limits.{document}
 use Rattle.theory.proofs.Lists.{not-true, not-false}
 use Rattle.table.specs.Rules.{pastRule}
@@ -27,13 +26,13 @@ well :
 well c = granted _ (c .before .slots-well-formed .ensures) (c .if1 .left)
 
 slots-well-formed-requires : tie.Need-slots-well-formed-requires
-slots-well-formed-requires c κs = search needs
+slots-well-formed-requires c κs = tt
 
 returns : tie.Need-returns
 returns c = unfit (λ F. refused _ (c .before .slots-well-formed .ensures) (c .if1 .taken) (F .slots))
 
 no-two-same-requires : tie.Need-no-two-same-requires
-no-two-same-requires c κs = search needs
+no-two-same-requires c κs = tt
 
 returns-2 : tie.Need-returns-2
 returns-2 c = unfit (λ F. refused _ (c .before .no-two-same .ensures) (c .if2 .taken) (F .single))

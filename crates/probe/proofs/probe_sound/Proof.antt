@@ -1,12 +1,11 @@
 -- `probe::probe_sound` meets its contract. Assumes nothing.
-use borrow.Author.Needs.{needs}
 use Rattle.theory.proofs.Lists.{clash}
 use Rattle.probe.specs.Probes.{is-sound, is-not}
 use Rattle.probe.proofs.probe_sound.Statement.{statement}
 use Rattle.probe.proofs.probe_sound.Tie as tie
 
 sound-requires : tie.Need-sound-requires
-sound-requires c κs = search needs
+sound-requires c κs = tt
 
 returns : tie.Need-returns
 returns c = is-sound (c .before .sound .ensures .0 (c .if1 .taken))

@@ -8,7 +8,7 @@ use Rattle.queries.proofs.consequences.Statement.{statement}
 use Rattle.queries.proofs.consequences.Tie as tie
 
 ask-requires : tie.Need-ask-requires
-ask-requires c κs = search needs
+ask-requires c κs = tt
 
 enum-known-asked : tie.Need-enum-known-asked
 enum-known-asked c = search needs

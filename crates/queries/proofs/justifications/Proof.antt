@@ -8,7 +8,7 @@ use Rattle.queries.proofs.justifications.Statement.{statement}
 use Rattle.queries.proofs.justifications.Tie as tie
 
 ask-requires : tie.Need-ask-requires
-ask-requires c κs = search needs
+ask-requires c κs = tt
 
 enum-known-asked : tie.Need-enum-known-asked
 enum-known-asked c = search needs
@@ -17,7 +17,7 @@ enum-known-asked-2 : tie.Need-enum-known-asked-2
 enum-known-asked-2 c = search needs
 
 justifying-requires : tie.Need-justifying-requires
-justifying-requires c κs = search needs
+justifying-requires c κs = tt
 
 slice-aggregate-write-marked : tie.Need-slice-aggregate-write-marked
 slice-aggregate-write-marked c = search needs

@@ -6,7 +6,7 @@ use Rattle.queries.proofs.label.Statement.{statement}
 use Rattle.queries.proofs.label.Tie as tie
 
 ask-requires : tie.Need-ask-requires
-ask-requires c κs = search needs
+ask-requires c κs = tt
 
 enum-known-asked : tie.Need-enum-known-asked
 enum-known-asked c = search needs
@@ -15,10 +15,10 @@ enum-known-asked-2 : tie.Need-enum-known-asked-2
 enum-known-asked-2 c = search needs
 
 label-of-requires : tie.Need-label-of-requires
-label-of-requires c κs = search needs
+label-of-requires c κs = tt
 
 tell-label-requires : tie.Need-tell-label-requires
-tell-label-requires c κs = search needs
+tell-label-requires c κs = tt
 
 returns : tie.Need-returns
 returns c =

@@ -18,7 +18,7 @@ labels-long : (s : tie.Start) → length (s .args .table .labels) ≡ document .
 labels-long s = simp length-map at (s .good .0 .1 .1 .1 .0 .1 .0 .1)
 
 ask-requires : tie.Need-ask-requires
-ask-requires c κs = search needs
+ask-requires c κs = tt
 
 enum-known-asked : tie.Need-enum-known-asked
 enum-known-asked c = search needs
@@ -27,7 +27,7 @@ enum-known-asked-2 : tie.Need-enum-known-asked-2
 enum-known-asked-2 c = search needs
 
 keep-requires : tie.Need-keep-requires
-keep-requires c κs = search needs
+keep-requires c κs = tt
 
 reached-requires : tie.Need-reached-requires
 reached-requires c κs =

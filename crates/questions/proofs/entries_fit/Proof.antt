@@ -28,7 +28,7 @@ shared-slice-read-x : tie.Need-shared-slice-read-x Inv-loop μ-loop
 shared-slice-read-x c = search needs
 
 head-fits-requires : tie.Need-head-fits-requires Inv-loop μ-loop
-head-fits-requires c κs = search needs
+head-fits-requires c κs = tt
 
 returns : tie.Need-returns Inv-loop μ-loop
 returns c =

@@ -1,6 +1,5 @@
 -- `questions::first_no` meets its contract. Assumes nothing.
 -- Each return has the answers of the questions before it.
-use borrow.Author.Needs.{needs}
 use Rattle.theory.specs.Limits.{document}
 use Rattle.theory.proofs.Lists.{and-of}
 use Rattle.questions.proofs.Refusals.{no-by, yes-by, both-no, both-no-2}
@@ -9,7 +8,7 @@ use Rattle.questions.proofs.first_no.Statement.{statement}
 use Rattle.questions.proofs.first_no.Tie as tie
 
 head-fits-requires : tie.Need-head-fits-requires
-head-fits-requires c κs = search needs
+head-fits-requires c κs = tt
 
 returns : tie.Need-returns
 returns c =
@@ -18,7 +17,7 @@ returns c =
     (no-by _ _ (c .before .head-fits .ensures) (c .if1 .taken))
 
 few-entries-requires : tie.Need-few-entries-requires
-few-entries-requires c κs = search needs
+few-entries-requires c κs = tt
 
 returns-2 : tie.Need-returns-2
 returns-2 c =
@@ -29,7 +28,7 @@ returns-2 c =
     (no-by _ _ (c .before .few-entries .ensures) (c .if2 .taken))
 
 entries-fit-requires : tie.Need-entries-fit-requires
-entries-fit-requires c κs = search needs
+entries-fit-requires c κs = tt
 
 returns-3 : tie.Need-returns-3
 returns-3 c =
@@ -42,7 +41,7 @@ returns-3 c =
     (both-no _ _ (no-by _ _ (c .before .entries-fit .ensures) (c .if3 .taken)))
 
 entries-fit-requires-2 : tie.Need-entries-fit-requires-2
-entries-fit-requires-2 c κs = search needs
+entries-fit-requires-2 c κs = tt
 
 returns-4 : tie.Need-returns-4
 returns-4 c =
@@ -57,7 +56,7 @@ returns-4 c =
     (no-by _ _ (c .before .entries-fit2 .ensures) (c .if4 .taken)))
 
 no-repeat-requires : tie.Need-no-repeat-requires
-no-repeat-requires c κs = search needs
+no-repeat-requires c κs = tt
 
 returns-5 : tie.Need-returns-5
 returns-5 c =
@@ -74,7 +73,7 @@ returns-5 c =
     (both-no _ _ (no-by _ _ (c .before .no-repeat .ensures) (c .if5 .taken)))
 
 no-repeat-requires-2 : tie.Need-no-repeat-requires-2
-no-repeat-requires-2 c κs = search needs
+no-repeat-requires-2 c κs = tt
 
 returns-6 : tie.Need-returns-6
 returns-6 c =

@@ -28,7 +28,7 @@ add-stands-from : tie.Need-add-stands-from Inv-loop μ-loop
 add-stands-from c = search needs
 
 stands-from-requires : tie.Need-stands-from-requires Inv-loop μ-loop
-stands-from-requires c κs = search needs
+stands-from-requires c κs = tt
 
 returns : tie.Need-returns Inv-loop μ-loop
 returns c =

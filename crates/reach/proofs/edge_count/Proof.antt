@@ -4,10 +4,10 @@ use Rattle.reach.proofs.edge_count.Statement.{statement}
 use Rattle.reach.proofs.edge_count.Tie as tie
 
 least-requires : tie.Need-least-requires
-least-requires c κs = search needs
+least-requires c κs = tt
 
 least-requires-2 : tie.Need-least-requires-2
-least-requires-2 c κs = search needs
+least-requires-2 c κs = tt
 
 returns : tie.Need-returns
 returns c = search needs

@@ -1,5 +1,4 @@
 -- `reach::is_source` meets its contract. Assumes nothing.
-use borrow.Author.Needs.{needs}
 use Rattle.reach.proofs.Rounds.{source-start, source-else}
 use Rattle.reach.proofs.is_source.Statement.{statement}
 use Rattle.reach.proofs.is_source.Tie as tie
@@ -10,7 +9,7 @@ returns c =
     source-start _ (args .flags .now) _ (c .if1 .taken)
 
 has-requires : tie.Need-has-requires
-has-requires c κs = search needs
+has-requires c κs = tt
 
 returns-2 : tie.Need-returns-2
 returns-2 c =

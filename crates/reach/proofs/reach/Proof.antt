@@ -1,7 +1,6 @@
 -- `reach::reach` meets its contract. The loop's invariant: each member is reached, and once a round brings none in,
 -- every edge was followed. The measure: the atoms outside the set, and the last round. Assumes nothing.
 use Prim.Native.Nat.{_+_}
-use borrow.Author.Needs.{needs}
 use Rattle.theory.specs.Limits.{document}
 use Rattle.table.specs.Sets.{one-if}
 use Rattle.reach.specs.Rounds.{outside}
@@ -19,7 +18,7 @@ loop-holds : tie.Need-loop-holds Inv-loop μ-loop
 loop-holds c = rounds-start _ _ _ _ (document .atoms)
 
 round-requires : tie.Need-round-requires Inv-loop μ-loop
-round-requires c κs = search needs
+round-requires c κs = tt
 
 loop-less : tie.Need-loop-less Inv-loop μ-loop
 loop-less c =

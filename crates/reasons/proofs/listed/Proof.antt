@@ -12,7 +12,7 @@ long : (s : tie.Start) → length (s .args .table .labels) ≡ document .atoms
 long s = simp length-map at (s .good .0 .1 .1 .1 .0 .1 .0 .1)
 
 keep-requires : tie.Need-keep-requires
-keep-requires c κs = search needs
+keep-requires c κs = tt
 
 kept-entries-requires : tie.Need-kept-entries-requires
 kept-entries-requires c κs =
@@ -20,16 +20,16 @@ kept-entries-requires c κs =
     slotted (s .args .table) (long s) (s .pre .0)
 
 number-of-requires : tie.Need-number-of-requires
-number-of-requires c κs = search needs
+number-of-requires c κs = tt
 
 gather-requires : tie.Need-gather-requires
-gather-requires c κs = search needs
+gather-requires c κs = tt
 
 slice-aggregate-count-marked : tie.Need-slice-aggregate-count-marked
 slice-aggregate-count-marked c = search needs
 
 count-marked-requires : tie.Need-count-marked-requires
-count-marked-requires c κs = search needs
+count-marked-requires c κs = tt
 
 returns : tie.Need-returns
 returns c =
@@ -44,7 +44,7 @@ returns c =
     (gathered .gather .ensures) (s .args .buffer .now) _ (counted .count-marked .ensures) (c .if1 .taken)
 
 write-slots-requires : tie.Need-write-slots-requires
-write-slots-requires c κs = search needs
+write-slots-requires c κs = tt
 
 same-length : tie.Need-same-length
 same-length c = search needs

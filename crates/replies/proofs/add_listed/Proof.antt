@@ -30,7 +30,7 @@ part-add-end : tie.Need-part-add-end
 part-add-end c = search needs
 
 add-requires : tie.Need-add-requires
-add-requires c κs = search needs
+add-requires c κs = tt
 
 returns : tie.Need-returns
 returns c =

@@ -11,7 +11,7 @@ slice-aggregate-reason : tie.Need-slice-aggregate-reason
 slice-aggregate-reason c = search needs
 
 reason-requires : tie.Need-reason-requires
-reason-requires c κs = search needs
+reason-requires c κs = tt
 
 enum-known-answer : tie.Need-enum-known-answer
 enum-known-answer c = search needs
@@ -30,13 +30,13 @@ slice-aggregate-write-why c =
     count-within _ (reason .reason .ensures) (answer .answer .given .1) .2
 
 write-why-requires : tie.Need-write-why-requires
-write-why-requires c κs = search needs
+write-why-requires c κs = tt
 
 enum-known-answer-2 : tie.Need-enum-known-answer-2
 enum-known-answer-2 c = search needs
 
 refusal-number-requires : tie.Need-refusal-number-requires
-refusal-number-requires c κs = search needs
+refusal-number-requires c κs = tt
 
 refused-requires : tie.Need-refused-requires
 refused-requires c κs = search needs

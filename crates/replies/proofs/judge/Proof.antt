@@ -15,7 +15,7 @@ enum-told-2 : tie.Need-enum-told-2
 enum-told-2 c = search needs
 
 write-refusal-requires : tie.Need-write-refusal-requires
-write-refusal-requires c κs = search needs
+write-refusal-requires c κs = tt
 
 command-of-requires : tie.Need-command-of-requires
 command-of-requires c κs = search needs

@@ -11,10 +11,10 @@ use Rattle.replies.proofs.listed.Statement.{statement}
 use Rattle.replies.proofs.listed.Tie as tie
 
 sound-requires : tie.Need-sound-requires
-sound-requires c κs = search needs
+sound-requires c κs = tt
 
 refusal-number-requires : tie.Need-refusal-number-requires
-refusal-number-requires c κs = search needs
+refusal-number-requires c κs = tt
 
 refused-requires : tie.Need-refused-requires
 refused-requires c κs = search needs
@@ -32,7 +32,7 @@ returns c =
     (ap (refusalLine _) (number .refusal-number .ensures)) (refused .refused .ensures)
 
 write-labels-requires : tie.Need-write-labels-requires
-write-labels-requires c κs = search needs
+write-labels-requires c κs = tt
 
 same-length-2 : tie.Need-same-length-2
 same-length-2 c = search needs

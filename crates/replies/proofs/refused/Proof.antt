@@ -6,7 +6,7 @@ use Rattle.replies.proofs.refused.Statement.{statement}
 use Rattle.replies.proofs.refused.Tie as tie
 
 write-refusal-requires : tie.Need-write-refusal-requires
-write-refusal-requires c κs = search needs
+write-refusal-requires c κs = tt
 
 same-length : tie.Need-same-length
 same-length c = search needs

@@ -10,7 +10,7 @@ use Rattle.replies.proofs.removed.Statement.{statement}
 use Rattle.replies.proofs.removed.Tie as tie
 
 remove-requires : tie.Need-remove-requires
-remove-requires c κs = search needs
+remove-requires c κs = tt
 
 enum-told : tie.Need-enum-told
 enum-told c = search needs
@@ -25,7 +25,7 @@ enum-known-answer : tie.Need-enum-known-answer
 enum-known-answer c = search needs
 
 refusal-number-requires : tie.Need-refusal-number-requires
-refusal-number-requires c κs = search needs
+refusal-number-requires c κs = tt
 
 refused-requires : tie.Need-refused-requires
 refused-requires c κs = search needs

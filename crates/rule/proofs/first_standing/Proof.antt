@@ -37,7 +37,7 @@ element-copy-out-a : tie.Need-element-copy-out-a Inv-loop μ-loop
 element-copy-out-a c = search needs
 
 has-requires : tie.Need-has-requires Inv-loop μ-loop
-has-requires c κs = search needs
+has-requires c κs = tt
 
 returns : tie.Need-returns Inv-loop μ-loop
 returns c =

@@ -34,10 +34,10 @@ returns : tie.Need-returns Inv-loop μ-loop
 returns c = other-head (c .before .args .t1) (c .before .args .t2) (c .if1 .taken)
 
 positive-end-requires : tie.Need-positive-end-requires Inv-loop μ-loop
-positive-end-requires c κs = search needs
+positive-end-requires c κs = tt
 
 positive-end-requires-2 : tie.Need-positive-end-requires-2 Inv-loop μ-loop
-positive-end-requires-2 c κs = search needs
+positive-end-requires-2 c κs = tt
 
 returns-2 : tie.Need-returns-2 Inv-loop μ-loop
 returns-2 c =
@@ -46,10 +46,10 @@ returns-2 c =
     (c .before .before .positive-end .ensures) (c .before .positive-end2 .ensures) (c .if2 .taken)
 
 negative-end-requires : tie.Need-negative-end-requires Inv-loop μ-loop
-negative-end-requires c κs = search needs
+negative-end-requires c κs = tt
 
 negative-end-requires-2 : tie.Need-negative-end-requires-2 Inv-loop μ-loop
-negative-end-requires-2 c κs = search needs
+negative-end-requires-2 c κs = tt
 
 returns-3 : tie.Need-returns-3 Inv-loop μ-loop
 returns-3 c =

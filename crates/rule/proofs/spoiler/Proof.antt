@@ -9,10 +9,10 @@ use Rattle.rule.proofs.spoiler.Statement.{statement}
 use Rattle.rule.proofs.spoiler.Tie as tie
 
 positive-end-requires : tie.Need-positive-end-requires
-positive-end-requires c κs = search needs
+positive-end-requires c κs = tt
 
 negative-end-requires : tie.Need-negative-end-requires
-negative-end-requires c κs = search needs
+negative-end-requires c κs = tt
 
 first-standing-requires : tie.Need-first-standing-requires
 first-standing-requires c κs = search needs

@@ -6,7 +6,7 @@ use Rattle.rule.proofs.valid.Statement.{statement}
 use Rattle.rule.proofs.valid.Tie as tie
 
 spoiler-requires : tie.Need-spoiler-requires
-spoiler-requires c κs = search needs
+spoiler-requires c κs = tt
 
 enum-told : tie.Need-enum-told
 enum-told c = search needs

@@ -9,7 +9,6 @@ use Rattle.questions.proofs.Cleanness.{is-not}
 use Rattle.sound.proofs.Passes.{refused, granted}
 use Rattle.sound.proofs.Soundness.{sound-well-formed, sound-kept, sound-occurrence, sound-of}
 use Rattle.sound.proofs.Soundness.{well-formed-bounded}
-use borrow.Author.Needs.{needs}
 use Rattle.sound.proofs.sound.Statement.{statement}
 use Rattle.sound.proofs.sound.Tie as tie
 
@@ -27,7 +26,7 @@ well :
 well c = granted _ (c .before .slots-well-formed .ensures) (c .if1 .left)
 
 slots-well-formed-requires : tie.Need-slots-well-formed-requires
-slots-well-formed-requires c κs = search needs
+slots-well-formed-requires c κs = tt
 
 returns : tie.Need-returns
 returns c =
@@ -38,13 +37,13 @@ returns c =
     is-not (λ S. refused _ (c .before .slots-well-formed .ensures) (c .if1 .taken) (sound-well-formed t n m S))
 
 labels-clean-requires : tie.Need-labels-clean-requires
-labels-clean-requires c κs = search needs
+labels-clean-requires c κs = tt
 
 returns-2 : tie.Need-returns-2
 returns-2 c = is-not (λ S. refused _ (c .before .labels-clean .ensures) (c .if2 .taken) (S .clean .labels))
 
 certified-requires : tie.Need-certified-requires
-certified-requires c κs = search needs
+certified-requires c κs = tt
 
 returns-3 : tie.Need-returns-3
 returns-3 c =
@@ -71,7 +70,7 @@ returns-4 c =
     is-not (λ S. refused _ (c .before .occurrence-kept .ensures) (c .if4 .taken) (sound-occurrence t n m S))
 
 no-two-same-requires : tie.Need-no-two-same-requires
-no-two-same-requires c κs = search needs
+no-two-same-requires c κs = tt
 
 returns-5 : tie.Need-returns-5
 returns-5 c = is-not (λ S. refused _ (c .before .no-two-same .ensures) (c .if5 .taken) (S .labels .single))

@@ -16,10 +16,10 @@ returns : tie.Need-returns
 returns c = search needs
 
 positive-end-requires : tie.Need-positive-end-requires
-positive-end-requires c κs = search needs
+positive-end-requires c κs = tt
 
 negative-end-requires : tie.Need-negative-end-requires
-negative-end-requires c κs = search needs
+negative-end-requires c κs = tt
 
 greatest-requires : tie.Need-greatest-requires
 greatest-requires c κs = search needs
@@ -28,7 +28,7 @@ greatest-requires-2 : tie.Need-greatest-requires-2
 greatest-requires-2 c κs = search needs
 
 larger-requires : tie.Need-larger-requires
-larger-requires c κs = search needs
+larger-requires c κs = tt
 
 returns-2 : tie.Need-returns-2
 returns-2 c =

@@ -9,13 +9,13 @@ use Rattle.table.proofs.sets.number_of.Reads as number-of-reads
 use Rattle.table.proofs.sets.set_number.Reads as set-number-reads
 
 number-of-requires : tie.Need-number-of-requires
-number-of-requires c κs = search needs
+number-of-requires c κs = tt
 
 returns : tie.Need-returns
 returns c = keeps _ _ _ (search needs)
 
 set-number-requires : tie.Need-set-number-requires
-set-number-requires c κs = search needs
+set-number-requires c κs = tt
 
 returns-2 : tie.Need-returns-2
 returns-2 c = raises _ _ _ (search needs) _ (search needs)

@@ -49,7 +49,7 @@ loop2-holds c = (
 )
 
 slot-at-requires : tie.Need-slot-at-requires Inv-loop2 μ-loop2 Inv-loop μ-loop
-slot-at-requires c κs = search needs
+slot-at-requires c κs = tt
 
 -- the slot come to is one of the table's
 below : (c : tie.After-slot-at Inv-loop2 μ-loop2 Inv-loop μ-loop) → c .slot-at .result < document .slots
@@ -62,7 +62,7 @@ array-copy-out-rule : tie.Need-array-copy-out-rule Inv-loop2 μ-loop2 Inv-loop �
 array-copy-out-rule c = (let l = below c in search needs)
 
 needed-requires : tie.Need-needed-requires Inv-loop2 μ-loop2 Inv-loop μ-loop
-needed-requires c κs = search needs
+needed-requires c κs = tt
 
 returns : tie.Need-returns Inv-loop2 μ-loop2 Inv-loop μ-loop
 returns c =
@@ -76,7 +76,7 @@ cast-raise : tie.Need-cast-raise Inv-loop2 μ-loop2 Inv-loop μ-loop
 cast-raise c = search needs
 
 raise-requires : tie.Need-raise-requires Inv-loop2 μ-loop2 Inv-loop μ-loop
-raise-requires c κs = search needs
+raise-requires c κs = tt
 
 add-i : tie.Need-add-i Inv-loop2 μ-loop2 Inv-loop μ-loop
 add-i c = search needs

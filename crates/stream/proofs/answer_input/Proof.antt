@@ -6,7 +6,7 @@ use Rattle.stream.proofs.answer_input.Statement.{statement}
 use Rattle.stream.proofs.answer_input.Tie as tie
 
 large-buffer-requires : tie.Need-large-buffer-requires
-large-buffer-requires c κs = search needs
+large-buffer-requires c κs = tt
 
 slice-aggregate-answer-lines : tie.Need-slice-aggregate-answer-lines
 slice-aggregate-answer-lines c = search needs
@@ -18,7 +18,7 @@ slice-aggregate-reply-at : tie.Need-slice-aggregate-reply-at
 slice-aggregate-reply-at c = search needs
 
 reply-at-requires : tie.Need-reply-at-requires
-reply-at-requires c κs = search needs
+reply-at-requires c κs = tt
 
 array-share-prefix-out : tie.Need-array-share-prefix-out
 array-share-prefix-out c =
@@ -31,7 +31,7 @@ slice-aggregate-write-out c =
     first-part _ _ (omega (arith, r .inside (omega arith), r .same-length))
 
 write-out-requires : tie.Need-write-out-requires
-write-out-requires c κs = search needs
+write-out-requires c κs = tt
 
 returns : tie.Need-returns
 returns c =

@@ -13,10 +13,10 @@ slice-aggregate-part : tie.Need-slice-aggregate-part
 slice-aggregate-part c = first-part _ _ (omega (arith, c .before .if1 .taken))
 
 read-requires : tie.Need-read-requires
-read-requires c κs = search needs
+read-requires c κs = tt
 
 count-requires : tie.Need-count-requires
-count-requires c κs = search needs
+count-requires c κs = tt
 
 same-length : tie.Need-same-length
 same-length c = search needs
@@ -29,10 +29,10 @@ returns c =
     (read .read .kept .1 .0 ∙ sym (first-part _ _ (omega (arith, test .if1 .taken))))
 
 read-requires-2 : tie.Need-read-requires-2
-read-requires-2 c κs = search needs
+read-requires-2 c κs = tt
 
 count-requires-2 : tie.Need-count-requires-2
-count-requires-2 c κs = search needs
+count-requires-2 c κs = tt
 
 same-length-2 : tie.Need-same-length-2
 same-length-2 c = search needs

@@ -13,7 +13,7 @@ is-sound : (c : tie.Else1) → Sound (c .before .before .args .table)
 is-sound c = sound.granted _ (c .before .sound .ensures) (c .if1 .left)
 
 sound-requires : tie.Need-sound-requires
-sound-requires c κs = search needs
+sound-requires c κs = tt
 
 returns : tie.Need-returns
 returns c = unsound (sound.refused _ (c .before .sound .ensures) (c .if1 .taken))
@@ -27,7 +27,7 @@ cast-s : tie.Need-cast-s
 cast-s c = search needs
 
 rule-in-requires : tie.Need-rule-in-requires
-rule-in-requires c κs = search needs
+rule-in-requires c κs = tt
 
 returns-3 : tie.Need-returns-3
 returns-3 c =

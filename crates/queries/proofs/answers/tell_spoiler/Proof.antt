@@ -5,7 +5,7 @@ use Rattle.queries.proofs.answers.tell_spoiler.Statement.{statement}
 use Rattle.queries.proofs.answers.tell_spoiler.Tie as tie
 
 spoiler-requires : tie.Need-spoiler-requires
-spoiler-requires c κs = search needs
+spoiler-requires c κs = tt
 
 enum-told : tie.Need-enum-told
 enum-told c = search needs

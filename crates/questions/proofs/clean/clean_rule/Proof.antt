@@ -26,7 +26,7 @@ returns c =
     too-many (s .args .rule) (long s) (c .if1 .taken)
 
 empty-from-requires : tie.Need-empty-from-requires
-empty-from-requires c κs = search needs
+empty-from-requires c κs = tt
 
 returns-2 : tie.Need-returns-2
 returns-2 c =

@@ -13,7 +13,7 @@ use Rattle.questions.proofs.clean.well_formed.Statement.{statement}
 use Rattle.questions.proofs.clean.well_formed.Tie as tie
 
 clean-rule-requires : tie.Need-clean-rule-requires
-clean-rule-requires c κs = search needs
+clean-rule-requires c κs = tt
 
 returns : tie.Need-returns
 returns c = not-clean _ _ (c .before .clean-rule .ensures) (c .if1 .taken)
@@ -24,7 +24,7 @@ returns-2 c =
     well-free _ _ (c1 .before .clean-rule .ensures) (c1 .if1 .left) (c .if2 .taken)
 
 bare-requires : tie.Need-bare-requires
-bare-requires c κs = search needs
+bare-requires c κs = tt
 
 slice-aggregate-s : tie.Need-slice-aggregate-s
 slice-aggregate-s c = search needs
@@ -71,7 +71,7 @@ part-first-no-end-2 : tie.Need-part-first-no-end-2
 part-first-no-end-2 c = omega (arith, clean (c .before) .fits)
 
 first-no-requires : tie.Need-first-no-requires
-first-no-requires c κs = search needs
+first-no-requires c κs = tt
 
 returns-3 : tie.Need-returns-3
 returns-3 c =

@@ -32,7 +32,7 @@ returns : tie.Need-returns
 returns c = compared-free _ _ _ _ _ _ _ (slot-free (c .before .before .args .rule) (c .if1 .taken))
 
 valid-requires : tie.Need-valid-requires
-valid-requires c κs = search needs
+valid-requires c κs = tt
 
 returns-2 : tie.Need-returns-2
 returns-2 c =
@@ -40,7 +40,7 @@ returns-2 c =
     (sym (c .before .valid .ensures) ∙ not-true _ (c .if2 .taken))
 
 has-requires : tie.Need-has-requires
-has-requires c κs = search needs
+has-requires c κs = tt
 
 returns-3 : tie.Need-returns-3
 returns-3 c =
@@ -49,10 +49,10 @@ returns-3 c =
     compared-out _ _ _ _ _ _ _ _ (held e) (good g) (sym (c .before .has .ensures) ∙ not-true _ (c .if3 .taken))
 
 level-requires : tie.Need-level-requires
-level-requires c κs = search needs
+level-requires c κs = tt
 
 number-of-requires : tie.Need-number-of-requires
-number-of-requires c κs = search needs
+number-of-requires c κs = tt
 
 cast-depth : tie.Need-cast-depth
 cast-depth c = search needs
@@ -76,7 +76,7 @@ returns-5 c =
     (omega (arith, k .level .ensures, d))
 
 slot-of-requires : tie.Need-slot-of-requires
-slot-of-requires c κs = search needs
+slot-of-requires c κs = tt
 
 returns-6 : tie.Need-returns-6
 returns-6 c =
@@ -94,7 +94,7 @@ returns-7 c =
     (omega (arith, l .level .ensures, d)) (omega (arith, o .before .before .before .slot-of .ensures))
 
 mark-requires : tie.Need-mark-requires
-mark-requires c κs = search needs
+mark-requires c κs = tt
 
 returns-8 : tie.Need-returns-8
 returns-8 c =

@@ -25,10 +25,10 @@ long : (s : tie.Start Inv-loop μ-loop) → length (s .args .t1 .entries) ≡ do
 long s = simp length-map at (s .good .0 .1 .1 .1 .1 .1 .1 .0 .1 .0 .1)
 
 negative-end-requires : tie.Need-negative-end-requires Inv-loop μ-loop
-negative-end-requires c κs = search needs
+negative-end-requires c κs = tt
 
 wide-requires : tie.Need-wide-requires Inv-loop μ-loop
-wide-requires c κs = search needs
+wide-requires c κs = tt
 
 loop-holds : tie.Need-loop-holds Inv-loop μ-loop
 loop-holds c =
@@ -47,7 +47,7 @@ element-copy-out-a : tie.Need-element-copy-out-a Inv-loop μ-loop
 element-copy-out-a c = search needs
 
 wide-requires-2 : tie.Need-wide-requires-2 Inv-loop μ-loop
-wide-requires-2 c κs = search needs
+wide-requires-2 c κs = tt
 
 mul-k : tie.Need-mul-k Inv-loop μ-loop
 mul-k c = (let l = c .before .before .before .loop .inv .0 in search needs)

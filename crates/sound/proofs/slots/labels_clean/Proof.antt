@@ -27,7 +27,7 @@ array-copy-out-label : tie.Need-array-copy-out-label Inv-loop μ-loop
 array-copy-out-label c = search needs
 
 clean-label-requires : tie.Need-clean-label-requires Inv-loop μ-loop
-clean-label-requires c κs = search needs
+clean-label-requires c κs = tt
 
 returns : tie.Need-returns Inv-loop μ-loop
 returns c =

@@ -12,7 +12,7 @@ returns : tie.Need-returns
 returns c = search needs
 
 key-requires : tie.Need-key-requires
-key-requires c κs = search needs
+key-requires c κs = tt
 
 mul-result : tie.Need-mul-result
 mul-result c = search needs

@@ -36,7 +36,7 @@ array-copy-out-rule : tie.Need-array-copy-out-rule Inv-loop2 μ-loop2 Inv-loop �
 array-copy-out-rule c = search needs
 
 last-of-requires : tie.Need-last-of-requires Inv-loop2 μ-loop2 Inv-loop μ-loop
-last-of-requires c κs = search needs
+last-of-requires c κs = tt
 
 cast-k : tie.Need-cast-k Inv-loop2 μ-loop2 Inv-loop μ-loop
 cast-k c = search needs
@@ -57,7 +57,7 @@ array-copy-out-other : tie.Need-array-copy-out-other Inv-loop2 μ-loop2 Inv-loop
 array-copy-out-other c = (let l = c .before .loop2 .inv .under in omega arith)
 
 same-requires : tie.Need-same-requires Inv-loop2 μ-loop2 Inv-loop μ-loop
-same-requires c κs = search needs
+same-requires c κs = tt
 
 returns : tie.Need-returns Inv-loop2 μ-loop2 Inv-loop μ-loop
 returns c =
@@ -123,7 +123,7 @@ cast-note : tie.Need-cast-note Inv-loop2 μ-loop2 Inv-loop μ-loop
 cast-note c = search needs
 
 note-requires : tie.Need-note-requires Inv-loop2 μ-loop2 Inv-loop μ-loop
-note-requires c κs = search needs
+note-requires c κs = tt
 
 add-i : tie.Need-add-i Inv-loop2 μ-loop2 Inv-loop μ-loop
 add-i c = search needs

@@ -12,7 +12,7 @@ returns : tie.Need-returns
 returns c = search needs
 
 key-requires : tie.Need-key-requires
-key-requires c κs = search needs
+key-requires c κs = tt
 
 mul-s : tie.Need-mul-s
 mul-s c = search needs

@@ -27,7 +27,7 @@ array-copy-out-rule : tie.Need-array-copy-out-rule Inv-loop μ-loop
 array-copy-out-rule c = search needs
 
 well-formed-requires : tie.Need-well-formed-requires Inv-loop μ-loop
-well-formed-requires c κs = search needs
+well-formed-requires c κs = tt
 
 returns : tie.Need-returns Inv-loop μ-loop
 returns c =

@@ -7,7 +7,6 @@ use Rattle.table.specs.declared.Label.{Label}
 use Rattle.table.specs.declared.Table.{Table}
 use Rattle.table.specs.Clean.{freeRule, emptyTable}
 use Rattle.table.specs.Labels.{absentLabel}
-use borrow.Author.Needs.{needs}
 use Rattle.table.proofs.Table.empty.Statement.{statement}
 use Rattle.table.proofs.Table.empty.Tie as tie
 
@@ -18,10 +17,10 @@ all-empty : (r : Rule) (l : Label) → r ≡ freeRule → l ≡ absentLabel → 
 all-empty r l e f = simp (e, f)
 
 free-requires : tie.Need-free-requires
-free-requires c κs = search needs
+free-requires c κs = tt
 
 absent-requires : tie.Need-absent-requires
-absent-requires c κs = search needs
+absent-requires c κs = tt
 
 returns : tie.Need-returns
 returns c = all-empty _ _ (c .before .free .ensures) (c .absent .ensures)

@@ -34,13 +34,13 @@ array-copy-out-label : tie.Need-array-copy-out-label Inv-loop μ-loop
 array-copy-out-label c = search needs
 
 is-in-requires : tie.Need-is-in-requires Inv-loop μ-loop
-is-in-requires c κs = search needs
+is-in-requires c κs = tt
 
 array-write-flags : tie.Need-array-write-flags Inv-loop μ-loop
 array-write-flags c = search needs
 
 depth-in-requires : tie.Need-depth-in-requires Inv-loop μ-loop
-depth-in-requires c κs = search needs
+depth-in-requires c κs = tt
 
 mul-depths : tie.Need-mul-depths Inv-loop μ-loop
 mul-depths c = search needs
@@ -49,7 +49,7 @@ array-write-depths : tie.Need-array-write-depths Inv-loop μ-loop
 array-write-depths c = search needs
 
 slot-in-requires : tie.Need-slot-in-requires Inv-loop μ-loop
-slot-in-requires c κs = search needs
+slot-in-requires c κs = tt
 
 mul-slots : tie.Need-mul-slots Inv-loop μ-loop
 mul-slots c = search needs

@@ -22,7 +22,7 @@ returns : tie.Need-returns
 returns c = search needs
 
 absent-requires : tie.Need-absent-requires
-absent-requires c κs = search needs
+absent-requires c κs = tt
 
 returns-2 : tie.Need-returns-2
 returns-2 c =

@@ -26,7 +26,7 @@ returns c =
     there (s .args .t1) _ pastRule freeRule (omega arith)
 
 free-requires : tie.Need-free-requires
-free-requires c κs = search needs
+free-requires c κs = tt
 
 returns-2 : tie.Need-returns-2
 returns-2 c =
