@@ -21,7 +21,7 @@ use Rattle.table.specs.Rules.{ruleOf, held-in, slotOf, programOf, pastRule}
 use Rattle.table.specs.Sets.{member}
 use Rattle.table.proofs.Members.{mark-is}
 use Rattle.table.proofs.Programs.{slot-free, slot-held}
-use Rattle.model.specs.Rounds.{missing}
+use Rattle.model.specs.Rounds.{missing, waits}
 
 -- An atom of another stratum is not missing; of one of the stratum k the set decides.
 module _ (stratum k : ℕ) (t : Bool) where
@@ -30,6 +30,20 @@ module _ (stratum k : ℕ) (t : Bool) where
 
   pub missing-here : stratum ≡ k → t ≡ (eqb stratum k && t)
   missing-here e = sym (ap (λ b. b && t) (eqb-of stratum k e))
+
+-- A free slot does not wait; of one that holds a rule the head decides.
+module _ (ℓ : ℕ → ℕ) (k : ℕ) (M : AtomSet) where
+  pub waits-free : (n a : ℕ) → n ≡ 0 → false ≡ waits ℓ k M n a
+  waits-free zero a e = refl
+  waits-free (suc n) a e = absurd (omega arith)
+
+  pub waits-held : (n a : ℕ) → (n ≡ 0 → ⊥) → missing ℓ k M a ≡ waits ℓ k M n a
+  waits-held zero a f = absurd (f refl)
+  waits-held (suc n) a f = refl
+
+  pub waits-missing : (n a : ℕ) → waits ℓ k M n a ≡ true → missing ℓ k M a ≡ true
+  waits-missing zero a e = absurd (true≢false (sym e))
+  waits-missing (suc n) a e = e
 
 -- A slot that holds a rule holds a valid one if that is valid.
 pub rule-decides : (M : AtomSet) (rule : Rule) → (rule .state ≡ 0 → ⊥)
@@ -56,10 +70,15 @@ pub record Left (ℓ : ℕ → ℕ) (k : ℕ) (rules : List Rule) (before : List
   pub more : (added || adds ℓ k (member found) (programOf (drop i rules))) ≡ adds ℓ k (member before) (programOf rules)
   pub size : length found ≡ length before
 
--- No slot from the place e on has a head that is missing.
+-- Does slot s wait?
+abbrev pub waits-at : (ℕ → ℕ) → ℕ → List Rule → List Bool → ℕ → Bool
+waits-at ℓ k rules found s =
+    waits ℓ k (member found) (getD rules s pastRule .state) (getD rules s pastRule .head .0)
+
+-- No slot from the place e on waits.
 abbrev pub NoneFrom : (ℕ → ℕ) → ℕ → List Rule → List Bool → ℕ → Type 0
 NoneFrom ℓ k rules found e =
-    (s : ℕ) → e ≤ s → s < length rules → missing ℓ k (member found) (getD rules s pastRule .head .0) ≡ false
+    (s : ℕ) → e ≤ s → s < length rules → waits-at ℓ k rules found s ≡ false
 
 -- A round made.
 pub record Round (ℓ : ℕ → ℕ) (k : ℕ) (rules : List Rule) (before found : List Bool) (added : Bool) : Type 0 where
@@ -125,6 +144,15 @@ module _ (ℓ : ℕ → ℕ) (k : ℕ) (rules : List Rule) where
       pub left-stop : good ≡ false → Left ℓ k rules before (i + 1) found u
       left-stop e = stay (ap (λ b. new && b) e ∙ and-false new)
 
+      -- So a slot that does not wait adds none.
+      pub left-idle : waits ℓ k (member found) (here .state) (here .head .0) ≡ false → Left ℓ k rules before (i + 1) found u
+      left-idle = go (here .state) refl
+        where
+          go : (n : ℕ) → here .state ≡ n → waits ℓ k (member found) n (here .head .0) ≡ false
+              → Left ℓ k rules before (i + 1) found u
+          go zero q e = left-stop (ap (passes (valid (member found))) (slot-free here q))
+          go (suc n) q e = left-over e
+
       -- Else its head comes in.
       pub left-add : HeadBelow (slotOf here) (length found) → new ≡ true → good ≡ true
           → (after : List Bool) → after ≡ set found (here .head .0) true → Left ℓ k rules before (i + 1) after true
@@ -148,24 +176,24 @@ module _ (ℓ : ℕ → ℕ) (k : ℕ) (rules : List Rule) where
           size = L .size;
         }
 
-    -- A round that leaves out the last slots, whose heads are not missing, is the whole round.
+    -- A round that leaves out the last slots, none of which waits, is the whole round.
     rest-over : (n i : ℕ) (found : List Bool) (u : Bool) → length rules ≤ i + n → NoneFrom ℓ k rules found i
         → Left ℓ k rules before i found u → Round ℓ k rules before found u
     rest-over zero i found u b N L = left-end i found u (omega arith) L
     rest-over (suc n) i found u b N L = ⊎-elim
         (λ (l : length rules ≤ i). left-end i found u l L)
         (λ (l : i < length rules). rest-over n (i + 1) found u (omega arith) (λ s m. N s (omega arith))
-        (left-over i found u l L (N i (omega arith) l)))
+        (left-idle i found u l L (N i (omega arith) l)))
         (le-or-lt (length rules) i)
 
     pub left-rest : (i : ℕ) (found : List Bool) (u : Bool) → NoneFrom ℓ k rules found i
         → Left ℓ k rules before i found u → Round ℓ k rules before found u
     left-rest i found u N L = rest-over (length rules) i found u (omega arith) N L
 
--- With the slots below i visited: none from `last` on, and none from `end` on, has a head that is missing.
+-- With the slots below i visited: none from `last` on, and none from `end` on, waits.
 pub record Seen (ℓ : ℕ → ℕ) (k : ℕ) (rules : List Rule) (found : List Bool) (end last i : ℕ) : Type 0 where
   pub low : last ≤ i
-  pub inner : (s : ℕ) → last ≤ s → s < i → missing ℓ k (member found) (getD rules s pastRule .head .0) ≡ false
+  pub inner : (s : ℕ) → last ≤ s → s < i → waits-at ℓ k rules found s ≡ false
   pub outer : NoneFrom ℓ k rules found end
 
 module _ (ℓ : ℕ → ℕ) (k : ℕ) (rules : List Rule) where
@@ -173,34 +201,33 @@ module _ (ℓ : ℕ → ℕ) (k : ℕ) (rules : List Rule) where
   seen-start found end N = record { low = omega arith; inner = λ s l m. absurd (omega arith); outer = N }
 
   module _ (found : List Bool) (end last i : ℕ) (S : Seen ℓ k rules found end last i) where
-    -- the head of slot i is not missing,
-    pub seen-over :
-        missing ℓ k (member found) (getD rules i pastRule .head .0) ≡ false → Seen ℓ k rules found end last (i + 1)
+    -- slot i does not wait,
+    pub seen-over : waits-at ℓ k rules found i ≡ false → Seen ℓ k rules found end last (i + 1)
     seen-over e = record {
       low = omega (arith, S .low);
       inner = λ s l m. ⊎-elim
           (λ (b : i ≤ s). (
           let q : i ≡ s = omega arith in
-          subst (λ (z : ℕ). missing ℓ k (member found) (getD rules z pastRule .head .0) ≡ false) q e))
+          subst (λ (z : ℕ). waits-at ℓ k rules found z ≡ false) q e))
           (λ (b : s < i). S .inner s l b)
           (le-or-lt i s);
       outer = S .outer;
     }
 
-    -- or it is the last so far that is.
+    -- or it is the last so far that does.
     pub seen-here : Seen ℓ k rules found end (i + 1) (i + 1)
     seen-here = record { low = omega arith; inner = λ s l m. absurd (omega arith); outer = S .outer }
 
     pub seen-end : end ≤ i → NoneFrom ℓ k rules found last
     seen-end b s l r = ⊎-elim (λ (m : i ≤ s). S .outer s (omega arith) r) (λ (m : s < i). S .inner s l m) (le-or-lt i s)
 
-  -- A head that comes in leaves none missing that was not.
+  -- A head that comes in makes no slot wait.
   pub seen-mark : (found : List Bool) (end last i a : ℕ) (after : List Bool) → after ≡ set found a true
       → Seen ℓ k rules found end last i → Seen ℓ k rules after end last i
   seen-mark found end last i a after is S = rw is (record {
     low = S .low;
-    inner = λ s l m. gone (getD rules s pastRule .head .0) (S .inner s l m);
-    outer = λ s l r. gone (getD rules s pastRule .head .0) (S .outer s l r);
+    inner = λ s l m. gone (getD rules s pastRule .state) (getD rules s pastRule .head .0) (S .inner s l m);
+    outer = λ s l r. gone (getD rules s pastRule .state) (getD rules s pastRule .head .0) (S .outer s l r);
   })
     where
       keeps : (x : ℕ) → member found x ≡ true → member (set found a true) x ≡ true
@@ -218,5 +245,6 @@ module _ (ℓ : ℕ → ℕ) (k : ℕ) (rules : List Rule) where
       go true true n e f = ap not (f refl)
       go true false n e f = absurd (true≢false e)
 
-      gone : (x : ℕ) → missing ℓ k (member found) x ≡ false → missing ℓ k (member (set found a true)) x ≡ false
-      gone x e = go (eqb (ℓ x) k) (member found x) (member (set found a true) x) e (keeps x)
+      gone : (n x : ℕ) → waits ℓ k (member found) n x ≡ false → waits ℓ k (member (set found a true)) n x ≡ false
+      gone zero x e = refl
+      gone (suc n) x e = go (eqb (ℓ x) k) (member found x) (member (set found a true) x) e (keeps x)

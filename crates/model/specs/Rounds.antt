@@ -1,8 +1,8 @@
 -- What the functions of the crate tell each other (private): which atoms are missing, and what the rounds of a stratum
 -- do to the atoms found so far, as the theory's functions have it. Assumes nothing.
-use Prim.Native.Nat.{ℕ, suc, _≤_}
+use Prim.Native.Nat.{ℕ, zero, suc, _≤_}
 use mathlib.Core.Path.{_≡_}
-use mathlib.Core.Bool.{Bool, not, _&&_}
+use mathlib.Core.Bool.{Bool, false, not, _&&_}
 use mathlib.Core.List.{List}
 use lib.Dec.{eqb}
 use lib.ListN.{length}
@@ -16,6 +16,11 @@ use Rattle.model.specs.Model.{Stratified}
 -- An atom is missing if it is of stratum k and not in M.
 abbrev pub missing : (ℕ → ℕ) → ℕ → AtomSet → ℕ → Bool
 missing ℓ k M a = eqb (ℓ a) k && not (M a)
+
+-- A slot waits if it holds a rule (its state is not 0) whose head is missing.
+abbrev pub waits : (ℕ → ℕ) → ℕ → AtomSet → ℕ → ℕ → Bool
+waits ℓ k M zero a = false
+waits ℓ k M (suc n) a = missing ℓ k M a
 
 -- The strata below k are done, and there is room for every atom.
 pub record Ready (P : Program) (ℓ : ℕ → ℕ) (k : ℕ) (found : List Bool) : Type 0 where

@@ -12,7 +12,7 @@ ghost use Rattle.theory.specs.Models.{valid, Admissible};
 ghost use Rattle.table.specs.Rules.{slotOf, programOf};
 ghost use Rattle.table.specs.Sets.{member, number};
 ghost use Rattle.model.specs.Model.{Stratified};
-ghost use Rattle.model.specs.Rounds.{missing, Ready, Filling, Greatest};
+ghost use Rattle.model.specs.Rounds.{missing, waits, Ready, Filling, Greatest};
 
 // Is the atom of stratum k and not in yet?
 fn missing(a: Atom, strata: &[u16; Table::ATOMS], k: u16, found: &[bool; Table::ATOMS]) -> bool
@@ -22,6 +22,23 @@ fn missing(a: Atom, strata: &[u16; Table::ATOMS], k: u16, found: &[bool; Table::
         return false;
     }
     !has(found, a)
+}
+
+// Does a slot of this state and head hold a rule whose head is missing?
+fn waits(
+    state: u16,
+    head: Atom,
+    strata: &[u16; Table::ATOMS],
+    k: u16,
+    found: &[bool; Table::ATOMS],
+) -> bool
+    ensures { λ r. ⌜
+        r ≡ waits (number (now (strata .entry))) k (member (now (found .entry))) state (head .0) ⌝ }
+{
+    if state == 0 {
+        return false;
+    }
+    missing(head, strata, k, found)
 }
 
 // Does the slot hold a rule that is valid in the set?
@@ -46,18 +63,18 @@ fn fill_stratum(
         (now (found .entry)) (now (found .exit)) r ⌝ }
 {
     let mut rounds: u16 = 0;
-    // from this slot on no head is missing: the visits there would add none
+    // from here on no slot waits: visits there would add none
     let mut end = Table::SLOTS;
     loop {
         let mut adds = false;
         let mut last: usize = 0;
         let mut i: usize = 0;
         while i < end {
-            // the head decides most visits: the rule is copied only if its head is missing
+            // state and head decide most visits: the rule is copied only if it waits
             let slot = i;
             i += 1;
             let head = Atom(rules[slot].head.0);
-            if !missing(head, strata, k, found) {
+            if !waits(rules[slot].state, head, strata, k, found) {
                 continue;
             }
             last = i;

@@ -4,13 +4,13 @@
 use Prim.Native.Nat.{suc, _-_, _≤_}
 use native.Mathlib.Omega.{arith}
 use mathlib.Core.Path.{_≡_, refl, sym, _∙_}
-use lib.ListN.{length}
+use lib.ListN.{length, getD}
 use Rattle.theory.specs.Limits.{document}
 use Rattle.theory.proofs.Lists.{not-true, not-false}
 use Rattle.theory.specs.Rounds.{fill}
-use Rattle.table.specs.Rules.{programOf}
+use Rattle.table.specs.Rules.{programOf, pastRule}
 use Rattle.table.specs.Sets.{member, number}
-use Rattle.model.proofs.Visits.{Left, left-start, left-over, left-stop, left-add, left-rest}
+use Rattle.model.proofs.Visits.{Left, left-start, left-idle, left-stop, left-add, left-rest, waits-missing}
 use Rattle.model.proofs.Visits.{NoneFrom, Seen, seen-start, seen-over, seen-here, seen-mark, seen-end}
 use Rattle.model.proofs.Rounds.{Going, going-start, going-few, room-of, head-below}
 use Rattle.model.proofs.Rounds.{stratum-next, stratum-found, stratum-number}
@@ -48,14 +48,20 @@ loop2-holds c =
 add-i : tie.Need-add-i Inv-loop2 μ-loop2 Inv-loop μ-loop
 add-i c = search needs
 
-mul-t15 : tie.Need-mul-t15 Inv-loop2 μ-loop2 Inv-loop μ-loop
-mul-t15 c = (let l = c .before .loop2 .inv .2 in search needs)
+mul-waits : tie.Need-mul-waits Inv-loop2 μ-loop2 Inv-loop μ-loop
+mul-waits c = (let l = c .before .loop2 .inv .2 in search needs)
 
-element-copy-out-t18 : tie.Need-element-copy-out-t18 Inv-loop2 μ-loop2 Inv-loop μ-loop
-element-copy-out-t18 c = (let l = c .before .loop2 .inv .2 in search needs)
+element-copy-out-waits : tie.Need-element-copy-out-waits Inv-loop2 μ-loop2 Inv-loop μ-loop
+element-copy-out-waits c = (let l = c .before .loop2 .inv .2 in search needs)
 
-missing-requires : tie.Need-missing-requires Inv-loop2 μ-loop2 Inv-loop μ-loop
-missing-requires c κs = tt
+mul-waits-2 : tie.Need-mul-waits-2 Inv-loop2 μ-loop2 Inv-loop μ-loop
+mul-waits-2 c = (let l = c .before .loop2 .inv .2 in search needs)
+
+element-copy-out-waits-2 : tie.Need-element-copy-out-waits-2 Inv-loop2 μ-loop2 Inv-loop μ-loop
+element-copy-out-waits-2 c = (let l = c .before .loop2 .inv .2 in search needs)
+
+waits-requires : tie.Need-waits-requires Inv-loop2 μ-loop2 Inv-loop μ-loop
+waits-requires c κs = tt
 
 loop2-less : tie.Need-loop2-less Inv-loop2 μ-loop2 Inv-loop μ-loop
 loop2-less c = search needs
@@ -65,8 +71,8 @@ loop2-again c =
     let at = c .before .before .before .before in
     let s = at .before .before in
     let len : length (s .args .t1) ≡ document .slots = search needs in
-    let no = sym (c .before .missing .ensures) ∙ not-true _ (c .if1 .taken) in (
-      left-over _ _ (s .args .t1) _ (at .loop2 .i) _ _ (omega (arith, at .loop2 .inv .2)) (at .loop2 .inv .0) no,
+    let no = sym (c .before .waits .ensures) ∙ not-true _ (c .if1 .taken) in (
+      left-idle _ _ (s .args .t1) _ (at .loop2 .i) _ _ (omega (arith, at .loop2 .inv .2)) (at .loop2 .inv .0) no,
       seen-over _ _ (s .args .t1) _ _ _ (at .loop2 .i) (at .loop2 .inv .1) no,
       at .loop2 .inv .2,
     )
@@ -107,11 +113,13 @@ loop2-again-3 c =
     let at = new .before .before .before .before in
     let s = at .before .before in
     let len : length (s .args .t1) ≡ document .slots = search needs in
+    let here = getD (s .args .t1) (at .loop2 .i) pastRule in
     let size : length (at .loop2 .found) ≡ document .atoms =
     at .loop2 .inv .0 .size ∙ (at .before .loop .inv .1 ∙ s .pre .size) in (
       left-add _ _ (s .args .t1) _ (at .loop2 .i) _ _ (omega (arith, at .loop2 .inv .2)) (at .loop2 .inv .0)
           (rw size (head-below (s .args .t1) (document .atoms) _ (s .pre .stratified .bounded)))
-          (sym (new .before .missing .ensures) ∙ not-false _ (new .if1 .left))
+          (waits-missing (number (s .args .strata .now)) (s .args .k) (member (at .loop2 .found)) (here .state)
+          (here .head .0) (sym (new .before .waits .ensures) ∙ not-false _ (new .if1 .left)))
           (sym (good .before .holds-valid .ensures) ∙ not-false _ (good .if2 .left)) _ (c .mark .ensures),
       seen-mark _ _ (s .args .t1) _ _ _ _ _ _ (c .mark .ensures)
           (seen-here _ _ (s .args .t1) _ _ _ (at .loop2 .i) (at .loop2 .inv .1)),
@@ -175,9 +183,11 @@ fill-stratum-spec =
     loop-holds
     loop2-holds
     add-i
-    mul-t15
-    element-copy-out-t18
-    missing-requires
+    mul-waits
+    element-copy-out-waits
+    mul-waits-2
+    element-copy-out-waits-2
+    waits-requires
     loop2-less
     loop2-again
     mul-rule
