@@ -29,12 +29,20 @@ pub fn same(a: &Rule, b: &Rule) -> bool {
     a.head == b.head && positives(a) == positives(b) && negatives(a) == negatives(b)
 }
 
-/// Only rules of one head are compared: they are linked by the slot before.
+/// A number that rules which are the same share.
+fn key(rule: &Rule) -> usize {
+    let entries = positives(rule).iter().chain(negatives(rule));
+    let sum = entries.fold(rule.head as usize, |k, &x| (8121 * k + x as usize) % 65536);
+    8121 * sum % 65536 / 256
+}
+
+/// Only rules of one key are compared: they are linked by the slot before.
 fn no_two_same(rules: &[Rule; SLOTS]) -> bool {
-    let mut last = [0; ATOMS];
+    let mut last = [0; 256];
     let mut before = [0; SLOTS];
     for (i, rule) in rules.iter().enumerate().filter(|(_, rule)| rule.state != 0) {
-        let start = last[rule.head as usize];
+        let key = key(rule);
+        let start = last[key];
         let mut k = start;
         while k > 0 {
             if same(rule, &rules[k - 1]) {
@@ -43,7 +51,7 @@ fn no_two_same(rules: &[Rule; SLOTS]) -> bool {
             k = before[k - 1];
         }
         before[i] = start;
-        last[rule.head as usize] = i + 1;
+        last[key] = i + 1;
     }
     true
 }
