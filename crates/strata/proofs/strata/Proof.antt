@@ -12,7 +12,7 @@ use Rattle.table.specs.Turns.{slotAt}
 use Rattle.table.proofs.SlotsInTurn.{slot-at-below}
 use Rattle.strata.proofs.Rounds.{Rounds, Slots}
 use Rattle.strata.proofs.Numbers.{raised-length}
-use Rattle.strata.proofs.Arrays.{start, begin, passed, next, rest, more, over}
+use Rattle.strata.proofs.Arrays.{entries-below, start, begin, passed, next, rest, more, over}
 use Rattle.strata.proofs.strata.Statement.{statement}
 use Rattle.strata.proofs.strata.Tie as tie
 use Rattle.strata.proofs.strata.Reads as reads
@@ -62,7 +62,9 @@ array-copy-out-rule : tie.Need-array-copy-out-rule Inv-loop2 μ-loop2 Inv-loop �
 array-copy-out-rule c = (let l = below c in search needs)
 
 needed-requires : tie.Need-needed-requires Inv-loop2 μ-loop2 Inv-loop μ-loop
-needed-requires c κs = tt
+needed-requires c κs =
+    let s = c .before .before .before .before .before .before .before in
+    entries-below (s .args .t1) _ _ (s .pre)
 
 returns : tie.Need-returns Inv-loop2 μ-loop2 Inv-loop μ-loop
 returns c =
