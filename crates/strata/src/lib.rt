@@ -5,7 +5,6 @@ use table::Atom;
 use table::Rule;
 use table::Table;
 use table::sets::larger;
-use table::sets::number_of;
 use table::sets::set_number;
 use table::turns::slot_at;
 ghost use mathlib.Core.Path.{_≡_};
@@ -66,11 +65,16 @@ fn needed(rule: Rule, kept: &[u16; Table::ATOMS]) -> usize
     larger(positive, negative)
 }
 
-// The atom's number becomes `n` if it is lower: was it?
+// The atom's number becomes `n` if it is lower: was it? None is lower than 0, which is all that a free slot needs of
+// its head: only that may be no atom of the table.
 fn raise(kept: &mut [u16; Table::ATOMS], a: Atom, n: u16) -> bool
+    requires { ⌜ (0 < n → a .0 < document .atoms) ⌝ }
     ensures { λ r. ⌜ Raised (now (kept .entry)) (a .0) n (now (kept .exit)) r ⌝ }
 {
-    if n <= number_of(kept, a) {
+    if n == 0 {
+        return false;
+    }
+    if n <= number_at(kept, a) {
         return false;
     }
     set_number(kept, a, n);

@@ -35,8 +35,8 @@ greatest-requires-2 c κs =
     let s = c .before .before .before .before .before in (
       search needs,
       negatives-below (s .args .rule) _ (document .entries)
-          (simp length-map at (s .good .0 .1 .1 .1 .1 .1 .1 .0 .1 .0 .1)) (c .before .before .before .if1 .left) (s .pre) _
-          (c .before .before .positive-end .ensures) _ (c .before .negative-end .ensures),
+          (simp length-map at (s .good .0 .1 .1 .1 .1 .1 .1 .0 .1 .0 .1)) (c .before .before .before .if1 .left)
+          (s .pre) _ (c .before .before .positive-end .ensures) _ (c .before .negative-end .ensures),
     )
 
 larger-requires : tie.Need-larger-requires

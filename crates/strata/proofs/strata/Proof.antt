@@ -12,7 +12,7 @@ use Rattle.table.specs.Turns.{slotAt}
 use Rattle.table.proofs.SlotsInTurn.{slot-at-below}
 use Rattle.strata.proofs.Rounds.{Rounds, Slots}
 use Rattle.strata.proofs.Numbers.{raised-length}
-use Rattle.strata.proofs.Arrays.{entries-below, start, begin, passed, next, rest, more, over}
+use Rattle.strata.proofs.Arrays.{entries-below, head-below, start, begin, passed, next, rest, more, over}
 use Rattle.strata.proofs.strata.Statement.{statement}
 use Rattle.strata.proofs.strata.Tie as tie
 use Rattle.strata.proofs.strata.Reads as reads
@@ -78,7 +78,10 @@ cast-raise : tie.Need-cast-raise Inv-loop2 μ-loop2 Inv-loop μ-loop
 cast-raise c = search needs
 
 raise-requires : tie.Need-raise-requires Inv-loop2 μ-loop2 Inv-loop μ-loop
-raise-requires c κs = tt
+raise-requires c κs =
+    let w = c .before .before .before .before .before in
+    let s = w .before .before .before .before .before in
+    head-below (s .args .t1) _ _ _ _ (s .pre) (c .before .before .needed .ensures)
 
 add-i : tie.Need-add-i Inv-loop2 μ-loop2 Inv-loop μ-loop
 add-i c = search needs
