@@ -53,7 +53,7 @@ slot-at-requires c κs = tt
 
 -- the slot come to is one of the table's
 below : (c : tie.After-slot-at Inv-loop2 μ-loop2 Inv-loop μ-loop) → c .slot-at .result < document .slots
-below c = slot-at-below _ _ _ _ (c .slot-at .ensures) (c .before .loop2-test .taken)
+below c = slot-at-below _ _ _ _ (c .slot-at .ensures) (omega (arith, c .before .loop2-test .taken))
 
 mul-rule : tie.Need-mul-rule Inv-loop2 μ-loop2 Inv-loop μ-loop
 mul-rule c = (let l = below c in search needs)
