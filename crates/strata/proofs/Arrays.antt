@@ -4,7 +4,7 @@ use Prim.Native.Nat.{ℕ, _+_, _≤_, _<_}
 use native.Mathlib.Omega.{arith}
 use mathlib.Core.Path.{_≡_, refl, sym, _∙_, ap, subst}
 use mathlib.Core.Bool.{Bool, true, false, _||_}
-use mathlib.Core.List.{List, [], _∷_, List·Memᴰ·head}
+use mathlib.Core.List.{List, [], _∷_, List·Memᴰ·head, List·Memᴰ·tail}
 use mathlib.Core.Option.{none, some}
 use lib.ListN.{length, getD, replicate}
 use Rattle.theory.specs.Rules.{Program, Bounded}
@@ -16,9 +16,9 @@ use Rattle.table.specs.Turns.{slotAt}
 use Rattle.table.specs.Rules.{slotOf, programOf, pastRule}
 use Rattle.table.proofs.Members.{all-alike}
 use Rattle.table.proofs.SlotsInTurn.{slot-at-each}
-use Rattle.table.proofs.Programs.{program-at, program-length, held-rule}
+use Rattle.table.proofs.Programs.{program-at, program-length, held-rule, state-held, slot-free}
 use Rattle.strata.specs.Answer.{StrataOf}
-use Rattle.strata.specs.Needed.{needed, Raised}
+use Rattle.strata.specs.Needed.{needed, EntriesBelow, Raised}
 use Rattle.strata.proofs.Answer.{told-strata, told-cycle}
 use Rattle.strata.proofs.Rounds.{ComesToAll, Rounds, Slots, rounds-start, slots-start, slot-next}
 use Rattle.strata.proofs.Rounds.{slots-over, slots-rest, slots-passed}
@@ -29,6 +29,19 @@ unfolding rules
 few-rules [] = omega arith
 few-rules (none ∷ P) = omega (arith, few-rules P)
 few-rules (some r ∷ P) = omega (arith, few-rules P)
+
+-- What the program says of the atoms of a slot's rule, if it holds one.
+pub entries-below :
+    (rows : List Rule) (b s : ℕ) → Bounded (programOf rows) b → EntriesBelow b (slotOf (getD rows s pastRule))
+entries-below rows b s B r h x m = B s r (program-at rows s ∙ h) x (List·Memᴰ·tail m)
+
+-- A slot that needs a number above 0 holds a rule, whose head is an atom of the program too.
+pub head-below :
+    (rows : List Rule) (b s n : ℕ) (ℓ : ℕ → ℕ) → Bounded (programOf rows) b
+    → n ≡ needed ℓ (slotOf (getD rows s pastRule)) → 0 < n → getD rows s pastRule .head .0 < b
+head-below rows b s n ℓ B e l =
+    B s _ (state-held rows s
+    (λ z. omega (arith, e ∙ ap (needed ℓ) (slot-free (getD rows s pastRule) z)))) _ (List·Memᴰ·head refl)
 
 module _ (rows : List Rule) (S : ℕ) (long : length rows ≡ S) where
   few : length (rules (programOf rows)) ≤ S

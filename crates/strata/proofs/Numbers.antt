@@ -1,10 +1,11 @@
 -- Laws of the greatest number among a rule's entries, of what a rule needs, and of raising a number. Assumes nothing.
 use Prim.Native.Nat.{ℕ, _+_, _≤_, _<_, min, max}
 use native.Mathlib.Omega.{arith}
-use mathlib.Core.Path.{_≡_, refl, sym, _∙_, ap, ap₂}
+use mathlib.Core.Path.{_≡_, refl, sym, _∙_, ap, ap₂, subst}
 use mathlib.Core.Logic.{_⊎_, inl, inr, ⊎-elim}
 use mathlib.Core.Bool.{Bool, true, false, true≢false}
 use mathlib.Core.List.{List, [], _∷_, List·Memᴰ·head, List·Memᴰ·tail, List·Memᴰ·cases-cons, List·Memᴰ·not-nil}
+use mathlib.Core.List.{Memᴰ·append-left, Memᴰ·append-right}
 use mathlib.Core.Option.{some}
 use lib.ListN.{length, getD, set, length-set}
 use lib.Seq.{slice}
@@ -17,7 +18,7 @@ use Rattle.table.specs.Sets.{number}
 use Rattle.table.specs.Rules.{numbers, ruleOf, slotOf, noAtom}
 use Rattle.table.proofs.Programs.{slot-held}
 use Rattle.table.proofs.Entries.{part-over, part-next, positives-are, negatives-are}
-use Rattle.strata.specs.Needed.{greatest, needed, Raised}
+use Rattle.strata.specs.Needed.{greatest, needed, AllBelow, EntriesBelow, Raised}
 use Rattle.strata.proofs.Walks.{Entry, plain, denied}
 
 -- A walk over the entries from j to below n: what was found and what is left give the whole.
@@ -42,6 +43,29 @@ module _ (step : ℕ) (ℓ : ℕ → ℕ) (xs : List Atom) (j n : ℕ) where
       → max most (greatest step ℓ (numbers (slice j n xs))) ≡ whole
       → max next (greatest step ℓ (numbers (slice (j + 1) n xs))) ≡ whole
   greatest-next most whole v next l k e f g = omega (arith, one-more l k)
+
+-- If the entries from j to below n are below b, so are entry j and those after it.
+module _ (xs : List Atom) (b j n : ℕ) (B : AllBelow b (numbers (slice j n xs))) (l : j < n) (k : n ≤ length xs) where
+  from-here : AllBelow b (getD xs j noAtom .0 ∷ numbers (slice (j + 1) n xs))
+  from-here = subst (AllBelow b) (part-next xs j n l k) B
+
+  pub entry-below : getD xs j noAtom .0 < b
+  entry-below = from-here _ (List·Memᴰ·head refl)
+
+  pub rest-below : AllBelow b (numbers (slice (j + 1) n xs))
+  rest-below x m = from-here x (List·Memᴰ·tail m)
+
+-- The two parts of a slot's entries are below what all of them are below.
+module _ (r : Rule) (b e : ℕ) (long : length (r .entries) ≡ e) (held : r .state ≡ 0 → ⊥)
+    (B : EntriesBelow b (slotOf r)) (p : ℕ) (here : p ≡ min (r .positives) e) where
+  pub positives-below : AllBelow b (numbers (slice 0 p (r .entries)))
+  positives-below = subst (AllBelow b) (positives-are r e long p here)
+      (λ x m. B (ruleOf r) (slot-held r held) x (Memᴰ·append-left _ m))
+
+  pub negatives-below : (n : ℕ) → n ≡ min (r .positives + r .negatives) e
+      → AllBelow b (numbers (slice p n (r .entries)))
+  negatives-below n there = subst (AllBelow b) (negatives-are r e long p here n there)
+      (λ x m. B (ruleOf r) (slot-held r held) x (Memᴰ·append-right (ruleOf r .positives) m))
 
 -- What a slot that holds a rule needs: the greater of what its two lists need.
 pub needed-held :

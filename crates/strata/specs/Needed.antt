@@ -6,7 +6,8 @@ use mathlib.Core.Bool.{Bool, true, false}
 use mathlib.Core.List.{List, [], _∷_}
 use mathlib.Core.Option.{Option, none, some}
 use lib.ListN.{set}
-use Rattle.theory.specs.Rules.{Rule}
+use Rattle.theory.specs.Lists.{_∈_}
+use Rattle.theory.specs.Rules.{Rule, entries}
 use Rattle.table.specs.Sets.{number}
 
 -- The greatest of the numbers of some atoms, each made greater by a step; 0 if there is no atom.
@@ -18,6 +19,13 @@ greatest step ℓ (x ∷ xs) = max (step + ℓ x) (greatest step ℓ xs)
 abbrev pub needed : (ℕ → ℕ) → Option Rule → ℕ
 needed ℓ none = 0
 needed ℓ (some r) = max (greatest 0 ℓ (r .positives)) (greatest 1 ℓ (r .negatives))
+
+-- All numbers of a list are below n; all entries of a slot's rule are, if it holds one.
+abbrev pub AllBelow : ℕ → List ℕ → Type 0
+AllBelow n xs = (x : ℕ) → x ∈ xs → x < n
+
+abbrev pub EntriesBelow : ℕ → Option Rule → Type 0
+EntriesBelow n slot = (r : Rule) → slot ≡ some r → AllBelow n (entries r)
 
 -- The atom's number becomes n if it is lower, and the flag says whether it was.
 pub record Raised (before : List ℕ) (a n : ℕ) (after : List ℕ) (flag : Bool) : Type 0 where

@@ -5,18 +5,17 @@ use table::Atom;
 use table::Rule;
 use table::Table;
 use table::sets::larger;
-use table::sets::number_of;
 use table::sets::set_number;
 use table::turns::slot_at;
 ghost use mathlib.Core.Path.{_≡_};
-ghost use Prim.Native.Nat.{_≤_};
+ghost use Prim.Native.Nat.{_≤_, _<_};
 ghost use lib.Seq.{slice};
 ghost use Rattle.theory.specs.Rules.{Bounded};
 ghost use Rattle.theory.specs.Limits.{document};
 ghost use Rattle.table.specs.Sets.{number};
 ghost use Rattle.table.specs.Rules.{numbers, slotOf, programOf};
 ghost use Rattle.strata.specs.Answer.{StrataOf};
-ghost use Rattle.strata.specs.Needed.{greatest, needed, Raised};
+ghost use Rattle.strata.specs.Needed.{greatest, needed, AllBelow, EntriesBelow, Raised};
 
 // Either each atom's stratum, or that there is a negative cycle; `of` says nothing then.
 pub struct Stratification {
@@ -24,16 +23,27 @@ pub struct Stratification {
     pub of: [u16; Table::ATOMS],
 }
 
+// The number kept for an atom of the table. Reading it takes most of the time of a round, so that it is not tested
+// once more whether the array has a place for the atom.
+fn number_at(kept: &[u16; Table::ATOMS], a: Atom) -> u16
+    requires { ⌜ a .0 < document .atoms ⌝ }
+    ensures { λ r. ⌜ r ≡ number (now (kept .entry)) (a .0) ⌝ }
+{
+    let s = &kept[..];
+    let i = a.0 as usize;
+    s[i]
+}
+
 // The greatest number among the entries from `from` to below `to`, each `step` more than is kept for it; 0 if none.
 fn greatest(rule: Rule, from: usize, to: usize, kept: &[u16; Table::ATOMS], step: u16) -> usize
-    requires { ⌜ to ≤ document .entries ⌝ }
+    requires { ⌜ (to ≤ document .entries) × AllBelow (document .atoms) (numbers (slice from to (rule .entries))) ⌝ }
     ensures { λ r. ⌜ r ≡ greatest step (number (now (kept .entry))) (numbers (slice from to (rule .entries))) ⌝ }
 {
     let mut most: usize = 0;
     let mut j = from;
     while j < to {
         let a = rule.entries[j];
-        let n = number_of(kept, a);
+        let n = number_at(kept, a);
         most = larger(most, step as usize + n as usize);
         j += 1;
     }
@@ -42,6 +52,7 @@ fn greatest(rule: Rule, from: usize, to: usize, kept: &[u16; Table::ATOMS], step
 
 // The least number that the slot's rule lets its head have: no entry above it, each negative entry below it.
 fn needed(rule: Rule, kept: &[u16; Table::ATOMS]) -> usize
+    requires { ⌜ EntriesBelow (document .atoms) (slotOf rule) ⌝ }
     ensures { λ r. ⌜ r ≡ needed (number (now (kept .entry))) (slotOf rule) ⌝ }
 {
     if rule.state == 0 {
@@ -54,11 +65,16 @@ fn needed(rule: Rule, kept: &[u16; Table::ATOMS]) -> usize
     larger(positive, negative)
 }
 
-// The atom's number becomes `n` if it is lower: was it?
+// The atom's number becomes `n` if it is lower: was it? None is lower than 0, which is all that a free slot needs of
+// its head: only that may be no atom of the table.
 fn raise(kept: &mut [u16; Table::ATOMS], a: Atom, n: u16) -> bool
+    requires { ⌜ (0 < n → a .0 < document .atoms) ⌝ }
     ensures { λ r. ⌜ Raised (now (kept .entry)) (a .0) n (now (kept .exit)) r ⌝ }
 {
-    if n <= number_of(kept, a) {
+    if n == 0 {
+        return false;
+    }
+    if n <= number_at(kept, a) {
         return false;
     }
     set_number(kept, a, n);

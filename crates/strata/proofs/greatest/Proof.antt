@@ -1,5 +1,5 @@
 -- `strata::greatest` meets its contract: what is found and what is left give the whole. Assumes nothing.
-use Prim.Native.Nat.{_-_, max}
+use Prim.Native.Nat.{_-_, _≤_, max}
 use native.Mathlib.Omega.{arith}
 use mathlib.Core.Path.{_≡_}
 use lib.ListN.{length, length-map}
@@ -8,25 +8,26 @@ use borrow.Author.Needs.{needs}
 use Rattle.theory.specs.Limits.{document}
 use Rattle.table.specs.Sets.{number}
 use Rattle.table.specs.Rules.{numbers}
-use Rattle.strata.specs.Needed.{greatest}
-use Rattle.strata.proofs.Numbers.{greatest-over, greatest-next}
+use Rattle.strata.specs.Needed.{greatest, AllBelow}
+use Rattle.strata.proofs.Numbers.{greatest-over, greatest-next, entry-below, rest-below}
 use Rattle.strata.proofs.greatest.Statement.{statement}
 use Rattle.strata.proofs.greatest.Tie as tie
 use Rattle.strata.proofs.greatest.Reads as reads
 use Rattle.strata.proofs.greatest.Lts as lts
+use Rattle.strata.proofs.number_at.Reads as number-at-reads
 use Rattle.table.proofs.sets.larger.Reads as larger-reads
-use Rattle.table.proofs.sets.number_of.Reads as number-of-reads
 
 abbrev Inv-loop : tie.InvT-loop
 Inv-loop from to kept step rule most₀ j₀ most j =
-    max most (greatest step (number kept) (numbers (slice j to (rule .entries))))
+    AllBelow (document .atoms) (numbers (slice j to (rule .entries)))
+    × max most (greatest step (number kept) (numbers (slice j to (rule .entries))))
     ≡ greatest step (number kept) (numbers (slice from to (rule .entries)))
 
 abbrev μ-loop : tie.MeasureT-loop
 μ-loop from to kept step rule most₀ j₀ most j = to - j
 
 loop-holds : tie.Need-loop-holds Inv-loop μ-loop
-loop-holds c = omega arith
+loop-holds c = (c .pre .1, omega arith)
 
 mul-a : tie.Need-mul-a Inv-loop μ-loop
 mul-a c = search needs
@@ -34,8 +35,15 @@ mul-a c = search needs
 element-copy-out-a : tie.Need-element-copy-out-a Inv-loop μ-loop
 element-copy-out-a c = search needs
 
-number-of-requires : tie.Need-number-of-requires Inv-loop μ-loop
-number-of-requires c κs = tt
+-- the entry come to is an atom of the table
+number-at-requires : tie.Need-number-at-requires Inv-loop μ-loop
+number-at-requires c κs =
+    let s = c .before .before .before in
+    let long : length (s .args .t1 .entries) ≡ document .entries =
+    simp length-map at (s .good .0 .1 .1 .1 .1 .1 .1 .0 .1 .0 .1) in
+    let t = c .before .before .loop in
+    entry-below (s .args .t1 .entries) _ (t .j) (s .args .to) (t .inv .0) (c .before .loop-test .taken)
+    (omega (arith, s .pre .0))
 
 cast-larger : tie.Need-cast-larger Inv-loop μ-loop
 cast-larger c = search needs
@@ -57,12 +65,16 @@ loop-again c =
     let s = c .before .before .before .before .before in
     let long : length (s .args .t1 .entries) ≡ document .entries =
     simp length-map at (s .good .0 .1 .1 .1 .1 .1 .1 .0 .1 .0 .1) in
-    greatest-next _ _ (s .args .t1 .entries) (c .before .before .before .before .loop .j) (s .args .to) _ _ _ _
-    (c .before .before .before .loop-test .taken) (omega arith) (c .before .number-of .ensures) (c .larger .ensures)
-    (c .before .before .before .before .loop .inv)
+    let k : s .args .to ≤ length (s .args .t1 .entries) = omega (arith, s .pre .0) in
+    let t = c .before .before .before .before .loop in
+    let l = c .before .before .before .loop-test .taken in (
+      rest-below (s .args .t1 .entries) _ (t .j) (s .args .to) (t .inv .0) l k,
+      greatest-next _ _ (s .args .t1 .entries) (t .j) (s .args .to) _ _ _ _ l k
+          (c .before .number-at .ensures) (c .larger .ensures) (t .inv .1),
+    )
 
 returns : tie.Need-returns Inv-loop μ-loop
-returns c = greatest-over _ _ _ _ _ _ _ (c .loop-test .left) (c .before .loop .inv)
+returns c = greatest-over _ _ _ _ _ _ _ (c .loop-test .left) (c .before .loop .inv .1)
 
 pub greatest-spec : {M : Type 1} → statement M
 greatest-spec =
@@ -73,7 +85,7 @@ greatest-spec =
     loop-holds
     mul-a
     element-copy-out-a
-    number-of-requires
+    number-at-requires
     cast-larger
     add-larger
     larger-requires

@@ -2,7 +2,7 @@
 use lib.ListN.{length-map}
 use borrow.Author.Needs.{needs}
 use Rattle.theory.specs.Limits.{document}
-use Rattle.strata.proofs.Numbers.{needed-held}
+use Rattle.strata.proofs.Numbers.{needed-held, positives-below, negatives-below}
 use Rattle.strata.proofs.needed.Statement.{statement}
 use Rattle.strata.proofs.needed.Tie as tie
 use Rattle.strata.proofs.needed.Reads as reads
@@ -22,10 +22,22 @@ negative-end-requires : tie.Need-negative-end-requires
 negative-end-requires c κs = tt
 
 greatest-requires : tie.Need-greatest-requires
-greatest-requires c κs = search needs
+greatest-requires c κs =
+    let s = c .before .before .before .before in (
+      search needs,
+      positives-below (s .args .rule) _ (document .entries)
+          (simp length-map at (s .good .0 .1 .1 .1 .1 .1 .1 .0 .1 .0 .1)) (c .before .before .if1 .left) (s .pre) _
+          (c .before .positive-end .ensures),
+    )
 
 greatest-requires-2 : tie.Need-greatest-requires-2
-greatest-requires-2 c κs = search needs
+greatest-requires-2 c κs =
+    let s = c .before .before .before .before .before in (
+      search needs,
+      negatives-below (s .args .rule) _ (document .entries)
+          (simp length-map at (s .good .0 .1 .1 .1 .1 .1 .1 .0 .1 .0 .1)) (c .before .before .before .if1 .left)
+          (s .pre) _ (c .before .before .positive-end .ensures) _ (c .before .negative-end .ensures),
+    )
 
 larger-requires : tie.Need-larger-requires
 larger-requires c κs = tt

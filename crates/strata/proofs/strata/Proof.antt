@@ -12,7 +12,7 @@ use Rattle.table.specs.Turns.{slotAt}
 use Rattle.table.proofs.SlotsInTurn.{slot-at-below}
 use Rattle.strata.proofs.Rounds.{Rounds, Slots}
 use Rattle.strata.proofs.Numbers.{raised-length}
-use Rattle.strata.proofs.Arrays.{start, begin, passed, next, rest, more, over}
+use Rattle.strata.proofs.Arrays.{entries-below, head-below, start, begin, passed, next, rest, more, over}
 use Rattle.strata.proofs.strata.Statement.{statement}
 use Rattle.strata.proofs.strata.Tie as tie
 use Rattle.strata.proofs.strata.Reads as reads
@@ -53,7 +53,7 @@ slot-at-requires c κs = tt
 
 -- the slot come to is one of the table's
 below : (c : tie.After-slot-at Inv-loop2 μ-loop2 Inv-loop μ-loop) → c .slot-at .result < document .slots
-below c = slot-at-below _ _ _ _ (c .slot-at .ensures) (c .before .loop2-test .taken)
+below c = slot-at-below _ _ _ _ (c .slot-at .ensures) (omega (arith, c .before .loop2-test .taken))
 
 mul-rule : tie.Need-mul-rule Inv-loop2 μ-loop2 Inv-loop μ-loop
 mul-rule c = (let l = below c in search needs)
@@ -62,7 +62,9 @@ array-copy-out-rule : tie.Need-array-copy-out-rule Inv-loop2 μ-loop2 Inv-loop �
 array-copy-out-rule c = (let l = below c in search needs)
 
 needed-requires : tie.Need-needed-requires Inv-loop2 μ-loop2 Inv-loop μ-loop
-needed-requires c κs = tt
+needed-requires c κs =
+    let s = c .before .before .before .before .before .before .before in
+    entries-below (s .args .t1) _ _ (s .pre)
 
 returns : tie.Need-returns Inv-loop2 μ-loop2 Inv-loop μ-loop
 returns c =
@@ -76,7 +78,10 @@ cast-raise : tie.Need-cast-raise Inv-loop2 μ-loop2 Inv-loop μ-loop
 cast-raise c = search needs
 
 raise-requires : tie.Need-raise-requires Inv-loop2 μ-loop2 Inv-loop μ-loop
-raise-requires c κs = tt
+raise-requires c κs =
+    let w = c .before .before .before .before .before in
+    let s = w .before .before .before .before .before in
+    head-below (s .args .t1) _ _ _ _ (s .pre) (c .before .before .needed .ensures)
 
 add-i : tie.Need-add-i Inv-loop2 μ-loop2 Inv-loop μ-loop
 add-i c = search needs
