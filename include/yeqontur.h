@@ -2,8 +2,9 @@
  * Yeqontur: the rule table behind status labels. docs/GUIDE.md is the guide, bindings/c/guide.c a whole program.
  *
  * Every call takes any numbers, lists, lengths and bytes of a table, and answers a result or one numbered refusal. A
- * refused call hands the table back as it came and writes no buffer entry. A list or buffer of length 0 may be NULL. A
- * list that makes a rule too long (refusal 2) is not read, whatever its length says.
+ * refused call hands the table back as it came and writes no buffer entry. A list or buffer has the entries that its
+ * length says; of length 0 it may be NULL. A list that makes a rule too long (refusal 2) is not read, whatever its
+ * length says.
  *
  * Nothing is allocated or kept, so any number of threads may call at once; a thread with 128 KB of stack can make any
  * call.

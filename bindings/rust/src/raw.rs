@@ -1,7 +1,7 @@
 //! The boundary: the functions of `include/yeqontur.h`, and safe functions over them. The only unsafe code.
 //!
-//! Every function takes any numbers, lists, buffer lengths and bytes of a table, keeps nothing and writes at most the
-//! lent buffer, so that each call below is safe whatever it is given. A slice crosses as a pointer and a length.
+//! Every function takes any numbers, lists, buffers and bytes of a table, keeps nothing and writes at most the lent
+//! buffer. A slice crosses as a pointer and the length that it really has, so that each call below is safe.
 //!
 //! A table crosses by value, a copy of some kilobytes. The safe functions are not inlined, so that this copy is never
 //! part of a caller's frame: one that calls itself, as the telling of a tree does, would run out of stack.
