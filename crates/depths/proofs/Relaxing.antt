@@ -22,15 +22,17 @@ use Rattle.theory.proofs.Rules.{held-unique}
 use Rattle.theory.proofs.Derivations.{entry, last}
 use Rattle.theory.proofs.Depths.{depth-count, derived-in, greatest-le, in-depth}
 use Rattle.theory.proofs.Certificate.{derivations-of}
+use Rattle.theory.proofs.Questions.{held-below}
 use Rattle.table.specs.declared.Rule as table
 use Rattle.table.specs.Rules.{programOf, slotOf, pastRule}
 use Rattle.table.specs.Sets.{number}
 use Rattle.table.specs.Turns.{slotAt}
+use Rattle.table.proofs.Members.{all-alike}
 use Rattle.table.proofs.SlotsInTurn.{slot-at-each}
 use Rattle.table.proofs.Programs.{program-at, program-length}
-use Rattle.depths.specs.Numbers.{DepthsOf}
-use Rattle.depths.specs.Passes.{within, Lowers, Lowered}
-use Rattle.depths.proofs.Slots.{blank, slot-head, held-below, within-at, within-of}
+use Rattle.depths.specs.Numbers.{DepthsOf, within}
+use Rattle.depths.specs.Passes.{Lowers, Lowered}
+use Rattle.depths.proofs.Slots.{slot-head, within-at, within-of}
 
 -- After k rounds: each number kept is the height of a derivation, and no derivation of at most k levels is lower.
 pub record Found (P : Program) (M : AtomSet) (n k : ℕ) (d : List ℕ) : Type 0 where
@@ -60,8 +62,8 @@ pub rounds-start : (P : Program) (M : AtomSet) (n : ℕ) → Outer P M n 0 (repl
 rounds-start P M n = record {
   few = omega arith;
   long = length-replicate n 0;
-  low = λ a. omega (arith, blank {A = ℕ} n a 0);
-  derived = λ a l. absurd (omega (arith, blank {A = ℕ} n a 0));
+  low = λ a. omega (arith, all-alike {A = ℕ} n a 0);
+  derived = λ a l. absurd (omega (arith, all-alike {A = ℕ} n a 0));
   full = λ a h D l. absurd (omega (arith, last D .height));
 }
 

@@ -1,6 +1,6 @@
 // Question 15: is the table sound? The kept labels are checked as a certificate, in passes over the slots.
 use certificate::certified;
-use depths::occurring;
+use occurring::occurring;
 use slots::labels_clean;
 use slots::no_two_same;
 use slots::slots_well_formed;

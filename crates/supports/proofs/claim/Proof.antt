@@ -1,8 +1,8 @@
--- `depths::claim` meets its contract. Assumes nothing.
+-- `supports::claim` meets its contract. Assumes nothing.
 use mathlib.Core.Path.{sym, _∙_}
-use Rattle.depths.proofs.Slots.{claimed-found, claimed-not, claimed-new}
-use Rattle.depths.proofs.claim.Statement.{statement}
-use Rattle.depths.proofs.claim.Tie as tie
+use Rattle.supports.proofs.Slots.{claimed-found, claimed-not, claimed-new}
+use Rattle.supports.proofs.claim.Statement.{statement}
+use Rattle.supports.proofs.claim.Tie as tie
 
 has-requires : tie.Need-has-requires
 has-requires c κs = tt

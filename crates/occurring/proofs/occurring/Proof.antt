@@ -1,15 +1,15 @@
--- `depths::occurring` meets its contract. Assumes nothing.
+-- `occurring::occurring` meets its contract. Assumes nothing.
 use Prim.Native.Nat.{_-_, _≤_}
 use native.Mathlib.Omega.{arith}
 use mathlib.Core.Path.{_≡_}
 use lib.ListN.{length, getD}
 use Rattle.theory.specs.Limits.{document}
 use Rattle.table.specs.Rules.{programOf, slotOf, pastRule}
-use Rattle.depths.proofs.Marks.{Marking, marking-start, marking-next, marking-end}
+use Rattle.occurring.proofs.Marks.{Marking, marking-start, marking-next, marking-end}
 use Rattle.table.proofs.Programs.{program-at, program-length}
 use borrow.Author.Needs.{needs}
-use Rattle.depths.proofs.occurring.Statement.{statement}
-use Rattle.depths.proofs.occurring.Tie as tie
+use Rattle.occurring.proofs.occurring.Statement.{statement}
+use Rattle.occurring.proofs.occurring.Tie as tie
 
 abbrev Inv-loop : tie.InvT-loop
 Inv-loop rules flags₀ i₀ flags i = (i ≤ document .slots) × Marking (programOf rules) (document .atoms) i flags

@@ -1,7 +1,7 @@
--- `depths::mark_rule` meets its contract. Assumes nothing.
-use Rattle.depths.proofs.Marks.{marked-free, marked-held}
-use Rattle.depths.proofs.mark_rule.Statement.{statement}
-use Rattle.depths.proofs.mark_rule.Tie as tie
+-- `occurring::mark_rule` meets its contract. Assumes nothing.
+use Rattle.occurring.proofs.Marks.{marked-free, marked-held}
+use Rattle.occurring.proofs.mark_rule.Statement.{statement}
+use Rattle.occurring.proofs.mark_rule.Tie as tie
 
 returns : tie.Need-returns
 returns c = marked-free (c .before .before .args .rule) _ (c .if1 .taken)

@@ -18,10 +18,13 @@ use Rattle.theory.proofs.Rules.{valid-positive}
 use Rattle.theory.proofs.Derivations.{last}
 use Rattle.theory.proofs.Depths.{depth-unique}
 use Rattle.theory.proofs.Labels.{supported}
+use Rattle.theory.proofs.Questions.{held-below}
 use Rattle.table.specs.Sets.{member, number}
-use Rattle.depths.specs.Numbers.{DepthsOf, SupportsOf}
-use Rattle.depths.specs.Passes.{ready, put-if, claims, Claimed}
-use Rattle.depths.proofs.Slots.{blank, ready-at, ready-of, held-below}
+use Rattle.table.proofs.Members.{all-alike}
+use Rattle.depths.specs.Numbers.{DepthsOf}
+use Rattle.supports.specs.Supports.{SupportsOf}
+use Rattle.supports.specs.Claims.{ready, put-if, claims, Claimed}
+use Rattle.supports.proofs.Slots.{ready-at, ready-of}
 
 -- With the slots below i passed: an atom that is found has its supporting slot, and no slot passed supports another.
 pub record Scan (P : Program) (M : AtomSet) (n i : ℕ) (found : List Bool) (slots : List ℕ) : Type 0 where
@@ -35,8 +38,8 @@ pub scan-start : (P : Program) (M : AtomSet) (n : ℕ) → Scan P M n 0 (replica
 scan-start P M n = record {
   long-found = length-replicate n false;
   long-slots = length-replicate n 0;
-  taken = λ a t. absurd (clash t (blank n a false));
-  free = λ a t. blank n a 0;
+  taken = λ a t. absurd (clash t (all-alike n a false));
+  free = λ a t. all-alike n a 0;
   none-yet = λ a t s l. absurd (omega arith);
 }
 

@@ -1,4 +1,4 @@
--- `depths::supports` meets its contract. Assumes nothing.
+-- `supports::supports` meets its contract. Assumes nothing.
 use Prim.Native.Nat.{_-_, _≤_}
 use native.Mathlib.Omega.{arith}
 use mathlib.Core.Path.{_≡_}
@@ -6,12 +6,12 @@ use lib.ListN.{length, getD}
 use Rattle.theory.specs.Limits.{document}
 use Rattle.table.specs.Sets.{member}
 use Rattle.table.specs.Rules.{programOf, slotOf, pastRule}
 use Rattle.depths.proofs.Slots.{slot-head}
-use Rattle.depths.proofs.Claims.{Scan, scan-start, scan-next, scan-end}
+use Rattle.supports.proofs.Claims.{Scan, scan-start, scan-next, scan-end}
 use Rattle.table.proofs.Programs.{program-at, program-length}
 use borrow.Author.Needs.{needs}
-use Rattle.depths.proofs.supports.Statement.{statement}
-use Rattle.depths.proofs.supports.Tie as tie
+use Rattle.supports.proofs.supports.Statement.{statement}
+use Rattle.supports.proofs.supports.Tie as tie
 
 abbrev Inv-loop : tie.InvT-loop
 Inv-loop model depths rules slots₀ found₀ i₀ slots found i =

@@ -21,10 +21,10 @@ use Rattle.table.specs.declared.Atom.{Atom}
 use Rattle.table.specs.declared.Rule as table
 use Rattle.table.specs.Rules.{numbers, ruleOf, slotOf, noAtom}
 use Rattle.table.specs.Sets.{member}
+use Rattle.table.proofs.Members.{all-alike}
 use Rattle.table.proofs.Programs.{slot-free, slot-held}
-use Rattle.depths.specs.Numbers.{OccurringIn}
-use Rattle.depths.specs.Passes.{atoms, Marked}
-use Rattle.depths.proofs.Slots.{blank}
+use Rattle.occurring.specs.Occurrence.{OccurringIn}
+use Rattle.occurring.specs.Marks.{atoms, Marked}
 
 pub marked-none : (f : List Bool) → Marked [] f f
 unfolding any
@@ -90,7 +90,7 @@ pub record Marking (P : Program) (n i : ℕ) (f : List Bool) : Type 0 where
 pub marking-start : (P : Program) (n : ℕ) → Marking P n 0 (replicate n false)
 marking-start P n = record {
   long = length-replicate n false;
-  left = λ a l. ap (λ z. z || occurs-test P a) (blank n a false);
+  left = λ a l. ap (λ z. z || occurs-test P a) (all-alike n a false);
 }
 
 atoms-test : (o : Option Rule) (a : ℕ) → any (eqb a) (atoms o) ≡ passes (λ r. mem a (r .head ∷ entries r)) o

@@ -1,4 +1,4 @@
--- `depths::mark_entries` meets its contract. Assumes nothing.
+-- `occurring::mark_entries` meets its contract. Assumes nothing.
 use Rattle.theory.specs.Limits.{document}
 use borrow.Author.Needs.{needs}
 use native.Mathlib.Omega.{arith}
@@ -7,10 +7,10 @@ use mathlib.Core.Path.{_≡_, _∙_}
 use lib.ListN.{length, take, length-map}
 use Rattle.table.specs.Rules.{numbers}
 use Rattle.table.proofs.Entries.{entries-are}
-use Rattle.depths.specs.Passes.{Marked}
-use Rattle.depths.proofs.Marks.{marked-none, front-next}
-use Rattle.depths.proofs.mark_entries.Statement.{statement}
-use Rattle.depths.proofs.mark_entries.Tie as tie
+use Rattle.occurring.specs.Marks.{Marked}
+use Rattle.occurring.proofs.Marks.{marked-none, front-next}
+use Rattle.occurring.proofs.mark_entries.Statement.{statement}
+use Rattle.occurring.proofs.mark_entries.Tie as tie
 
 abbrev Inv-loop : tie.InvT-loop
 Inv-loop flags₀ rule n j₀ flags j = (j ≤ n) × Marked (numbers (take j (rule .entries))) flags₀ flags

@@ -1,9 +1,9 @@
--- `depths::ready` meets its contract. Assumes nothing.
+-- `supports::ready` meets its contract. Assumes nothing.
 use mathlib.Core.Path.{sym, _∙_}
 use Rattle.theory.proofs.Lists.{not-true, not-false}
-use Rattle.depths.proofs.Slots.{ready-free, ready-high, ready-valid}
-use Rattle.depths.proofs.ready.Statement.{statement}
-use Rattle.depths.proofs.ready.Tie as tie
+use Rattle.supports.proofs.Slots.{ready-free, ready-high, ready-valid}
+use Rattle.supports.proofs.ready.Statement.{statement}
+use Rattle.supports.proofs.ready.Tie as tie
 
 returns : tie.Need-returns
 returns c = ready-free _ _ _ (c .before .before .args .rule) (c .if1 .taken)
