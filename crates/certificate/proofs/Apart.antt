@@ -26,4 +26,5 @@ module _ (labels : List Label) (k : Kept) (K : KeptOf labels k) where
       ↔ Confirmed P M (kept-depth (labelAt labels)) (kept-slot (labelAt labels))) (flags-are labels k K)
       (subst (λ (d : ℕ → ℕ). (t ≡ true) ↔ Confirmed P (member (k .flags)) d (kept-slot (labelAt labels)))
       (depths-are labels k K)
-      (subst (λ (s : ℕ → ℕ). (t ≡ true) ↔ Confirmed P (member (k .flags)) (number (k .depths)) s) (slots-are labels k K) w))
+      (subst (λ (s : ℕ → ℕ). (t ≡ true) ↔ Confirmed P (member (k .flags)) (number (k .depths)) s)
+      (slots-are labels k K) w))

@@ -1,4 +1,5 @@
--- What is kept of the atoms, compared with the slots: what the functions of the crate answer and tell each other. Assumes nothing.
+-- What is kept of the atoms, compared with the slots: what the functions of the crate answer and tell each other.
+-- Assumes nothing.
 use Prim.Native.Nat.{ℕ, _≤_}
 use mathlib.Core.Path.{_≡_}
 use mathlib.Core.Bool.{Bool, true}

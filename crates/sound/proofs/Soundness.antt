@@ -167,7 +167,8 @@ module _ (t : Table) (slots : length (t .rules) ≡ document .slots) (atoms : le
 
   -- And what makes a table sound.
   pub sound-of :
-      WellFormedSlots → CleanLabels → KeptConfirmed P label → OccurrenceKept P label → Single P → (NegativeCycle P → ⊥) → Sound t
+      WellFormedSlots → CleanLabels → KeptConfirmed P label → OccurrenceKept P label → Single P
+      → (NegativeCycle P → ⊥) → Sound t
   sound-of W L K O U A =
       let C = kept-certified P label K O in
       record {

@@ -82,7 +82,8 @@ returns-6 : tie.Need-returns-6
 returns-6 c =
     let l = c .before .before .before .before .before .before .before in
     let d = c .before .before .before .before .before .before .number-of .ensures in
-    compared-later _ _ _ _ _ _ _ _ (held (l .before .before .before .before .before .before)) (good (l .before .before .before .before)) (inside (l .before))
+    let g = l .before .before .before .before in
+    compared-later _ _ _ _ _ _ _ _ (held (g .before .before)) (good g) (inside (l .before))
     (omega (arith, l .level .ensures, d)) (omega (arith, c .before .before .before .slot-of .ensures))
 
 returns-7 : tie.Need-returns-7
@@ -90,7 +91,8 @@ returns-7 c =
     let o = c .before .before .before in
     let l = o .before .before .before .before .before .before .before in
     let d = o .before .before .before .before .before .before .number-of .ensures in
-    compared-earlier _ _ _ _ _ _ _ _ (held (l .before .before .before .before .before .before)) (good (l .before .before .before .before)) (inside (l .before))
+    let g = l .before .before .before .before in
+    compared-earlier _ _ _ _ _ _ _ _ (held (g .before .before)) (good g) (inside (l .before))
     (omega (arith, l .level .ensures, d)) (omega (arith, o .before .before .before .slot-of .ensures))
 
 mark-requires : tie.Need-mark-requires
@@ -101,7 +103,8 @@ returns-8 c =
     let o = c .before .before .before .before .before in
     let z = o .before .before .before .before in
     let w = z .before .before in
-    compared-kept _ _ _ _ _ _ _ _ (held (w .before .before .before .before .before .before .before)) (good (w .before .before .before .before .before)) (inside (w .before .before))
+    let g = w .before .before .before .before .before in
+    compared-kept _ _ _ _ _ _ _ _ (held (g .before .before)) (good g) (inside (w .before .before))
     (omega (arith, z .before .if4 .left, z .if5 .left, w .before .level .ensures, w .number-of .ensures))
     (omega (arith, c .before .before .if7 .left, o .if6 .left, o .before .before .before .slot-of .ensures))
     _ (c .mark .ensures)

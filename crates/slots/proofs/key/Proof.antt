@@ -71,7 +71,8 @@ loop-again c =
     let len = long s in (
       omega arith,
       mixed-next (s .args .t1 .entries) (w .loop .j) _ (w .loop .k) _ (w .loop .inv .1)
-          (c .before .before .loop-test .taken) (omega (arith, w .before .before .before .negative-end .ensures)) _ _ (c .wide2 .ensures .0) refl,
+          (c .before .before .loop-test .taken) (omega (arith, w .before .before .before .negative-end .ensures))
+          _ _ (c .wide2 .ensures .0) refl,
     )
 
 mul-result : tie.Need-mul-result Inv-loop μ-loop
