@@ -1,7 +1,5 @@
--- Laws of the passes over the slots. Nothing here needs to be believed: all of it is checked.
+-- Laws of the rounds over the slots. Nothing here needs to be believed: all of it is checked.
 pub mod Slots
 pub mod Lowering
 pub mod Greatest
 pub mod Relaxing
-pub mod Claims
-pub mod Marks

@@ -17,7 +17,8 @@ use Rattle.table.specs.declared.Rule.{Rule}
 use Rattle.table.specs.Rules.{slotOf, ruleOf}
 use Rattle.table.specs.Sets.{number}
 use Rattle.table.proofs.Programs.{slot-free, slot-held, slot-rule}
-use Rattle.depths.specs.Passes.{within, Lowers, Lowered}
+use Rattle.depths.specs.Numbers.{within}
+use Rattle.depths.specs.Passes.{Lowers, Lowered}
 
 -- A number falls if it is 0, and else if it is above the new one.
 pub falls-none : (x v : ℕ) → x ≡ 0 → (true ≡ true) ↔ ((x ≡ 0) ⊎ (v < x))

@@ -16,21 +16,23 @@ use Rattle.theory.specs.Lists.{_∈_, every}
 use Rattle.theory.specs.Rules.{Rule, Program, Held, Bounded}
 use Rattle.theory.specs.Models.{AtomSet, valid, Admissible}
 use Rattle.theory.specs.Derivations.{by, Depth, Derivation, Derivations}
-use Rattle.theory.specs.Certificate.{greatest, level}
+use Rattle.theory.specs.Certificate.{level}
 use Rattle.theory.proofs.Lists.{clash, every-at, every-of, le-or-lt}
 use Rattle.theory.proofs.Rules.{held-unique}
 use Rattle.theory.proofs.Derivations.{entry, last}
 use Rattle.theory.proofs.Depths.{depth-count, derived-in, greatest-le, in-depth}
 use Rattle.theory.proofs.Certificate.{derivations-of}
+use Rattle.theory.proofs.Questions.{held-below}
 use Rattle.table.specs.declared.Rule as table
 use Rattle.table.specs.Rules.{programOf, slotOf, pastRule}
 use Rattle.table.specs.Sets.{number}
 use Rattle.table.specs.Turns.{slotAt}
+use Rattle.table.proofs.Members.{all-alike}
 use Rattle.table.proofs.SlotsInTurn.{slot-at-each}
 use Rattle.table.proofs.Programs.{program-at, program-length}
-use Rattle.depths.specs.Numbers.{DepthsOf}
-use Rattle.depths.specs.Passes.{within, Lowers, Lowered}
-use Rattle.depths.proofs.Slots.{blank, slot-head, held-below, within-at, within-of}
+use Rattle.depths.specs.Numbers.{DepthsOf, within}
+use Rattle.depths.specs.Passes.{Lowers, Lowered}
+use Rattle.depths.proofs.Slots.{slot-head, within-at, within-of}
 
 -- After k rounds: each number kept is the height of a derivation, and no derivation of at most k levels is lower.
 pub record Found (P : Program) (M : AtomSet) (n k : ℕ) (d : List ℕ) : Type 0 where
@@ -60,8 +62,8 @@ pub rounds-start : (P : Program) (M : AtomSet) (n : ℕ) → Outer P M n 0 (repl
 rounds-start P M n = record {
   few = omega arith;
   long = length-replicate n 0;
-  low = λ a. omega (arith, blank {A = ℕ} n a 0);
-  derived = λ a l. absurd (omega (arith, blank {A = ℕ} n a 0));
+  low = λ a. omega (arith, all-alike {A = ℕ} n a 0);
+  derived = λ a l. absurd (omega (arith, all-alike {A = ℕ} n a 0));
   full = λ a h D l. absurd (omega (arith, last D .height));
 }
 
@@ -138,16 +140,16 @@ module _ (P : Program) (M : AtomSet) (n : ℕ) (B : Bounded P n) (A : Admissible
           omega (arith, B (w .slot) (w .rule) (w .held) (w .rule .head) (List·Memᴰ·head refl), w .heads)
 
   -- The entries of derivations of at most k levels are known, and the level of their rule is as low.
-  module _ (k : ℕ) (d : List ℕ) (F : Found P M n k d) (r : Rule) (u : ℕ) (l : u ≤ k) (D : Derivations P M (r .positives) u)
-    where
-      entries-known : (p : ℕ) → p ∈ r .positives → (0 < number d p) × (number d p ≤ u)
-      entries-known p m =
-          let i = entry D p m in
-          let f = F .full p (i .0) (i .1) (omega (arith, i .2)) in
-          (f .0, omega (arith, f .1, i .2))
+  module _ (k : ℕ) (d : List ℕ) (F : Found P M n k d) (r : Rule) (u : ℕ) (l : u ≤ k)
+      (D : Derivations P M (r .positives) u) where
+    entries-known : (p : ℕ) → p ∈ r .positives → (0 < number d p) × (number d p ≤ u)
+    entries-known p m =
+        let i = entry D p m in
+        let f = F .full p (i .0) (i .1) (omega (arith, i .2)) in
+        (f .0, omega (arith, f .1, i .2))
 
-      level-low : level (number d) r ≤ suc u
-      level-low = omega (arith, greatest-le (number d) u (r .positives) (λ p m. entries-known p m .1))
+    level-low : level (number d) r ≤ suc u
+    level-low = omega (arith, greatest-le (number d) u (r .positives) (λ p m. entries-known p m .1))
 
   -- The next slot of a round, with a rule or without.
   module _ (at : ℕ → ℕ) (k i : ℕ) (d : List ℕ) (t : Bool) (W : Pass P M at n k i d t) (o : Option Rule) (h : ℕ)
@@ -219,7 +221,8 @@ module _ (P : Program) (M : AtomSet) (n : ℕ) (B : Bounded P n) (A : Admissible
       derivation : Derivation P M h v
       derivation = by (at i) (L .rule) held head-is (L .good)
           (derivations-of P M (number d) (L .rule .positives) (λ x m. W .found .derived x
-          (within-at (number d) (suc n) x (every-at (within (number d) (suc n)) (L .rule .positives) (L .known) x m) .0)))
+          (within-at (number d) (suc n) x
+          (every-at (within (number d) (suc n)) (L .rule .positives) (L .known) x m) .0)))
 
       -- the head's depth takes more than the rounds made so far, and at most n
       soon : k < n
@@ -345,10 +348,12 @@ module _ (rules : List table.Rule) (M : AtomSet) (n : ℕ) (B : Bounded (program
       → Pass (programOf rules) M at n k (i + 1) l u
   pass-next l true R u e =
       let w = R .lower refl in
-      rw e (pass-lower (programOf rules) M n B A at k i d t W o h here (slot-head (getD rules s pastRule)) (w .0) l (w .1))
+      let heads = slot-head (getD rules s pastRule) in
+      rw e (pass-lower (programOf rules) M n B A at k i d t W o h here heads (w .0) l (w .1))
   pass-next l false R u e =
       let w = R .kept refl in
-      rw (e, w .1) (pass-over (programOf rules) M n B A at k i d t W o h here (slot-head (getD rules s pastRule)) (w .0))
+      let heads = slot-head (getD rules s pastRule) in
+      rw (e, w .1) (pass-over (programOf rules) M n B A at k i d t W o h here heads (w .0))
 
 -- No more rounds are made than there are atoms.
 pub rounds-few :

@@ -1,3 +1,3 @@
--- What the contracts say: of the exported functions (Numbers), and of one slot of a pass (Passes).
+-- What the contracts say: of the exported functions (Numbers), and of one slot of a round (Passes).
 pub mod Numbers
 pub mod Passes

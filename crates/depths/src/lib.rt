@@ -1,34 +1,29 @@
-// Depths, supporting slots, and which atoms occur.
-use rule::negative_end;
+// Depths: rounds over the slots, in which the number of a head falls to the level of a valid rule of it.
 use rule::positive_end;
 use rule::valid;
 use table::Atom;
 use table::Rule;
-use table::Slot;
 use table::Table;
-use table::sets::has;
 use table::sets::larger;
-use table::sets::mark;
 use table::sets::number_of;
 use table::sets::set_number;
-use table::sets::set_slot;
 use table::turns::slot_at;
 ghost use mathlib.Core.Path.{_≡_};
 ghost use mathlib.Core.Bool.{true};
 ghost use mathlib.Core.Logic.{_⊎_, _↔_};
 ghost use Prim.Native.Nat.{_<_};
 ghost use Rattle.theory.specs.Lists.{every};
-ghost use Rattle.theory.specs.Rules.{Bounded, entries};
+ghost use Rattle.theory.specs.Rules.{Bounded};
 ghost use Rattle.theory.specs.Models.{Admissible};
 ghost use Rattle.theory.specs.Certificate.{level};
 ghost use Rattle.theory.specs.Limits.{document};
 ghost use Rattle.table.specs.Sets.{member, number};
 ghost use Rattle.table.specs.Rules.{programOf, slotOf, ruleOf};
-ghost use Rattle.depths.specs.Numbers.{DepthsOf, SupportsOf, OccurringIn};
-ghost use Rattle.depths.specs.Passes.{within, ready, Lowered, Claimed, atoms, Marked};
+ghost use Rattle.depths.specs.Numbers.{DepthsOf, within};
+ghost use Rattle.depths.specs.Passes.{Lowered};
 
 // Has every positive entry of the rule a depth (not 0), and one below the limit?
-fn below(rule: Rule, depths: &[u16; Table::ATOMS], limit: u16) -> bool
+pub fn below(rule: Rule, depths: &[u16; Table::ATOMS], limit: u16) -> bool
     ensures { λ r. ⌜ r ≡ every (within (number (now (depths .entry))) limit) (ruleOf rule .positives) ⌝ }
 {
     let n = positive_end(rule);
@@ -45,19 +40,6 @@ fn below(rule: Rule, depths: &[u16; Table::ATOMS], limit: u16) -> bool
         j += 1;
     }
     true
-}
-
-// Does the slot hold a rule that is valid in the set, with every positive entry of a depth below the limit?
-fn ready(rule: Rule, model: &[bool; Table::ATOMS], depths: &[u16; Table::ATOMS], limit: u16) -> bool
-    ensures { λ r. ⌜ r ≡ ready (member (now (model .entry))) (number (now (depths .entry))) limit (slotOf rule) ⌝ }
-{
-    if rule.state == 0 {
-        return false;
-    }
-    if !below(rule, depths, limit) {
-        return false;
-    }
-    valid(rule, model)
 }
 
 // The level of a rule: 1 more than the greatest depth of its positive entries.
@@ -137,92 +119,4 @@ pub fn depths(rules: [Rule; Table::SLOTS], model: &[bool; Table::ATOMS]) -> [u16
         round += 1;
     }
     found
-}
-
-// One slot of the pass for supports: it becomes the supporting slot of its head, if that has none yet and the slot's
-// rule is valid with all positive entries of smaller depth.
-fn claim(
-    rule: Rule,
-    slot: Slot,
-    model: &[bool; Table::ATOMS],
-    depths: &[u16; Table::ATOMS],
-    found: &mut [bool; Table::ATOMS],
-    slots: &mut [u16; Table::ATOMS],
-)
-    ensures { λ _. ⌜
-        Claimed (member (now (model .entry))) (number (now (depths .entry))) (slot .0) (slotOf rule) (rule .head .0)
-        (now (found .entry)) (now (found .exit)) (now (slots .entry)) (now (slots .exit)) ⌝ }
-{
-    let head = rule.head;
-    if has(found, head) {
-        return;
-    }
-    let limit = number_of(depths, head);
-    if ready(rule, model, depths, limit) {
-        mark(found, head);
-        set_slot(slots, head, slot);
-    }
-}
-
-// The supporting slot of each in atom, 0 for every other.
-pub fn supports(
-    rules: [Rule; Table::SLOTS],
-    model: &[bool; Table::ATOMS],
-    depths: &[u16; Table::ATOMS],
-) -> [u16; Table::ATOMS]
-    requires { ⌜
-        Bounded (programOf rules) (document .atoms) × Admissible (programOf rules) (member (now model))
-        × DepthsOf (programOf rules) (member (now model)) (number (now depths)) ⌝ }
-    ensures { λ r. ⌜ SupportsOf (programOf rules) (member (now (model .entry))) (number r) ⌝ }
-{
-    let mut slots: [u16; Table::ATOMS] = [0; Table::ATOMS];
-    let mut found: [bool; Table::ATOMS] = [false; Table::ATOMS];
-    let mut i: usize = 0;
-    while i < Table::SLOTS {
-        let rule = rules[i];
-        let n = i as u16;
-        claim(rule, Slot(n), model, depths, &mut found, &mut slots);
-        i += 1;
-    }
-    slots
-}
-
-// The entries of the rule come into the set.
-fn mark_entries(rule: Rule, flags: &mut [bool; Table::ATOMS])
-    ensures { λ _. ⌜ Marked (entries (ruleOf rule)) (now (flags .entry)) (now (flags .exit)) ⌝ }
-{
-    let n = negative_end(rule);
-    let mut j: usize = 0;
-    while j < n {
-        let a = rule.entries[j];
-        mark(flags, a);
-        j += 1;
-    }
-}
-
-// The atoms of the slot's rule, if it holds one, come into the set.
-fn mark_rule(rule: Rule, flags: &mut [bool; Table::ATOMS])
-    ensures { λ _. ⌜ Marked (atoms (slotOf rule)) (now (flags .entry)) (now (flags .exit)) ⌝ }
-{
-    if rule.state == 0 {
-        return;
-    }
-    let head = rule.head;
-    mark(flags, head);
-    mark_entries(rule, flags);
-}
-
-// Which atoms occur.
-pub fn occurring(rules: [Rule; Table::SLOTS]) -> [bool; Table::ATOMS]
-    requires { ⌜ Bounded (programOf rules) (document .atoms) ⌝ }
-    ensures { λ r. ⌜ OccurringIn (programOf rules) (member r) ⌝ }
-{
-    let mut flags: [bool; Table::ATOMS] = [false; Table::ATOMS];
-    let mut i: usize = 0;
-    while i < Table::SLOTS {
-        let rule = rules[i];
-        mark_rule(rule, &mut flags);
-        i += 1;
-    }
-    flags
 }

@@ -17,7 +17,9 @@ use Rattle.table.specs.declared.Label.{Label}
 use Rattle.table.specs.Labels.{labelOf, absentLabel}
 use Rattle.table.specs.Clean.{CleanLabel}
 use Rattle.table.proofs.Entries.{past}
-use Rattle.depths.specs.Numbers.{DepthsOf, SupportsOf, OccurringIn}
+use Rattle.depths.specs.Numbers.{DepthsOf}
+use Rattle.supports.specs.Supports.{SupportsOf}
+use Rattle.occurring.specs.Occurrence.{OccurringIn}
 use Rattle.labels.specs.Labelling.{Labels, LabellingOf}
 use Rattle.labels.specs.Assembling.{labelFor, Assembled}
 

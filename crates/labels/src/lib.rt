@@ -1,9 +1,9 @@
 // The labels of a table's rules: strata, in atoms, depths, supporting slots and occurrence, put together.
 use depths::depths;
-use depths::occurring;
-use depths::supports;
 use model::in_atoms;
+use occurring::occurring;
 use strata::strata;
+use supports::supports;
 use table::Atom;
 use table::Label;
 use table::Rule;

@@ -4,7 +4,8 @@ use native.Mathlib.Omega.{arith}
 use native.Mathlib.Numerals.{add-one}
 use native.Mathlib.Decide.{ℕ-discrete}
 use mathlib.Core.Path.{_≡_, refl, sym, _∙_, ap, ap₂, subst, fun-ext}
-use mathlib.Core.Bool.{Bool, true, false, not, _&&_, _||_, and-false, and-assoc, or-assoc, or-false, or-true, true≢false}
+use mathlib.Core.Bool.{Bool, true, false, not, _&&_, _||_, true≢false}
+use mathlib.Core.Bool.{and-false, and-assoc, or-assoc, or-false, or-true}
 use mathlib.Core.List.{List}
 use mathlib.Core.Logic.{⊎-elim}
 use mathlib.Core.Option.{Option, some}
@@ -145,7 +146,8 @@ module _ (ℓ : ℕ → ℕ) (k : ℕ) (rules : List Rule) where
       left-stop e = stay (ap (λ b. new && b) e ∙ and-false new)
 
       -- So a slot that does not wait adds none.
-      pub left-idle : waits ℓ k (member found) (here .state) (here .head .0) ≡ false → Left ℓ k rules before (i + 1) found u
+      pub left-idle :
+          waits ℓ k (member found) (here .state) (here .head .0) ≡ false → Left ℓ k rules before (i + 1) found u
       left-idle = go (here .state) refl
         where
           go : (n : ℕ) → here .state ≡ n → waits ℓ k (member found) n (here .head .0) ≡ false

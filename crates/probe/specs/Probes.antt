@@ -10,7 +10,7 @@ use Rattle.table.specs.declared.Table.{Table}
 use Rattle.table.specs.Rules.{programOf, pastRule}
 use Rattle.table.specs.Clean.{WellFormed}
 use Rattle.table.specs.Sound.{Sound}
-use Rattle.sound.specs.Slots.{Single}
+use Rattle.slots.specs.Slots.{Single}
 use Rattle.labels.specs.Labelling.{Labels}
 use Rattle.probe.specs.declared.Relabelled.{Relabelled}
 

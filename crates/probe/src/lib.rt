@@ -2,8 +2,8 @@
 use history::Replayed;
 use history::replay;
 use labels::labels_of;
-use sound::slots::no_two_same;
-use sound::slots::slots_well_formed;
+use slots::no_two_same;
+use slots::slots_well_formed;
 use sound::sound;
 use table::Table;
 ghost use mathlib.Core.Path.{_≡_};

@@ -14,8 +14,8 @@ use Rattle.table.specs.declared.Label.{Label}
 use Rattle.table.specs.Labels.{label-in, labelOf, labelAt, absentLabel}
 use Rattle.table.specs.Sets.{member}
 use Rattle.questions.proofs.Cleanness.{is-not}
-use Rattle.depths.specs.Numbers.{OccurringIn}
-use Rattle.sound.specs.Certificate.{OccurrenceKept}
+use Rattle.occurring.specs.Occurrence.{OccurringIn}
+use Rattle.sound.specs.Occurrence.{OccurrenceKept}
 
 -- A label is not absent exactly if its state is not 0.
 abbrev pub present : Label → Bool

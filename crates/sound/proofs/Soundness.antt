@@ -23,9 +23,10 @@ use Rattle.table.specs.Rules.{programOf, pastRule}
 use Rattle.table.specs.Labels.{labelAt, labelOf, absentLabel}
 use Rattle.table.specs.Clean.{WellFormed, CleanLabel}
 use Rattle.table.specs.Sound.{Sound}
-use Rattle.sound.specs.Slots.{Single}
-use Rattle.sound.specs.Certificate.{Confirmed, OccurrenceKept}
-use Rattle.sound.proofs.Passes.{slot-at}
+use Rattle.slots.specs.Slots.{Single}
+use Rattle.certificate.specs.Certificate.{Confirmed}
+use Rattle.sound.specs.Occurrence.{OccurrenceKept}
+use Rattle.table.proofs.Programs.{program-at}
 
 -- Where no question is answered no, the first is answered yes, and none of the rest is answered no.
 all-yes : (q : Question) (qs : List Question) → first-no (q ∷ qs) ≡ none → (q .yes? ≡ true) × (first-no qs ≡ none)
@@ -130,7 +131,7 @@ module _ (t : Table) (slots : length (t .rules) ≡ document .slots) (atoms : le
 
   well-formed-passes :
       WellFormedSlots → (s : ℕ) (r : Rule) → Held P s r → first-no (rule-questions document r) ≡ none
-  well-formed-passes W s r h = W s (held-low s r h) .passes r (sym (slot-at (t .rules) s) ∙ h)
+  well-formed-passes W s r h = W s (held-low s r h) .passes r (sym (program-at (t .rules) s) ∙ h)
 
   pub well-formed-bounded : WellFormedSlots → Bounded P (document .atoms)
   well-formed-bounded W = bounded-of document P (well-formed-passes W)
@@ -140,7 +141,7 @@ module _ (t : Table) (slots : length (t .rules) ≡ document .slots) (atoms : le
     pub sound-well-formed : WellFormedSlots
     sound-well-formed s l = record {
       clean = S .clean .rules s l;
-      passes = λ q e. S .labels .passes s q (slot-at (t .rules) s ∙ e);
+      passes = λ q e. S .labels .passes s q (program-at (t .rules) s ∙ e);
     }
 
     -- every label is the defined one: past the end it is absent, and no atom there occurs
@@ -166,7 +167,8 @@ module _ (t : Table) (slots : length (t .rules) ≡ document .slots) (atoms : le
 
   -- And what makes a table sound.
   pub sound-of :
-      WellFormedSlots → CleanLabels → KeptConfirmed P label → OccurrenceKept P label → Single P → (NegativeCycle P → ⊥) → Sound t
+      WellFormedSlots → CleanLabels → KeptConfirmed P label → OccurrenceKept P label → Single P
+      → (NegativeCycle P → ⊥) → Sound t
   sound-of W L K O U A =
       let C = kept-certified P label K O in
       record {

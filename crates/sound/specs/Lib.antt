@@ -1,4 +1,2 @@
--- The words of the contracts of the passes; the answer's own, `Sound`, is the table's.
-pub mod Slots
-pub mod Keys
-pub mod Certificate
+-- The word of the contract of the pass over the atoms; the answer's own, `Sound`, is the table's.
+pub mod Occurrence

@@ -1,5 +1,9 @@
 // Question 15: is the table sound? The kept labels are checked as a certificate, in passes over the slots.
-use depths::occurring;
+use certificate::certified;
+use occurring::occurring;
+use slots::labels_clean;
+use slots::no_two_same;
+use slots::slots_well_formed;
 use strata::strata;
 use table::Label;
 use table::Rule;
@@ -13,15 +17,7 @@ ghost use Rattle.theory.specs.Limits.{document};
 ghost use Rattle.table.specs.Rules.{programOf};
 ghost use Rattle.table.specs.Labels.{labelAt};
 ghost use Rattle.table.specs.Sound.{Sound};
-ghost use Rattle.sound.specs.Certificate.{OccurrenceKept};
-
-pub mod slots; // slots.rt: is each slot well formed, is each label clean, are no two rules the same?
-mod certificate; // certificate.rt: are depths and supporting slots those that the rules ask for?
-
-use certificate::certified;
-use slots::labels_clean;
-use slots::no_two_same;
-use slots::slots_well_formed;
+ghost use Rattle.sound.specs.Occurrence.{OccurrenceKept};
 
 // Is each atom kept as absent exactly if it does not occur?
 fn occurrence_kept(rules: [Rule; Table::SLOTS], labels: [Label; Table::ATOMS]) -> bool

@@ -1,8 +1,6 @@
--- Depths: each in atom has exactly one, it is at most the number of in atoms, and it is found level by level. Assumes
--- nothing.
-use Prim.Native.Nat.{ℕ, zero, suc, _≤_, _<_, max}
+-- Depths: each in atom has exactly one, and it is at most the number of in atoms. Assumes nothing.
+use Prim.Native.Nat.{ℕ, zero, suc, _≤_, _<_}
 use native.Mathlib.Omega.{arith}
-use native.Mathlib.Decide.{ℕ-discrete}
 use mathlib.Core.Path.{_≡_, refl, sym, _∙_, ap, subst}
 use mathlib.Core.Bool.{Bool, true, false, _&&_, true≢false}
 use mathlib.Core.Logic.{⊎-elim}
@@ -100,70 +98,6 @@ module _ (P : Program) (M : AtomSet) where
   pub in-depth : (F : Founded P M) (a : ℕ) → M a ≡ true → (d : ℕ) × Depth P M a d × (d ≤ length (F .order))
   in-depth F a t = (let w = ordered-height P M (F .order) (F .ordered) a (F .exactly a .0 t) in
       within-depth (length (F .order)) a (derived-within _ a (w .0) (w .1) (w .2)))
-
-  -- Level by level: the levels up to k are done; 0 stands for an atom not yet reached.
-  pub record Levels (k : ℕ) (d : ℕ → ℕ) : Type 0 where
-    pub deep : (a : ℕ) → (d a ≡ zero → ⊥) → Depth P M a (d a)
-    pub full : (a h : ℕ) → Derivation P M a h → h ≤ k → d a ≡ zero → ⊥
-
-  pub level-start : Levels zero (λ a. zero)
-  level-start = record { deep = λ a n. absurd (n refl); full = λ a h d l e. omega (arith, (last d) .height) }
-
-  -- the entries of a rule are all reached, by at most k levels
-  abbrev pub Ready : ℕ → (ℕ → ℕ) → Rule → Type 0
-  Ready k d r = (p : ℕ) → p ∈ r .positives → (0 < d p) × (d p ≤ k)
-
-  pub level-mark : (k : ℕ) (d d′ : ℕ → ℕ) → Levels k d → (s : ℕ) (r : Rule) → Held P s r → valid M r ≡ true
-      → d (r .head) ≡ zero → Ready k d r → d′ (r .head) ≡ suc k → ((x : ℕ) → (x ≡ r .head → ⊥) → d′ x ≡ d x)
-      → Levels k d′
-  level-mark k d d′ W s r h v z ready new old =
-      let g = gather P M k (r .positives)
-      (λ p m. (let i = ready p m in (d p, W .deep p (λ e. omega (arith, i .0)) .reached, i .1))) in
-      let D = by s r h refl v (g .1) in
-      let high : (j : ℕ) → Derivation P M (r .head) j → suc k ≤ j = λ j D′. ⊎-elim
-      (λ (l : j ≤ k). absurd (W .full (r .head) j D′ l z)) (λ (l : k < j). l) (le-or-lt j k) in
-      let e : suc (g .0) ≡ d′ (r .head) = omega (arith, high (suc (g .0)) D, g .2) in
-      record {
-        deep = λ a n. (elim (ℕ-discrete a (r .head)) [
-          | yes q ↦ subst (λ (z : ℕ). Depth P M z (d′ z)) (sym q)
-              (record {
-                reached = subst
-                    (λ (y : ℕ). Derivation P M (r .head) y) e D;
-                least = λ j D′. omega (arith, high j D′);
-              })
-          | no q ↦ subst (λ (y : ℕ). Depth P M a y) (sym (old a q)) (W .deep a (λ u. n (old a q ∙ u)))
-        ]);
-        full = λ a j D′ l u. (elim (ℕ-discrete a (r .head)) [
-          | yes q ↦ omega (arith, ap d′ q)
-          | no q ↦ W .full a j D′ l (sym (old a q) ∙ u)
-        ]);
-      }
-
-  -- every rule whose entries are reached by at most k levels has its head reached
-  abbrev pub Swept : ℕ → (ℕ → ℕ) → Type 0
-  Swept k d = (s : ℕ) (r : Rule) → Held P s r → valid M r ≡ true → Ready k d r → 0 < d (r .head)
-
-  pub level-up : (k : ℕ) (d : ℕ → ℕ) → Levels k d → Swept k d → Levels (suc k) d
-  level-up k d W c = record {
-    deep = W .deep;
-    full = λ a h D l z. (
-        let w = last D in
-        let q : 0 < d (w .rule .head) = c (w .slot) (w .rule) (w .held) (w .good) (λ p m. (
-        let i = entry (w .parts) p m in
-        let n = W .full p (i .0) (i .1) (omega (arith, i .2, w .height)) in
-        (omega arith, omega (arith, W .deep p n .least (i .0) (i .1), i .2, w .height)))) in
-        omega (arith, ap d (w .heads)));
-  }
-
-  -- a round that adds none: every in atom is reached
-  pub level-end : (k : ℕ) (d : ℕ → ℕ) → ((a : ℕ) → d a ≤ k) → Swept k d → (xs : List ℕ) → Ordered P M xs → (x : ℕ)
-      → x ∈ xs → 0 < d x
-  level-end k d low c [] start x m = absurd (List·Memᴰ·not-nil m)
-  level-end k d low c (a ∷ xs) (next o fresh s r held e v earlier) x m = ⊎-elim
-      (λ (q : x ≡ a). (let i : 0 < d (r .head) = c s r held v
-      (λ p mp. (level-end k d low c xs o p (earlier p mp), low p)) in omega (arith, ap d (e ∙ sym q))))
-      (λ (m′ : x ∈ xs). level-end k d low c xs o x m′)
-      (List·Memᴰ·cases-cons m)
 
 pub greatest-le : (d : ℕ → ℕ) (h : ℕ) (xs : List ℕ) → ((x : ℕ) → x ∈ xs → d x ≤ h) → greatest d xs ≤ h
 unfolding greatest

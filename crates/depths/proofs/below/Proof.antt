@@ -8,7 +8,7 @@ use Rattle.theory.specs.Lists.{every}
 use Rattle.table.specs.Sets.{number}
 use Rattle.table.specs.Rules.{numbers, ruleOf, noAtom}
 use Rattle.table.proofs.Entries.{every-over, every-next, every-stop, positives-are}
-use Rattle.depths.specs.Passes.{within}
+use Rattle.depths.specs.Numbers.{within}
 use Rattle.depths.proofs.Slots.{within-of, within-none, within-high}
 use Rattle.theory.specs.Limits.{document}
 use borrow.Author.Needs.{needs}

@@ -1,6 +1,5 @@
 -- `depths::lower` meets its contract: test by test. Assumes nothing.
-use native.Mathlib.Omega.{arith}
-use mathlib.Core.Path.{_≡_, refl, sym, _∙_}
+use mathlib.Core.Path.{sym, _∙_}
 use Rattle.theory.specs.Limits.{document}
 use Rattle.theory.proofs.Lists.{not-true, not-false}
 use Rattle.depths.proofs.Lowering.{lower-free, lower-unknown, lower-high, lower-same, lower-invalid, lower-new}
@@ -26,7 +25,8 @@ level-requires c κs = tt
 returns-3 : tie.Need-returns-3
 returns-3 c =
     let h = c .before .before .before .before .before .before in
-    lower-high _ (document .atoms) (h .before .before .args .rule) _ (h .if1 .left) _ (c .before .level .ensures) (c .if3 .taken)
+    lower-high _ (document .atoms) (h .before .before .args .rule) _ (h .if1 .left) _ (c .before .level .ensures)
+    (c .if3 .taken)
 
 number-of-requires : tie.Need-number-of-requires
 number-of-requires c κs = tt
@@ -36,8 +36,9 @@ falls-requires c κs = tt
 
 returns-4 : tie.Need-returns-4
 returns-4 c =
-    let h = c .before .before .before .before .before .before .before .before .before .before .before in
-    lower-same _ (document .atoms) (h .before .before .args .rule) _ (h .if1 .left) _ (c .before .before .before .before .before .before .level .ensures) _
+    let l = c .before .before .before .before .before in
+    let h = l .before .before .before .before .before .before in
+    lower-same _ (document .atoms) (h .before .before .args .rule) _ (h .if1 .left) _ (l .before .level .ensures) _
     (c .before .before .number-of .ensures) _ (c .before .falls .ensures) (not-true _ (c .if4 .taken))
 
 valid-requires : tie.Need-valid-requires
@@ -45,9 +46,12 @@ valid-requires c κs = tt
 
 returns-5 : tie.Need-returns-5
 returns-5 c =
-    let h = c .before .before .before .before .before .before .before .before .before .before .before .before .before in
-    lower-invalid _ (document .atoms) (h .before .before .args .rule) _ (h .if1 .left) _ (c .before .before .before .before .before .before .before .before .level .ensures) _
-    (c .before .before .before .before .number-of .ensures) _ (c .before .before .before .falls .ensures) (sym (c .before .valid .ensures) ∙ not-true _ (c .if5 .taken))
+    let f = c .before .before in
+    let l = f .before .before .before .before .before in
+    let h = l .before .before .before .before .before .before in
+    lower-invalid _ (document .atoms) (h .before .before .args .rule) _ (h .if1 .left) _ (l .before .level .ensures) _
+    (f .before .before .number-of .ensures) _ (f .before .falls .ensures)
+    (sym (c .before .valid .ensures) ∙ not-true _ (c .if5 .taken))
 
 cast-set-number : tie.Need-cast-set-number
 cast-set-number c = search needs

@@ -6,7 +6,7 @@ use Rattle.theory.specs.Limits.{document}
 use Rattle.theory.proofs.Lists.{not-true, not-false}
 use Rattle.table.specs.Rules.{pastRule}
 use Rattle.table.specs.Clean.{WellFormed}
-use Rattle.sound.proofs.Passes.{refused, granted}
+use Rattle.questions.proofs.Passes.{refused, granted}
 use Rattle.sound.proofs.Soundness.{well-formed-bounded}
 use Rattle.probe.specs.Probes.{RulesFit, LabelsProbe, unfit, cyclic, labelled}
 use Rattle.probe.proofs.probe_labels.Statement.{statement}

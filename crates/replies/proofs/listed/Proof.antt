@@ -1,8 +1,8 @@
 -- `replies::listed` meets its contract. Assumes nothing.
 use native.Mathlib.Omega.{arith}
 use mathlib.Core.Path.{refl, ap}
-use Rattle.sound.proofs.Passes.{granted}
-use Rattle.sound.proofs.Passes.{refused as not-sound}
+use Rattle.questions.proofs.Passes.{granted}
+use Rattle.questions.proofs.Passes.{refused as not-sound}
 use Rattle.printing.specs.Printed.{refusalLine}
 use Rattle.sheets.specs.Lines as prints
 use Rattle.replies.proofs.Saying.{replied}

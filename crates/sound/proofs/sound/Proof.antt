@@ -6,7 +6,7 @@ use Rattle.theory.specs.Limits.{document}
 use Rattle.table.specs.Rules.{pastRule}
 use Rattle.table.specs.Clean.{WellFormed}
 use Rattle.questions.proofs.Cleanness.{is-not}
-use Rattle.sound.proofs.Passes.{refused, granted}
+use Rattle.questions.proofs.Passes.{refused, granted}
 use Rattle.sound.proofs.Soundness.{sound-well-formed, sound-kept, sound-occurrence, sound-of}
 use Rattle.sound.proofs.Soundness.{well-formed-bounded}
 use Rattle.sound.proofs.sound.Statement.{statement}

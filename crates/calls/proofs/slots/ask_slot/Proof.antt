@@ -1,6 +1,6 @@
 -- `calls::slots::ask_slot` meets its contract: the refusal is that of the first question answered no. Assumes nothing.
 use Rattle.table.specs.Sound.{Sound}
-use Rattle.sound.proofs.Passes as sound
+use Rattle.questions.proofs.Passes as sound
 use Rattle.calls.specs.declared.Refusal.the-variants.{SlotNumber, Free}
 use Rattle.calls.specs.Asking.{unsound, refused, passed}
 use Rattle.calls.proofs.Asking.{slot-past, slot-empty, slot-yes}

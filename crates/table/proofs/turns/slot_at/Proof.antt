@@ -11,7 +11,9 @@ returns : tie.Need-returns
 returns c = slot-at-up (document .slots) (c .before .args .down) _ (not-true _ (c .if1 .taken))
 
 returns-2 : tie.Need-returns-2
-returns-2 c = slot-at-down (document .slots) (c .before .before .args .down) (c .before .before .args .i) _ (not-false _ (c .before .if1 .left)) (omega arith)
+returns-2 c =
+    let s = c .before .before in
+    slot-at-down (document .slots) (s .args .down) (s .args .i) _ (not-false _ (c .before .if1 .left)) (omega arith)
 
 sub-result : tie.Need-sub-result
 sub-result c = search needs
@@ -20,7 +22,9 @@ sub-result-2 : tie.Need-sub-result-2
 sub-result-2 c = search needs
 
 returns-3 : tie.Need-returns-3
-returns-3 c = slot-at-down (document .slots) (c .before .before .args .down) (c .before .before .args .i) _ (not-false _ (c .before .if1 .left)) (omega arith)
+returns-3 c =
+    let s = c .before .before in
+    slot-at-down (document .slots) (s .args .down) (s .args .i) _ (not-false _ (c .before .if1 .left)) (omega arith)
 
 pub slot-at-spec : {M : Type 1} → statement M
 slot-at-spec = tie.close (tie.spec returns returns-2 sub-result sub-result-2 returns-3)

@@ -1,0 +1,2 @@
+-- Laws of the marks. Nothing here needs to be believed: all of it is checked.
+pub mod Marks
