@@ -12,8 +12,8 @@ use Rattle.places.specs.declared.Place.{Place}
 use Rattle.places.specs.Places.{lineAfter, nextLine}
 use Rattle.places.proofs.Leading.{leading-within}
 use Rattle.replies.specs.declared.Reply.{Reply}
-use Rattle.replies.specs.declared.Passed.{Passed}
-use Rattle.replies.specs.Replies.{ROOM}
+use Rattle.judging.specs.declared.Passed.{Passed}
+use Rattle.judging.specs.Judging.{ROOM}
 use Rattle.fields.specs.Written.{Wrote}
 use Rattle.fields.proofs.Wrote.{wrote-then, wrote-nothing}
 use Rattle.sheets.specs.Lines.{Prints}

@@ -17,8 +17,9 @@ use Rattle.lines.specs.Readings.{reading}
 use Rattle.lines.proofs.Cut.{reading-cut}
 use Rattle.places.specs.declared.Place.{Place}
 use Rattle.replies.specs.declared.Reply.{Reply}
-use Rattle.replies.specs.declared.Passed.{Passed}
-use Rattle.replies.specs.Replies.{ROOM, Replies, RepliesIn, Answered, Passes}
+use Rattle.judging.specs.declared.Passed.{Passed}
+use Rattle.judging.specs.Judging.{ROOM, Answered, Passes}
+use Rattle.replies.specs.Replies.{Replies, RepliesIn}
 use Rattle.fields.proofs.Wrote.{wrote-length}
 use Rattle.sheets.specs.Lines as prints
 use Rattle.sheets.specs.Lines.{Prints}

@@ -6,7 +6,7 @@ use mathlib.Core.List.{List, _++_, append-assoc}
 use lib.ListN.{length, take, length-append}
 use lib.Seq.{length-take-le}
 use Rattle.replies.specs.declared.Reply.{Reply}
-use Rattle.replies.specs.Replies.{ROOM}
+use Rattle.judging.specs.Judging.{ROOM}
 use Rattle.fields.proofs.Wrote.{wrote-start}
 use Rattle.sheets.proofs.Unique.{sheet-prints-unique}
 use Rattle.sheets.proofs.Reading.{reads-then, lines-at-most}

@@ -5,8 +5,8 @@ use mathlib.Core.Bool.{true, false}
 use mathlib.Core.List.{List, _++_}
 use lib.ListN.{length}
 use Rattle.table.specs.declared.Table.{Table}
-use Rattle.replies.specs.declared.Passed.{Passed}
-use Rattle.replies.specs.Replies.{Answered}
+use Rattle.judging.specs.declared.Passed.{Passed}
+use Rattle.judging.specs.Judging.{Answered}
 use Rattle.feed.specs.declared.Begun.{Begun}
 use Rattle.feed.specs.declared.Sheet.{Sheet}
 use Rattle.feed.specs.declared.Fed.{Fed}

@@ -12,7 +12,8 @@ use Rattle.replies.specs.declared.Reply.{Reply}
 use Rattle.feed.specs.declared.Begun.{Begun}
 use Rattle.feed.specs.declared.Sheet.{Sheet}
 use Rattle.feed.specs.declared.Fed.{Fed}
-use Rattle.replies.specs.Replies.{Replies, ROOM}
+use Rattle.judging.specs.Judging.{ROOM}
+use Rattle.replies.specs.Replies.{Replies}
 use Rattle.fields.specs.Written.{Wrote}
 
 -- How many bytes of a line the code keeps: one more than a line may have.

@@ -1,14 +1,14 @@
 // A sheet that comes in pieces of any length, and the replies to its lines.
+use judging::Passed;
+use judging::pass;
 use places::Place;
-use replies::Passed;
 use replies::Reply;
-use replies::pass;
 use replies::reply_to;
 use table::Table;
 ghost use mathlib.Core.Path.{_≡_};
 ghost use Prim.Native.Nat.{_+_, _≤_, _<_, min};
 ghost use lib.ListN.{length, drop};
-ghost use Rattle.replies.specs.Replies.{ROOM};
+ghost use Rattle.judging.specs.Judging.{ROOM};
 ghost use Rattle.sheets.specs.Sheets.{start};
 ghost use Rattle.feed.specs.Sheets.{KEPT, lineEnd, StandsFor, RepliesAt, Feeds};
 ghost use Rattle.feed.specs.Parts.{Longer, PassesEnded, PassesOn};
@@ -260,7 +260,7 @@ pub fn feed(sheet: Sheet, input: &[u8], out: &mut [u8]) -> Fed
         read: 0,
         printed: 0,
     };
-    while fed.read < input.len() && out.len() - fed.printed >= Reply::ROOM {
+    while fed.read < input.len() && out.len() - fed.printed >= Passed::ROOM {
         let s = fed.sheet;
         fed = feed_lines(s, input, fed.read, out, fed.printed);
     }

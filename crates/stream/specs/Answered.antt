@@ -7,7 +7,7 @@ use mathlib.Core.List.{List}
 use lib.ListN.{length, take}
 use Rattle.replies.specs.declared.Reply.{Reply}
 use Rattle.sheets.specs.Sheets.{start, MOST}
-use Rattle.replies.specs.Replies.{ROOM}
+use Rattle.judging.specs.Judging.{ROOM}
 use Rattle.feed.specs.declared.Sheet.{Sheet}
 use Rattle.feed.specs.Sheets.{StandsFor, RepliesAt, Pieces}
 use Rattle.stream.specs.declared.Answered.{Answered}

@@ -8,7 +8,7 @@ use libc::STDOUT_FILENO;
 use replies::Reply;
 ghost use Prim.Native.Nat.{_≤_};
 ghost use lib.ListN.{length};
-ghost use Rattle.replies.specs.Replies.{ROOM};
+ghost use Rattle.judging.specs.Judging.{ROOM};
 ghost use Rattle.stream.specs.Answered.{AnswersPiece, AnswersLines, AnswersLast};
 
 // The most bytes of input that are read (`MOST` in crates/sheets/specs/Sheets.antt): what follows is as if the input

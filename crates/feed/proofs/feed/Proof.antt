@@ -5,7 +5,7 @@ use native.Mathlib.Omega.{arith}
 use mathlib.Core.Path.{_≡_, refl}
 use lib.ListN.{length}
 use borrow.Author.Tests.{leb-true, leb-false}
-use Rattle.replies.specs.Replies.{ROOM}
+use Rattle.judging.specs.Judging.{ROOM}
 use Rattle.feed.specs.Sheets.{Feeds}
 use Rattle.feed.proofs.Feeding.{feeds-then, feeds-nothing}
 use Rattle.feed.proofs.feed.Statement.{statement}
