@@ -1,10 +1,10 @@
 // The lines of standard input answered on standard output, with one table, empty at the start.
-use feed::Sheet;
 use feed::feed;
 use feed::reply_at;
 use libc::STDERR_FILENO;
 use libc::STDIN_FILENO;
 use libc::STDOUT_FILENO;
+use passing::Sheet;
 use replies::Reply;
 ghost use Prim.Native.Nat.{_≤_};
 ghost use lib.ListN.{length};

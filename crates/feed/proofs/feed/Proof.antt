@@ -6,8 +6,8 @@ use mathlib.Core.Path.{_≡_, refl}
 use lib.ListN.{length}
 use borrow.Author.Tests.{leb-true, leb-false}
 use Rattle.judging.specs.Judging.{ROOM}
-use Rattle.feed.specs.Sheets.{Feeds}
-use Rattle.feed.proofs.Feeding.{feeds-then, feeds-nothing}
+use Rattle.passing.specs.Sheets.{Feeds}
+use Rattle.passing.proofs.Feeding.{feeds-then, feeds-nothing}
 use Rattle.feed.proofs.feed.Statement.{statement}
 use Rattle.feed.proofs.feed.Tie as tie
 
