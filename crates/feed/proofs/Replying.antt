@@ -72,7 +72,8 @@ module _ {c : Sheet} {input : List ℕ} {from end : ℕ} {before : List ℕ} {at
       → Feeds c input from before at
       (record { sheet = sheetOf (r .table) (nextBegun next bytes); read = end + 1; printed = r .next }) after
   feeds-line {r = r} bytes keeps inside room replies moved =
-      feeds-ended {c = c} begun found {place = r .place} bytes inside moved (replies .inside (omega arith)) (replies .same-length)
+      feeds-ended {c = c} begun found {place = r .place} bytes inside moved
+      (replies .inside (omega arith)) (replies .same-length)
       (λ s f.
       let part = take (end - from) (drop from input) in
       let stands : StandsFor (longer s part) _ =

@@ -1,5 +1,5 @@
--- `passing::line_end` meets its contract. The loop's invariant: the offset where it will end is the one that is asked for.
--- Assumes nothing.
+-- `passing::line_end` meets its contract. The loop's invariant: the offset where it will end is the one that is
+-- asked for. Assumes nothing.
 use Prim.Native.Nat.{_+_, _-_}
 use native.Mathlib.Omega.{arith}
 use mathlib.Core.Path.{_≡_, refl, ap}
