@@ -6,13 +6,14 @@ use mathlib.Core.List.{List, _++_, append-assoc}
 use lib.ListN.{length, take, length-append}
 use lib.Seq.{length-take-le}
 use Rattle.replies.specs.declared.Reply.{Reply}
-use Rattle.replies.specs.Replies.{ROOM}
+use Rattle.judging.specs.Judging.{ROOM}
 use Rattle.fields.proofs.Wrote.{wrote-start}
 use Rattle.sheets.proofs.Unique.{sheet-prints-unique}
 use Rattle.sheets.proofs.Reading.{reads-then, lines-at-most}
-use Rattle.feed.specs.declared.Sheet.{Sheet}
+use Rattle.passing.specs.declared.Sheet.{Sheet}
 use Rattle.sheets.specs.Sheets.{State, start, Reads, stop, SheetPrints, MOST}
-use Rattle.feed.specs.Sheets.{StandsFor, RepliesAt, Pieces, none, piece}
+use Rattle.passing.specs.Sheets.{StandsFor}
+use Rattle.feed.specs.Sheets.{RepliesAt, Pieces, none, piece}
 
 -- The state after all pieces.
 record After (s : State) (input out : List ℕ) (d : Sheet) : Type 0 where

@@ -1,35 +1,15 @@
--- The code's sheet that comes in pieces. Assumes nothing.
-use Prim.Native.Nat.{ℕ, _+_, _-_, _^_, _≤_, _<_}
+-- The reply to the line at hand of a sheet, and a sheet fed piece by piece. Assumes nothing.
+use Prim.Native.Nat.{ℕ, _+_, _≤_}
 use mathlib.Core.Path.{_≡_}
-use mathlib.Core.Bool.{Bool, not}
 use mathlib.Core.List.{List, [], _++_}
-use lib.Dec.{eqb}
-use lib.ListN.{length, take, drop}
-use Rattle.fields.specs.Texts.{NEWLINE}
-use Rattle.places.specs.Places.{leading}
-use Rattle.sheets.specs.Sheets.{State, Reads}
+use lib.ListN.{length, take}
+use Rattle.sheets.specs.Sheets.{State}
+use Rattle.judging.specs.Judging.{ROOM}
 use Rattle.replies.specs.declared.Reply.{Reply}
-use Rattle.feed.specs.declared.Begun.{Begun}
-use Rattle.feed.specs.declared.Sheet.{Sheet}
-use Rattle.feed.specs.declared.Fed.{Fed}
-use Rattle.replies.specs.Replies.{Replies, ROOM}
-use Rattle.fields.specs.Written.{Wrote}
-
--- How many bytes of a line the code keeps: one more than a line may have.
-abbrev pub KEPT : ℕ
-KEPT = 121
-
--- The line at hand has this number and begins with the bytes that are kept. A length that passes the array counts as
--- far as the array goes.
-pub record BegunOf (n : ℕ) (line : List ℕ) (k : Begun) : Type 0 where
-  pub number : k .place .line ≡ n
-  pub offset : k .place .offset ≡ 0
-  pub bytes : take (k .length) (k .bytes) ≡ take KEPT line
-
--- The code's sheet stands for a state.
-pub record StandsFor (s : State) (c : Sheet) : Type 0 where
-  pub table : c .table ≡ s .table
-  pub line : BegunOf (s .number) (s .line) (c .begun)
+use Rattle.replies.specs.Replies.{Replies}
+use Rattle.passing.specs.declared.Sheet.{Sheet}
+use Rattle.passing.specs.declared.Fed.{Fed}
+use Rattle.passing.specs.Sheets.{StandsFor, Feeds}
 
 -- The reply to the line at hand, of every state that the sheet stands for, if there is room for every reply; else
 -- nothing is done.
@@ -42,35 +22,6 @@ pub record RepliesAt (c : Sheet) (before : List ℕ) (at : ℕ) (after : List �
   pub short :
       (at + ROOM ≤ length before → ⊥)
       → (r ≡ record { table = c .table; place = c .begun .place; next = at }) × (after ≡ before)
-
--- A byte of a line: any but the newline.
-abbrev pub ofLine : ℕ → Bool
-ofLine b = not (eqb b NEWLINE)
-
--- How many bytes stand before the first newline.
-abbrev pub lineEnd : List ℕ → ℕ
-lineEnd bs = leading ofLine bs
-
--- From a state, the input's bytes from an offset on were read up to r .read; what they print stands in the buffer from
--- place `at` on.
-pub record FeedsFrom (s : State) (input : List ℕ) (from : ℕ) (before : List ℕ) (at : ℕ) (r : Fed) (after : List ℕ) :
-    Type 0 where
-  pub state : State
-  pub printed : List ℕ
-  pub stands : StandsFor state (r .sheet)
-  pub reads : Reads s (take (r .read - from) (drop from input)) printed state
-  pub wrote : Wrote printed before at after (r .printed)
-
--- The same from every state that the sheet stands for, as long as line numbers fit 32 bits: no line is without a byte,
--- so none passes the number at hand and the bytes read.
-pub record Feeds (c : Sheet) (input : List ℕ) (from : ℕ) (before : List ℕ) (at : ℕ) (r : Fed) (after : List ℕ) :
-    Type 0 where
-  pub begun : from ≤ r .read
-  pub read : r .read ≤ length input
-  pub printed : r .printed ≤ length before
-  pub same-length : length after ≡ length before
-  pub feeds :
-      (s : State) → StandsFor s c → s .number + (r .read - from) < 2 ^ 32 → FeedsFrom s input from before at r after
 
 -- A sheet fed piece by piece, each from where the last stood: the bytes that were read, and those that were printed,
 -- one after another. What isn't read of a piece is fed again.

@@ -7,10 +7,12 @@ use calls::RemoveAnswer;
 use calls::refusal_number;
 use changes::add;
 use changes::remove;
+use judging::Judged;
+use judging::has_room;
+use judging::judge;
 use label_lines::write_labels;
 use lines::Command;
 use lines::Parsed;
-use lines::Reading;
 use lines::read::read;
 use places::Place;
 use printing::write_named;
@@ -21,7 +23,6 @@ use sound::sound;
 use table::Table;
 ghost use mathlib.Core.Path.{_≡_};
 ghost use Prim.Native.Nat.{_+_, _≤_};
-ghost use lib.Dec.{leb};
 ghost use lib.ListN.{length, take, drop};
 ghost use Rattle.table.specs.Questions.{ruleFrom};
 ghost use Rattle.calls.specs.Contracts.{AddEnds};
@@ -29,42 +30,16 @@ ghost use Rattle.lines.specs.Commands as sheet;
 ghost use Rattle.lines.specs.Readings.{ENTRIES, commandOf};
 ghost use Rattle.printing.specs.Printed.{refusalLine};
 ghost use Rattle.printing.specs.Printed.{named as namedLine};
-ghost use Rattle.replies.specs.Replies.{ROOM, RepliesIn, Passes};
-ghost use Rattle.replies.specs.Parts.{Says, Obeys, Judges, Unread, positives, negatives};
+ghost use Rattle.judging.specs.Judging.{ROOM};
+ghost use Rattle.judging.specs.Parts.{positives, negatives};
+ghost use Rattle.replies.specs.Replies.{RepliesIn};
+ghost use Rattle.replies.specs.Parts.{Says, Obeys};
 
 // The table after a line, the place where its reading stopped, and the place in the buffer behind what it prints.
 pub struct Reply {
     pub table: Table,
     pub place: Place,
     pub next: usize,
-}
-
-impl Reply {
-    // Room for the longest reply: a line of at most 32 bytes for each atom.
-    pub const ROOM: usize = 8192;
-}
-
-// A line answered without the table, unless it is a command or there is no room.
-pub struct Passed {
-    pub answered: bool,
-    pub place: Place,
-    pub next: usize,
-}
-
-// Questions 14 and 13 of a line: what it prints ends at this place of the buffer, or it is a command.
-enum Judged {
-    Told(usize),
-    Command(Command),
-}
-
-// Is there room for every reply at this place of a buffer?
-fn has_room(length: usize, at: usize) -> bool
-    ensures { λ r. ⌜ r ≡ leb (at + ROOM) length ⌝ }
-{
-    if length < Reply::ROOM {
-        return false;
-    }
-    at <= length - Reply::ROOM
 }
 
 fn refused(table: Table, place: Place, refusal: u32, out: &mut [u8], at: usize) -> Reply
@@ -183,60 +158,6 @@ fn obeyed(table: Table, command: Command, parsed: Parsed, out: &mut [u8], at: us
         Command::Remove(slot) => removed(table, place, slot, out, at),
         Command::Why(atom) => explained(table, place, atom, out, at),
         Command::Labels => listed(table, place, out, at),
-    }
-}
-
-// Question 13 of a line that is neither blank nor too long. A line without the form is refused before the table is
-// touched.
-fn command_of(parsed: Parsed, out: &mut [u8], at: usize) -> Judged
-    requires { ⌜ at + ROOM ≤ length (now out) ⌝ }
-    ensures { λ r. ⌜ Unread parsed (now (out .entry)) at (now (out .exit)) r ⌝ }
-{
-    let place = parsed.place;
-    let reading = parsed.reading;
-    let Reading::Command(command) = reading else {
-        return Judged::Told(write_refusal(out, at, place.line, 13));
-    };
-    Judged::Command(command)
-}
-
-// A blank line prints nothing; else question 14, then 13.
-fn judge(parsed: Parsed, out: &mut [u8], at: usize) -> Judged
-    requires { ⌜ at + ROOM ≤ length (now out) ⌝ }
-    ensures { λ r. ⌜ Judges parsed (now (out .entry)) at (now (out .exit)) r ⌝ }
-{
-    let place = parsed.place;
-    let reading = parsed.reading;
-    match reading {
-        Reading::Blank => Judged::Told(at),
-        Reading::TooLong => Judged::Told(write_refusal(out, at, place.line, 14)),
-        _ => command_of(parsed, out, at),
-    }
-}
-
-// The reply to the line that begins at the place, without the table: a command waits, and so does any line where there
-// is no room for every reply.
-pub fn pass(line: &[u8], place: Place, out: &mut [u8], at: usize) -> Passed
-    ensures { λ r. ⌜ Passes place (now (line .entry)) (now (out .entry)) at (now (out .exit)) r ⌝ }
-{
-    let waits = Passed {
-        answered: false,
-        place: place,
-        next: at,
-    };
-    if !has_room(out.len(), at) {
-        return waits;
-    }
-    let parsed = read(line, place);
-    let judged = judge(parsed, out, at);
-    let moved = parsed.place;
-    match judged {
-        Judged::Told(next) => Passed {
-            answered: true,
-            place: moved,
-            next: next,
-        },
-        Judged::Command(command) => waits,
     }
 }
 

@@ -6,9 +6,10 @@ use mathlib.Core.List.{List, [], _++_, append-nil}
 use lib.ListN.{length, take, drop, length-take, length-append, length-drop}
 use lib.Seq.{take-all, take-add}
 use Rattle.replies.specs.declared.Reply.{Reply}
-use Rattle.feed.specs.declared.Sheet.{Sheet}
-use Rattle.feed.specs.declared.Fed.{Fed}
-use Rattle.feed.specs.Sheets.{StandsFor, RepliesAt, Feeds, Pieces, none, piece}
+use Rattle.passing.specs.declared.Sheet.{Sheet}
+use Rattle.passing.specs.declared.Fed.{Fed}
+use Rattle.passing.specs.Sheets.{StandsFor, Feeds}
+use Rattle.feed.specs.Sheets.{RepliesAt, Pieces, none, piece}
 use Rattle.sheets.specs.Sheets.{start, MOST}
 use Rattle.stream.specs.declared.Answered.{Answered}
 use Rattle.stream.specs.Answered.{AnswersPiece, AnswersLines, AnswersLast}

@@ -7,9 +7,10 @@ use mathlib.Core.List.{List}
 use lib.ListN.{length, take}
 use Rattle.replies.specs.declared.Reply.{Reply}
 use Rattle.sheets.specs.Sheets.{start, MOST}
-use Rattle.replies.specs.Replies.{ROOM}
-use Rattle.feed.specs.declared.Sheet.{Sheet}
-use Rattle.feed.specs.Sheets.{StandsFor, RepliesAt, Pieces}
+use Rattle.judging.specs.Judging.{ROOM}
+use Rattle.passing.specs.declared.Sheet.{Sheet}
+use Rattle.passing.specs.Sheets.{StandsFor}
+use Rattle.feed.specs.Sheets.{RepliesAt, Pieces}
 use Rattle.stream.specs.declared.Answered.{Answered}
 
 -- All bytes of a piece were fed, in order, and this is the sheet after them; where the output could not be written, the

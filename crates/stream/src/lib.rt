@@ -1,14 +1,14 @@
 // The lines of standard input answered on standard output, with one table, empty at the start.
-use feed::Sheet;
 use feed::feed;
 use feed::reply_at;
 use libc::STDERR_FILENO;
 use libc::STDIN_FILENO;
 use libc::STDOUT_FILENO;
+use passing::Sheet;
 use replies::Reply;
 ghost use Prim.Native.Nat.{_≤_};
 ghost use lib.ListN.{length};
-ghost use Rattle.replies.specs.Replies.{ROOM};
+ghost use Rattle.judging.specs.Judging.{ROOM};
 ghost use Rattle.stream.specs.Answered.{AnswersPiece, AnswersLines, AnswersLast};
 
 // The most bytes of input that are read (`MOST` in crates/sheets/specs/Sheets.antt): what follows is as if the input

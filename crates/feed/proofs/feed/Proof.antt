@@ -5,9 +5,9 @@ use native.Mathlib.Omega.{arith}
 use mathlib.Core.Path.{_≡_, refl}
 use lib.ListN.{length}
 use borrow.Author.Tests.{leb-true, leb-false}
-use Rattle.replies.specs.Replies.{ROOM}
-use Rattle.feed.specs.Sheets.{Feeds}
-use Rattle.feed.proofs.Feeding.{feeds-then, feeds-nothing}
+use Rattle.judging.specs.Judging.{ROOM}
+use Rattle.passing.specs.Sheets.{Feeds}
+use Rattle.passing.proofs.Feeding.{feeds-then, feeds-nothing}
 use Rattle.feed.proofs.feed.Statement.{statement}
 use Rattle.feed.proofs.feed.Tie as tie
 

@@ -2,7 +2,8 @@
 use Prim.Native.Nat.{_<_}
 use native.Mathlib.Omega.{arith}
 use lib.ListN.{length}
-use Rattle.feed.proofs.Feeding.{end-within, feeds-part, feeds-line}
+use Rattle.passing.proofs.Feeding.{end-within, feeds-part}
+use Rattle.feed.proofs.Replying.{feeds-line}
 use borrow.Author.Needs.{needs}
 use Rattle.feed.proofs.feed_line.Statement.{statement}
 use Rattle.feed.proofs.feed_line.Tie as tie

@@ -1,6 +1,6 @@
 -- `feed::feed_lines` meets its contract. Assumes nothing.
 use native.Mathlib.Omega.{arith}
-use Rattle.feed.proofs.Feeding.{feeds-then}
+use Rattle.passing.proofs.Feeding.{feeds-then}
 use borrow.Author.Needs.{needs}
 use Rattle.feed.proofs.feed_lines.Statement.{statement}
 use Rattle.feed.proofs.feed_lines.Tie as tie

@@ -2,7 +2,8 @@
 use native.Mathlib.Omega.{arith}
 use mathlib.Core.Path.{sym}
 use lib.Seq.{length-take-le}
-use Rattle.feed.proofs.Keeping.{replies-at, sheet-sized}
+use Rattle.passing.proofs.Keeping.{sheet-sized}
+use Rattle.feed.proofs.Replying.{replies-at}
 use borrow.Author.Needs.{needs}
 use Rattle.feed.proofs.reply_at.Statement.{statement}
 use Rattle.feed.proofs.reply_at.Tie as tie

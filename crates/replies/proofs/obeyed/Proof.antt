@@ -3,7 +3,7 @@ use mathlib.Core.Path.{_∙_, ap}
 use Rattle.lines.specs.declared.Command.{Command}
 use Rattle.lines.specs.declared.Parsed.{Parsed}
 use Rattle.lines.specs.Readings.{Line, is, commandOf}
-use Rattle.replies.specs.Parts.{positives, negatives}
+use Rattle.judging.specs.Parts.{positives, negatives}
 use borrow.Author.Needs.{needs}
 use Rattle.replies.proofs.obeyed.Statement.{statement}
 use Rattle.replies.proofs.obeyed.Tie as tie

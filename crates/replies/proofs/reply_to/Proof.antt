@@ -1,7 +1,8 @@
 -- `replies::reply_to` meets its contract. Assumes nothing.
 use native.Mathlib.Omega.{arith}
 use lib.ListN.{length}
-use Rattle.replies.proofs.Saying.{has, lacks, reply-told, reply-obeyed, reply-short}
+use Rattle.judging.proofs.Judging.{has, lacks}
+use Rattle.replies.proofs.Saying.{reply-told, reply-obeyed, reply-short}
 use borrow.Author.Needs.{needs}
 use Rattle.replies.proofs.reply_to.Statement.{statement}
 use Rattle.replies.proofs.reply_to.Tie as tie

@@ -5,9 +5,9 @@ use native.Mathlib.Omega.{arith}
 use mathlib.Core.Path.{_≡_, refl, sym, _∙_}
 use mathlib.Core.List.{List, []}
 use lib.ListN.{length, take, drop}
-use Rattle.replies.specs.Replies.{ROOM}
+use Rattle.judging.specs.Judging.{ROOM}
 use Rattle.feed.specs.Sheets.{Pieces, none}
-use Rattle.feed.proofs.Keeping.{apart}
+use Rattle.passing.proofs.Keeping.{apart}
 use Rattle.stream.proofs.Parts.{first-part, part-length, pieces-more}
 use borrow.Author.Needs.{needs}
 use borrow.Author.Tests.{ltb-true, ltb-false}

@@ -4,7 +4,7 @@ use Prim.Native.Nat.{_≤_}
 use native.Mathlib.Omega.{arith}
 use mathlib.Core.Path.{_≡_, refl, sym, _∙_}
 use lib.ListN.{length}
-use Rattle.replies.specs.Replies.{ROOM}
+use Rattle.judging.specs.Judging.{ROOM}
 use Rattle.stream.proofs.Parts.{first-part, SoFar, so-far-start, so-far-more, so-far-over}
 use borrow.Author.Needs.{needs}
 use Rattle.stream.proofs.answer_lines.Statement.{statement}

@@ -1,9 +1,9 @@
--- `replies::command_of` meets its contract. Assumes nothing.
+-- `judging::command_of` meets its contract. Assumes nothing.
 use native.Mathlib.Omega.{arith}
-use Rattle.replies.proofs.Saying.{unread, commanded}
+use Rattle.judging.proofs.Judging.{unread, commanded}
 use borrow.Author.Needs.{needs}
-use Rattle.replies.proofs.command_of.Statement.{statement}
-use Rattle.replies.proofs.command_of.Tie as tie
+use Rattle.judging.proofs.command_of.Statement.{statement}
+use Rattle.judging.proofs.command_of.Tie as tie
 
 enum-known-reading : tie.Need-enum-known-reading
 enum-known-reading c = search needs

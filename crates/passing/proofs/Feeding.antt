@@ -11,22 +11,20 @@ use Rattle.table.specs.Clean.{emptyTable}
 use Rattle.places.specs.declared.Place.{Place}
 use Rattle.places.specs.Places.{lineAfter, nextLine}
 use Rattle.places.proofs.Leading.{leading-within}
-use Rattle.replies.specs.declared.Reply.{Reply}
-use Rattle.replies.specs.declared.Passed.{Passed}
-use Rattle.replies.specs.Replies.{ROOM}
+use Rattle.judging.specs.declared.Passed.{Passed}
 use Rattle.fields.specs.Written.{Wrote}
 use Rattle.fields.proofs.Wrote.{wrote-then, wrote-nothing}
 use Rattle.sheets.specs.Lines.{Prints}
 use Rattle.sheets.specs.Sheets.{State, longer, ended, stop}
-use Rattle.feed.specs.declared.Begun.{Begun}
-use Rattle.feed.specs.declared.Sheet.{Sheet}
-use Rattle.feed.specs.declared.Fed.{Fed}
-use Rattle.feed.specs.declared.Run.{Run}
-use Rattle.feed.specs.Sheets.{BegunOf, StandsFor, RepliesAt, ofLine, lineEnd}
-use Rattle.feed.specs.Sheets.{FeedsFrom, Feeds}
-use Rattle.feed.specs.Parts.{Longer, PassesEnded, PassesOn, sheetOf, fedOf}
+use Rattle.passing.specs.declared.Begun.{Begun}
+use Rattle.passing.specs.declared.Sheet.{Sheet}
+use Rattle.passing.specs.declared.Fed.{Fed}
+use Rattle.passing.specs.declared.Run.{Run}
+use Rattle.passing.specs.Sheets.{BegunOf, StandsFor, ofLine, lineEnd}
+use Rattle.passing.specs.Sheets.{FeedsFrom, Feeds}
+use Rattle.passing.specs.Parts.{Longer, PassesEnded, PassesOn, sheetOf, fedOf}
 use Rattle.sheets.proofs.Reading.{reads-then, lines-at-most}
-use Rattle.feed.proofs.Reading.{reads-part, reads-line}
+use Rattle.passing.proofs.Reading.{reads-part, reads-line}
 
 -- A line ends within the piece.
 pub end-within : (input : List ℕ) (from : ℕ) → from ≤ length input → from + lineEnd (drop from input) ≤ length input
@@ -48,12 +46,12 @@ next-begun {n} place bytes e f small =
     }
 
 -- What a line prints that these bytes end, from a state.
-record Ends (s : State) (part before : List ℕ) (at : ℕ) (after : List ℕ) (u : Table) (place : Place) (next : ℕ) :
+pub record Ends (s : State) (part before : List ℕ) (at : ℕ) (after : List ℕ) (u : Table) (place : Place) (next : ℕ) :
     Type 0 where
-  printed : List ℕ
-  prints : Prints (s .table) (s .number) (s .line ++ part) printed u
-  wrote : Wrote printed before at after next
-  number : place .line ≡ s .number
+  pub printed : List ℕ
+  pub prints : Prints (s .table) (s .number) (s .line ++ part) printed u
+  pub wrote : Wrote printed before at after next
+  pub number : place .line ≡ s .number
 
 module _ {c : Sheet} {input : List ℕ} {from end : ℕ} {before : List ℕ} {at : ℕ} (begun : from ≤ length input)
     (found : end ≡ from + lineEnd (drop from input)) where
@@ -101,27 +99,11 @@ module _ {c : Sheet} {input : List ℕ} {from end : ℕ} {before : List ℕ} {at
             wrote = reply .wrote;
           }
 
-      feeds-ended :
+      pub feeds-ended :
           Feeds c input from before at
           (record { sheet = sheetOf u (nextBegun next bytes); read = end + 1; printed = printed }) after
       feeds-ended =
           record { begun = omega arith; read = omega arith; printed = within; same-length = same; feeds = from-state }
-
-  -- With the table.
-  pub feeds-line :
-      {kept : Begun} {after : List ℕ} {r : Reply} {next : Place} (bytes : List ℕ)
-      → Longer (c .begun) (take (end - from) (drop from input)) kept → end < length input → at + ROOM ≤ length before
-      → RepliesAt (sheetOf (c .table) kept) before at after r → next ≡ nextLine (r .place)
-      → Feeds c input from before at
-      (record { sheet = sheetOf (r .table) (nextBegun next bytes); read = end + 1; printed = r .next }) after
-  feeds-line {r = r} bytes keeps inside room replies moved =
-      feeds-ended {place = r .place} bytes inside moved (replies .inside (omega arith)) (replies .same-length)
-      (λ s f.
-      let part = take (end - from) (drop from input) in
-      let stands : StandsFor (longer s part) _ =
-      record { table = f .table; line = keeps (s .number) (s .line) (f .line) } in
-      let w = replies .replies room (longer s part) stands in
-      record { printed = w .printed; prints = w .prints; wrote = w .wrote; number = w .number })
 
 -- Nothing is read.
 pub feeds-nothing :
@@ -141,7 +123,7 @@ feeds-nothing c input from before at l m =
 met : {t z u : Table} {n : ℕ} {line bs : List ℕ} → t ≡ z → Prints t n line bs u → Prints z n line bs u
 met {u = u} {n} {line} {bs} e p = subst (λ (x : Table). Prints x n line bs u) e p
 
--- Without it: the line was answered whatever the table is, or nothing was done.
+-- Without the table: the line was answered whatever the table is, or nothing was done.
 module _ {k : Begun} {input : List ℕ} {from : ℕ} {before : List ℕ} {at : ℕ} {after : List ℕ}
     (begun : from ≤ length input) (room : at ≤ length before) where
   pub passes-line :

@@ -1,9 +1,9 @@
--- `replies::pass` meets its contract. Assumes nothing.
+-- `judging::pass` meets its contract. Assumes nothing.
 use native.Mathlib.Omega.{arith}
-use Rattle.replies.proofs.Saying.{has, lacks, passed-told, passed-command, passed-short}
+use Rattle.judging.proofs.Judging.{has, lacks, passed-told, passed-command, passed-short}
 use borrow.Author.Needs.{needs}
-use Rattle.replies.proofs.pass.Statement.{statement}
-use Rattle.replies.proofs.pass.Tie as tie
+use Rattle.judging.proofs.pass.Statement.{statement}
+use Rattle.judging.proofs.pass.Tie as tie
 
 has-room-requires : tie.Need-has-room-requires
 has-room-requires c κs = tt

@@ -1,17 +1,17 @@
--- What the private functions of this crate tell each other. Assumes nothing.
+-- What the functions that feed a sheet tell each other. Assumes nothing.
 use Prim.Native.Nat.{ℕ, _≤_, _<_}
 use mathlib.Core.Path.{_≡_}
 use mathlib.Core.Bool.{true, false}
 use mathlib.Core.List.{List, _++_}
 use lib.ListN.{length}
 use Rattle.table.specs.declared.Table.{Table}
-use Rattle.replies.specs.declared.Passed.{Passed}
-use Rattle.replies.specs.Replies.{Answered}
-use Rattle.feed.specs.declared.Begun.{Begun}
-use Rattle.feed.specs.declared.Sheet.{Sheet}
-use Rattle.feed.specs.declared.Fed.{Fed}
-use Rattle.feed.specs.declared.Run.{Run}
-use Rattle.feed.specs.Sheets.{BegunOf, Feeds}
+use Rattle.judging.specs.declared.Passed.{Passed}
+use Rattle.judging.specs.Judging.{Answered}
+use Rattle.passing.specs.declared.Begun.{Begun}
+use Rattle.passing.specs.declared.Sheet.{Sheet}
+use Rattle.passing.specs.declared.Fed.{Fed}
+use Rattle.passing.specs.declared.Run.{Run}
+use Rattle.passing.specs.Sheets.{BegunOf, Feeds}
 
 -- Bytes behind the line at hand.
 abbrev pub Longer : Begun → List ℕ → Begun → Type 0

@@ -1,12 +1,12 @@
--- `replies::judge` meets its contract. Assumes nothing.
+-- `judging::judge` meets its contract. Assumes nothing.
 use native.Mathlib.Omega.{arith}
 use mathlib.Core.Path.{_∙_}
 use Rattle.fields.proofs.Wrote.{wrote-nothing}
 use Rattle.sheets.specs.Lines as prints
-use Rattle.replies.proofs.Saying.{neither, told}
+use Rattle.judging.proofs.Judging.{neither, told}
 use borrow.Author.Needs.{needs}
-use Rattle.replies.proofs.judge.Statement.{statement}
-use Rattle.replies.proofs.judge.Tie as tie
+use Rattle.judging.proofs.judge.Statement.{statement}
+use Rattle.judging.proofs.judge.Tie as tie
 
 enum-told : tie.Need-enum-told
 enum-told c = search needs

@@ -1,4 +1,4 @@
--- `feed::pass_lines` meets its contract. The loop keeps: what was read so far is fed, whatever the table is. The
+-- `passing::pass_lines` meets its contract. The loop keeps: what was read so far is fed, whatever the table is. The
 -- measure is what is left to read. Assumes nothing.
 use Prim.Native.Nat.{suc, _-_}
 use native.Mathlib.Omega.{arith}
@@ -7,12 +7,12 @@ use mathlib.Core.Bool.{true, cond}
 use lib.ListN.{length}
 use Rattle.table.specs.declared.Table.{Table}
 use Rattle.table.specs.Clean.{emptyTable}
-use Rattle.feed.specs.Sheets.{Feeds}
-use Rattle.feed.specs.Parts.{sheetOf, fedOf}
-use Rattle.feed.proofs.Keeping.{apart}
-use Rattle.feed.proofs.Feeding.{feeds-nothing, passes-then, passes-less}
-use Rattle.feed.proofs.pass_lines.Statement.{statement}
-use Rattle.feed.proofs.pass_lines.Tie as tie
+use Rattle.passing.specs.Sheets.{Feeds}
+use Rattle.passing.specs.Parts.{sheetOf, fedOf}
+use Rattle.passing.proofs.Keeping.{apart}
+use Rattle.passing.proofs.Feeding.{feeds-nothing, passes-then, passes-less}
+use Rattle.passing.proofs.pass_lines.Statement.{statement}
+use Rattle.passing.proofs.pass_lines.Tie as tie
 
 abbrev Inv-loop : tie.InvT-loop
 Inv-loop input from out₀ at run₀ out run =

@@ -1,5 +1,5 @@
--- `feed::keep` meets its contract. The loop keeps: behind the bytes of the line stand those that were passed, and there
--- is room for them. Assumes nothing.
+-- `passing::keep` meets its contract. The loop keeps: behind the bytes of the line stand those that were passed, and
+-- there is room for them. Assumes nothing.
 use Prim.Native.Nat.{_+_, _-_, _≤_}
 use native.Mathlib.Omega.{arith}
 use mathlib.Core.Path.{_≡_, refl, sym}
@@ -8,10 +8,10 @@ use mathlib.Core.List.{_++_, append-nil}
 use lib.ListN.{length, take, length-set}
 use borrow.Author.Needs.{needs}
 use borrow.Author.Tests.{ltb-true, ltb-false}
-use Rattle.feed.specs.Sheets.{KEPT}
-use Rattle.feed.proofs.Keeping.{kept-longer, kept-next, begun-sized}
-use Rattle.feed.proofs.keep.Statement.{statement}
-use Rattle.feed.proofs.keep.Tie as tie
+use Rattle.passing.specs.Sheets.{KEPT}
+use Rattle.passing.proofs.Keeping.{kept-longer, kept-next, begun-sized}
+use Rattle.passing.proofs.keep.Statement.{statement}
+use Rattle.passing.proofs.keep.Tie as tie
 
 abbrev Inv-loop : tie.InvT-loop
 Inv-loop bytes line₀ place end₀ i₀ line end i =

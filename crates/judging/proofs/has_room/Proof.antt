@@ -1,12 +1,12 @@
--- `replies::has_room` meets its contract. Assumes nothing.
+-- `judging::has_room` meets its contract. Assumes nothing.
 use Prim.Native.Nat.{_+_}
 use native.Mathlib.Omega.{arith}
 use mathlib.Core.Path.{sym}
 use borrow.Author.Tests.{lt-leb}
-use Rattle.replies.specs.Replies.{ROOM}
-use Rattle.replies.proofs.Saying.{room-left}
-use Rattle.replies.proofs.has_room.Statement.{statement}
-use Rattle.replies.proofs.has_room.Tie as tie
+use Rattle.judging.specs.Judging.{ROOM}
+use Rattle.judging.proofs.Judging.{room-left}
+use Rattle.judging.proofs.has_room.Statement.{statement}
+use Rattle.judging.proofs.has_room.Tie as tie
 
 returns : tie.Need-returns
 returns c = sym (lt-leb (c .before .args .at + ROOM) (c .before .args .length) (omega arith))

@@ -16,19 +16,17 @@ use Rattle.table.specs.declared.Table.{Table}
 use Rattle.lines.specs.Readings.{reading}
 use Rattle.lines.proofs.Cut.{reading-cut}
 use Rattle.places.specs.declared.Place.{Place}
-use Rattle.replies.specs.declared.Reply.{Reply}
-use Rattle.replies.specs.declared.Passed.{Passed}
-use Rattle.replies.specs.Replies.{ROOM, Replies, RepliesIn, Answered, Passes}
+use Rattle.judging.specs.declared.Passed.{Passed}
+use Rattle.judging.specs.Judging.{Answered, Passes}
 use Rattle.fields.proofs.Wrote.{wrote-length}
 use Rattle.sheets.specs.Lines as prints
 use Rattle.sheets.specs.Lines.{Prints}
-use Rattle.sheets.specs.Sheets.{State, longer}
-use Rattle.feed.specs.declared.Begun.{Begun}
-use Rattle.feed.specs.declared.Sheet.{Sheet}
-use Rattle.feed.specs.Sheets.{KEPT, BegunOf, StandsFor, RepliesAt}
-use Rattle.feed.specs.Parts.{Longer, PassesEnded, sheetOf}
-use Rattle.feed.proofs.Begun as begun-type
-use Rattle.feed.proofs.Sheet as sheet-type
+use Rattle.passing.specs.declared.Begun.{Begun}
+use Rattle.passing.specs.declared.Sheet.{Sheet}
+use Rattle.passing.specs.Sheets.{KEPT, BegunOf}
+use Rattle.passing.specs.Parts.{Longer, PassesEnded}
+use Rattle.passing.proofs.Begun as begun-type
+use Rattle.passing.proofs.Sheet as sheet-type
 
 -- What a line prints depends on its reading alone.
 prints-same :
@@ -119,48 +117,6 @@ module _ {n : ℕ} {line : List ℕ} {k : Begun} (f : BegunOf n line k) where
 -- So has that of a sheet.
 pub sheet-sized : (c : Sheet) (vs : List Val) → Is (row sheet-type.the-type) c vs → length (c .begun .bytes) ≡ KEPT
 sheet-sized c vs p = simp length-map at (p .1 .1 .1 .0 .1 .1 .1 .0 .1 .0 .1)
-
--- The reply to the bytes that are kept is the reply to the line.
-replies-kept :
-    {c : Sheet} {before : List ℕ} {at : ℕ} {after : List ℕ} {r : Reply} → length (c .begun .bytes) ≡ KEPT
-    → RepliesIn (c .table) (c .begun .place) (take (min (c .begun .length) KEPT) (c .begun .bytes)) before at after r
-    → RepliesAt c before at after r
-replies-kept {c} {before} {at} {after} {r} long h =
-    record { inside = bounds .0; same-length = bounds .1; replies = replies; short = h .short }
-  where
-    bounds : (at ≤ length before → r .next ≤ length before) × (length after ≡ length before)
-    bounds = go (decLe (at + ROOM) (length before))
-      where
-        go :
-            Dec (at + ROOM ≤ length before)
-            → (at ≤ length before → r .next ≤ length before) × (length after ≡ length before)
-        go (yes l) =
-            let w = h .answered l .wrote in
-            (λ m. omega (arith, w .room, w .place), wrote-length w)
-        go (no l) =
-            let w = h .short l in
-            (λ m. omega (arith, m, ap (λ (x : Reply). x .next) (w .0)), ap length (w .1))
-
-    replies :
-        at + ROOM ≤ length before → (s : State) → StandsFor s c
-        → Replies (s .table) (s .number) (s .line) before at after r
-    replies l s f =
-        let w = h .answered l in
-        record {
-          printed = w .printed;
-          prints = kept-reading (f .line) long (rw (f .table) at (w .prints));
-          wrote = w .wrote;
-          number = w .number ∙ f .line .number;
-        }
-
-pub replies-at :
-    {c : Sheet} {before : List ℕ} {at : ℕ} {after : List ℕ} {r : Reply} {k : ℕ} → k ≡ min (c .begun .length) KEPT
-    → length (c .begun .bytes) ≡ KEPT
-    → RepliesIn (c .table) (c .begun .place) (take k (c .begun .bytes)) before at after r
-    → RepliesAt c before at after r
-replies-at {c} {before} {at} {after} {r} e long h =
-    replies-kept long
-    (subst (λ (i : ℕ). RepliesIn (c .table) (c .begun .place) (take i (c .begun .bytes)) before at after r) e h)
 
 pub apart : true ≡ false → ⊥
 apart e = let z : _≡_ {A = ℕ} 0 1 = cc in omega arith

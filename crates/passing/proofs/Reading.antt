@@ -13,7 +13,7 @@ use Rattle.places.specs.Places.{leading}
 use Rattle.sheets.specs.Lines.{Prints}
 use Rattle.fields.specs.Texts.{NEWLINE}
 use Rattle.sheets.specs.Sheets.{State, longer, ended, Reads, stop, byte, newline}
-use Rattle.feed.specs.Sheets.{lineEnd}
+use Rattle.passing.specs.Sheets.{lineEnd}
 
 -- Bytes of the line at hand, and then others.
 module _ {v : State} {rest out : List ℕ} where

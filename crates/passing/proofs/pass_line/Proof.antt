@@ -1,15 +1,15 @@
--- `feed::pass_line` meets its contract. Assumes nothing.
+-- `passing::pass_line` meets its contract. Assumes nothing.
 use Prim.Native.Nat.{_<_}
 use native.Mathlib.Omega.{arith}
 use mathlib.Core.Path.{refl, sym}
 use mathlib.Core.Bool.{false}
 use lib.ListN.{length}
 use borrow.Author.Tests.{not-true, not-false}
-use Rattle.feed.proofs.Keeping.{apart}
-use Rattle.feed.proofs.Feeding.{end-within, passes-line, passes-none}
+use Rattle.passing.proofs.Keeping.{apart}
+use Rattle.passing.proofs.Feeding.{end-within, passes-line, passes-none}
 use borrow.Author.Needs.{needs}
-use Rattle.feed.proofs.pass_line.Statement.{statement}
-use Rattle.feed.proofs.pass_line.Tie as tie
+use Rattle.passing.proofs.pass_line.Statement.{statement}
+use Rattle.passing.proofs.pass_line.Tie as tie
 
 -- a line that ends before the piece does
 inside-piece :

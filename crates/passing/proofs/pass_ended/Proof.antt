@@ -1,11 +1,11 @@
--- `feed::pass_ended` meets its contract. Assumes nothing.
+-- `passing::pass_ended` meets its contract. Assumes nothing.
 use native.Mathlib.Omega.{arith}
 use mathlib.Core.Path.{sym}
 use lib.Seq.{length-take-le}
-use Rattle.feed.proofs.Keeping.{begun-sized, passes-whole, passes-kept}
+use Rattle.passing.proofs.Keeping.{begun-sized, passes-whole, passes-kept}
 use borrow.Author.Needs.{needs}
-use Rattle.feed.proofs.pass_ended.Statement.{statement}
-use Rattle.feed.proofs.pass_ended.Tie as tie
+use Rattle.passing.proofs.pass_ended.Statement.{statement}
+use Rattle.passing.proofs.pass_ended.Tie as tie
 
 pass-requires : tie.Need-pass-requires
 pass-requires c κs = tt
