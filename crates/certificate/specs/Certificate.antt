@@ -1,4 +1,4 @@
--- What is kept of the atoms, compared with the slots: what the functions of the crate answer and tell each other.
+-- Private to question 15: what is kept of the atoms, compared with the slots.
 -- Assumes nothing.
 use Prim.Native.Nat.{ℕ, _≤_}
 use mathlib.Core.Path.{_≡_}

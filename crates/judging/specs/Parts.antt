@@ -1,4 +1,4 @@
--- What the functions that judge a line tell each other, and those that reply. Assumes nothing.
+-- Private to the crates that reply: what the functions that judge a line tell each other. Assumes nothing.
 use Prim.Native.Nat.{ℕ}
 use mathlib.Core.Path.{_≡_}
 use mathlib.Core.List.{List}

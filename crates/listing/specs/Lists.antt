@@ -1,4 +1,4 @@
--- Private: the numbers that pass a test, as a list. Assumes nothing.
+-- Private to the crates behind the calls: the numbers that pass a test, as a list. Assumes nothing.
 use Prim.Native.Nat.{ℕ, zero, suc}
 use mathlib.Core.Bool.{Bool, true, false}
 use mathlib.Core.List.{List, [], _∷_, _++_}

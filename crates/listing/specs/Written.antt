@@ -1,4 +1,4 @@
--- Private: numbers written one after another into a buffer. Assumes nothing.
+-- Private to the crates behind the calls: numbers written one after another into a buffer. Assumes nothing.
 use Prim.Native.Nat.{ℕ, _+_, _≤_, _<_}
 use mathlib.Core.Path.{_≡_}
 use mathlib.Core.List.{List, [], _∷_, _++_}

@@ -1,4 +1,4 @@
--- What the functions that feed a sheet tell each other. Assumes nothing.
+-- Private: what the functions that feed a sheet tell each other. Assumes nothing.
 use Prim.Native.Nat.{ℕ, _≤_, _<_}
 use mathlib.Core.Path.{_≡_}
 use mathlib.Core.Bool.{true, false}

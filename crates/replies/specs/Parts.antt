@@ -1,4 +1,4 @@
--- What the functions that reply tell each other. Assumes nothing.
+-- Private: what the functions that reply tell each other. Assumes nothing.
 use Prim.Native.Nat.{ℕ}
 use mathlib.Core.Path.{_≡_}
 use mathlib.Core.List.{List}
