@@ -27,8 +27,8 @@ answered-sheet a =
 -- That is all that a program prints of the input: it has no more bytes than a program reads.
 pub program-prints : {r : Last} (a : AnswersLast r) → ProgramPrints (fedBytes a) (answeredBytes a)
 program-prints a =
-    subst (λ (bs : List ℕ). SheetPrints bs (answeredBytes a)) (sym (take-all MOST (fedBytes a) (a .answers .lines .few)))
-    (answered-sheet a)
+    let whole = take-all MOST (fedBytes a) (a .answers .lines .few) in
+    subst (λ (bs : List ℕ). SheetPrints bs (answeredBytes a)) (sym whole) (answered-sheet a)
 
 -- So it is what the plain book prints of the input.
 pub program-book : {r : Last} (a : AnswersLast r) → BookPrints (fedBytes a) (answeredBytes a)

@@ -73,8 +73,8 @@ fn answer(sheet: Sheet, input: &[u8], out: &mut [u8]) -> Answered
 }
 
 // Reads once, at most as many bytes as are left to read, and answers the lines of these bytes: none at the end of the
-// input. A read that fails ends the input as its end does. The contract ties the bytes in the buffer to the sheet handed
-// in; that they are all that was read it can't say, since no contract speaks of files.
+// input. A read that fails ends the input as its end does. The contract ties the bytes in the buffer to the sheet
+// handed in; that they are all that was read it can't say, since no contract speaks of files.
 fn answer_read(sheet: Sheet, input: &mut [u8], left: usize, out: &mut [u8]) -> Answered
     requires { ⌜ ROOM ≤ length (now out) ⌝ }
     ensures { λ r. ⌜ (r .read ≤ left) × AnswersPiece sheet (take (r .read) (now (input .exit))) r ⌝ }
@@ -84,8 +84,8 @@ fn answer_read(sheet: Sheet, input: &mut [u8], left: usize, out: &mut [u8]) -> A
 }
 
 // Answers each line as it comes, up to the end of the input. The contract says how many bytes were fed, and that the
-// sheet handed back is the one handed in after just so many: so none starts anew and none is forgotten. It does not shut
-// out a loop that ends before the input does, or one that drops a turn and the count of its bytes with it.
+// sheet handed back is the one handed in after just so many: so none starts anew and none is forgotten. It does not
+// shut out a loop that ends before the input does, or one that drops a turn and the count of its bytes with it.
 fn answer_lines(sheet: Sheet, out: &mut [u8]) -> Answered
     requires { ⌜ ROOM ≤ length (now out) ⌝ }
     ensures { λ r. ⌜ AnswersLines sheet r ⌝ }
