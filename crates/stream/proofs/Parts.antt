@@ -1,18 +1,18 @@
 -- Parts of an input, and the pieces that were fed of it. Assumes nothing.
 use Prim.Native.Nat.{ℕ, _+_, _-_, _≤_}
 use native.Mathlib.Omega.{arith}
-use mathlib.Core.Path.{_≡_, sym, _∙_, ap, subst}
+use mathlib.Core.Path.{_≡_, refl, sym, _∙_, ap, subst}
 use mathlib.Core.List.{List, [], _++_, append-nil}
 use lib.ListN.{length, take, drop, length-take, length-append, length-drop}
-use lib.Seq.{take-all, take-add}
-use Rattle.replies.specs.declared.Reply.{Reply}
+use lib.Seq.{take-all, take-add, take-take}
 use Rattle.passing.specs.declared.Sheet.{Sheet}
 use Rattle.passing.specs.declared.Fed.{Fed}
-use Rattle.passing.specs.Sheets.{StandsFor, Feeds}
+use Rattle.passing.specs.Sheets.{Feeds}
 use Rattle.feed.specs.Sheets.{RepliesAt, Pieces, none, piece}
-use Rattle.sheets.specs.Sheets.{start, MOST}
+use Rattle.sheets.specs.Sheets.{MOST}
 use Rattle.stream.specs.declared.Answered.{Answered}
-use Rattle.stream.specs.Answered.{AnswersPiece, AnswersLines, AnswersLast}
+use Rattle.stream.specs.declared.Last.{Last}
+use Rattle.stream.specs.Answered.{AnswersPiece, AnswersLines, AnswersFrom}
 use Rattle.feed.proofs.Whole.{pieces-then}
 
 pub first-part : (n : ℕ) (xs : List ℕ) → n ≤ length xs → n ≡ length (take n xs)
@@ -48,57 +48,74 @@ pieces-more {c} input from {r = r} fed more =
     let both = fed-behind fed more in
     (both .0, subst (λ (ys : List ℕ). Pieces c ys (both .0) (r .sheet)) joined (both .1))
 
--- The sheet so far, and how many bytes are left to read.
-pub record SoFar (left : ℕ) (d : Sheet) : Type 0 where
+-- What was fed of the bytes read is what was fed of the first so many of the buffer.
+pub read-answered :
+    {n left : ℕ} {c : Sheet} (buffer : List ℕ) {r : Answered} → n ≤ left → AnswersPiece c (take n buffer) r
+    → (r .read ≤ left) × AnswersPiece c (take (r .read) buffer) r
+read-answered {n} {left} {c} buffer {r} l a =
+    let within : r .read ≤ n = omega (arith, a .few, length-take n buffer) in
+    let all : r .read ≡ length (take (r .read) buffer) =
+    omega (arith, a .few, length-take n buffer, length-take (r .read) buffer) in
+    let same = take-take (r .read) n buffer within ∙ sym (take-take (r .read) (r .read) buffer (omega arith)) in (
+      omega (arith, within, l),
+      record {
+        printed = a .printed;
+        few = omega (arith, all);
+        pieces = subst (λ (bs : List ℕ). Pieces c bs (a .printed) (r .sheet)) same (a .pieces);
+        whole = λ e. all;
+      },
+    )
+
+-- The sheet after what was fed to the first, and how many bytes are left to read.
+pub record SoFar (first : Sheet) (left : ℕ) (d : Sheet) : Type 0 where
   pub input : List ℕ
   pub printed : List ℕ
-  pub first : Sheet
-  pub few : length input + left ≤ MOST
-  pub starts : StandsFor start first
+  pub count : length input + left ≡ MOST
   pub pieces : Pieces first input printed d
 
-pub so-far-start : (c : Sheet) → StandsFor start c → SoFar MOST c
-so-far-start c f = record { input = []; printed = []; first = c; few = omega arith; starts = f; pieces = none }
+pub so-far-start : (c : Sheet) → SoFar c MOST c
+so-far-start c = record { input = []; printed = []; count = refl; pieces = none }
 
 pub so-far-more :
-    {left n : ℕ} {c : Sheet} (input : List ℕ) {r : Answered} → SoFar left c → n ≤ left
-    → AnswersPiece c (take n input) r → SoFar (left - n) (r .sheet)
-so-far-more {left} {n} input s l a =
-    let part = take (a .read) (take n input) in
+    {left : ℕ} {first c : Sheet} (buffer : List ℕ) {r : Answered} → SoFar first left c → r .read ≤ left
+    → AnswersPiece c (take (r .read) buffer) r → SoFar first (left - r .read) (r .sheet)
+so-far-more {left} buffer {r} s l a =
+    let whole = take (r .read) buffer in
+    let part = take (r .read) whole in
     record {
       input = s .input ++ part;
       printed = s .printed ++ a .printed;
-      first = s .first;
-      few =
-          omega (
-            arith,
-            s .few,
-            length-append (s .input) part,
-            length-take (a .read) (take n input),
-            length-take n input,
-          );
-      starts = s .starts;
+      count =
+          omega (arith, s .count, l, a .few, length-append (s .input) part, length-take (r .read) whole);
       pieces = pieces-then (s .pieces) (a .pieces);
     }
 
-pub so-far-over : {left : ℕ} {d : Sheet} → SoFar left d → AnswersLines d
-so-far-over s =
+-- The end of the input: nothing was fed.
+pub so-far-same :
+    {left : ℕ} {first c : Sheet} (buffer : List ℕ) {r : Answered} → SoFar first left c → r .read ≡ 0
+    → AnswersPiece c (take (r .read) buffer) r → SoFar first left (r .sheet)
+so-far-same {left} {first} buffer {r} s e a =
+    let none-read : left - r .read ≡ left = omega (arith, e) in
+    subst (λ (n : ℕ). SoFar first n (r .sheet)) none-read (so-far-more buffer s (omega (arith, e)) a)
+
+pub so-far-over :
+    {left : ℕ} {first : Sheet} {done last : Answered} → done ≡ last → SoFar first left (last .sheet)
+    → AnswersLines first (record { sheet = done .sheet; read = MOST - left; written = done .written })
+so-far-over {left} {first} {done} same s =
     record {
       input = s .input;
       printed = s .printed;
-      first = s .first;
-      few = omega (arith, s .few);
-      starts = s .starts;
-      pieces = s .pieces;
+      count = omega (arith, s .count);
+      few = omega (arith, s .count);
+      pieces = subst (λ (a : Answered). Pieces first (s .input) (s .printed) (a .sheet)) (sym same) (s .pieces);
     }
 
 -- The reply to the last line.
 pub last-answered :
-    {d : Sheet} {before after : List ℕ} {r : Reply} → AnswersLines d → RepliesAt d before 0 after r
-    → length before ≡ 65536 → AnswersLast r
-last-answered {d} {before} {after} lines replies room =
+    {c : Sheet} {before after : List ℕ} {r : Last} → AnswersLines c (r .done)
+    → RepliesAt (r .done .sheet) before 0 after (r .reply) → length before ≡ 65536 → AnswersFrom c r
+last-answered {before = before} {after = after} lines replies room =
     record {
-      sheet = d;
       before = before;
       after = after;
       lines = lines;

@@ -5,36 +5,41 @@ use mathlib.Core.Path.{_≡_}
 use mathlib.Core.Bool.{true}
 use mathlib.Core.List.{List}
 use lib.ListN.{length, take}
-use Rattle.replies.specs.declared.Reply.{Reply}
 use Rattle.sheets.specs.Sheets.{start, MOST}
 use Rattle.judging.specs.Judging.{ROOM}
 use Rattle.passing.specs.declared.Sheet.{Sheet}
 use Rattle.passing.specs.Sheets.{StandsFor}
 use Rattle.feed.specs.Sheets.{RepliesAt, Pieces}
 use Rattle.stream.specs.declared.Answered.{Answered}
+use Rattle.stream.specs.declared.Last.{Last}
 
--- All bytes of a piece were fed, in order, and this is the sheet after them; where the output could not be written, the
--- first so many.
+-- The first so many bytes of a piece were fed to this sheet, in order, and the sheet handed back is the one after them.
+-- These are all, unless the output could not be written.
 pub record AnswersPiece (c : Sheet) (input : List ℕ) (r : Answered) : Type 0 where
-  pub read : ℕ
   pub printed : List ℕ
-  pub pieces : Pieces c (take read input) printed (r .sheet)
-  pub whole : r .written ≡ true → read ≡ length input
+  pub few : r .read ≤ length input
+  pub pieces : Pieces c (take (r .read) input) printed (r .sheet)
+  pub whole : r .written ≡ true → r .read ≡ length input
 
--- The sheet after some input of at most 1,048,576 bytes, from the start.
-pub record AnswersLines (d : Sheet) : Type 0 where
+-- So many bytes of some input, at most 1,048,576, were fed to this sheet, and the sheet handed back is the one after
+-- them.
+pub record AnswersLines (c : Sheet) (r : Answered) : Type 0 where
   pub input : List ℕ
   pub printed : List ℕ
-  pub first : Sheet
+  pub count : length input ≡ r .read
   pub few : length input ≤ MOST
-  pub starts : StandsFor start first
-  pub pieces : Pieces first input printed d
+  pub pieces : Pieces c input printed (r .sheet)
 
--- The reply to the last line of such a sheet.
-pub record AnswersLast (r : Reply) : Type 0 where
-  pub sheet : Sheet
+-- The same, and the reply to the last line of the sheet after them.
+pub record AnswersFrom (c : Sheet) (r : Last) : Type 0 where
   pub before : List ℕ
   pub after : List ℕ
-  pub lines : AnswersLines sheet
+  pub lines : AnswersLines c (r .done)
   pub room : ROOM ≤ length before
-  pub replies : RepliesAt sheet before 0 after r
+  pub replies : RepliesAt (r .done .sheet) before 0 after (r .reply)
+
+-- The same from the start.
+pub record AnswersLast (r : Last) : Type 0 where
+  pub first : Sheet
+  pub starts : StandsFor start first
+  pub answers : AnswersFrom first r

@@ -7,18 +7,25 @@ use libc::STDOUT_FILENO;
 use passing::Sheet;
 use replies::Reply;
 ghost use Prim.Native.Nat.{_≤_};
-ghost use lib.ListN.{length};
+ghost use lib.ListN.{length, take};
 ghost use Rattle.judging.specs.Judging.{ROOM};
-ghost use Rattle.stream.specs.Answered.{AnswersPiece, AnswersLines, AnswersLast};
+ghost use Rattle.stream.specs.Answered.{AnswersPiece, AnswersLines, AnswersFrom, AnswersLast};
 
 // The most bytes of input that are read (`MOST` in crates/sheets/specs/Sheets.antt): what follows is as if the input
 // ended there.
 const MOST: usize = 1048576;
 
-// The sheet after what was fed to it, and whether all that it printed could be written.
-struct Answered {
-    sheet: Sheet,
-    written: bool,
+// The sheet after what was fed to it, how many bytes these were, and whether all that they print could be written.
+pub struct Answered {
+    pub sheet: Sheet,
+    pub read: usize,
+    pub written: bool,
+}
+
+// What was answered up to the last line, and the reply to that.
+pub struct Last {
+    pub done: Answered,
+    pub reply: Reply,
 }
 
 // Writes bytes on standard output. Where that fails, one line on standard error says so.
@@ -60,47 +67,79 @@ fn answer(sheet: Sheet, input: &[u8], out: &mut [u8]) -> Answered
     }
     Answered {
         sheet: s,
+        read: from,
         written: written,
     }
 }
 
-// Answers each line as it comes, up to the end of the input. A read that fails ends the input as its end does.
-fn answer_lines(out: &mut [u8]) -> Answered
+// Reads once, at most as many bytes as are left to read, and answers the lines of these bytes: none at the end of the
+// input. A read that fails ends the input as its end does. The contract ties the bytes in the buffer to the sheet
+// handed in; that they are all that was read it can't say, since no contract speaks of files.
+fn answer_read(sheet: Sheet, input: &mut [u8], left: usize, out: &mut [u8]) -> Answered
     requires { ⌜ ROOM ≤ length (now out) ⌝ }
-    ensures { λ r. ⌜ AnswersLines (r .sheet) ⌝ }
+    ensures { λ r. ⌜ (r .read ≤ left) × AnswersPiece sheet (take (r .read) (now (input .exit))) r ⌝ }
+{
+    let n = read_some(input, left);
+    answer(sheet, &input[..n], out)
+}
+
+// Answers each line as it comes, up to the end of the input. The contract says how many bytes were fed, and that the
+// sheet handed back is the one handed in after just so many: so none starts anew and none is forgotten. It does not
+// shut out a loop that ends before the input does, or one that drops a turn and the count of its bytes with it.
+fn answer_lines(sheet: Sheet, out: &mut [u8]) -> Answered
+    requires { ⌜ ROOM ≤ length (now out) ⌝ }
+    ensures { λ r. ⌜ AnswersLines sheet r ⌝ }
 {
     let mut input = io::large_buffer();
     let mut done = Answered {
-        sheet: Sheet::start(),
+        sheet: sheet,
+        read: 0,
         written: true,
     };
     let mut left = MOST;
     while left > 0 && done.written {
-        let n = read_some(&mut input, left);
-        if n == 0 {
+        let so_far = done.sheet;
+        done = answer_read(so_far, &mut input, left, out);
+        if done.read == 0 {
             break;
         }
-        let s = done.sheet;
-        done = answer(s, &input[..n], out);
-        left -= n;
+        left -= done.read;
     }
-    done
+    let after = done.sheet;
+    let read = MOST - left;
+    Answered {
+        sheet: after,
+        read: read,
+        written: done.written,
+    }
 }
 
 // Answers each line as it comes, and then the last one, which may lack its newline. Once something can't be written,
-// nothing more is read or written. What is handed back is the reply to the last line.
-pub fn answer_input() -> Reply
-    ensures { λ r. ⌜ AnswersLast r ⌝ }
+// nothing more is read or written. The contract names the sheet that was replied to; it can't say that the reply was
+// written.
+fn answer_from(sheet: Sheet) -> Last
+    ensures { λ r. ⌜ AnswersFrom sheet r ⌝ }
 {
     let mut out = io::large_buffer();
-    let done = answer_lines(&mut out);
-    let sheet = done.sheet;
-    let last = reply_at(sheet, &mut out, 0);
+    let done = answer_lines(sheet, &mut out);
+    let at_last = done.sheet;
+    let last = reply_at(at_last, &mut out, 0);
     let n = last.next;
     if done.written {
         write_out(&out[..n]);
     }
-    last
+    Last {
+        done: done,
+        reply: last,
+    }
+}
+
+// The same from the start: line 1 with the empty table. By the law `program-book` (proofs/Joined.antt) what is answered
+// is what the plain book prints of the bytes that were fed.
+pub fn answer_input() -> Last
+    ensures { λ r. ⌜ AnswersLast r ⌝ }
+{
+    answer_from(Sheet::start())
 }
 
 // The whole of a program: what `answer_input` hands back is for its contract alone.

@@ -88,7 +88,7 @@ returns c =
     let left = ltb-false (l .from) _ (c .if1 .left) in
     let input = c .before .before .before .before .before .args .input .now in
     let whole : l .from ≡ length input = omega (arith, l .inv .0, left) in
-    record { read = l .from; printed = l .inv .3 .0; pieces = l .inv .3 .1; whole = λ e. whole }
+    record { printed = l .inv .3 .0; few = l .inv .0; pieces = l .inv .3 .1; whole = λ e. whole }
 
 same-length-2 : tie.Need-same-length-2 Inv-loop μ-loop
 same-length-2 c = search needs
@@ -97,8 +97,8 @@ returns-2 : tie.Need-returns-2 Inv-loop μ-loop
 returns-2 c =
     let l = c .before .loop in
     record {
-      read = l .from;
       printed = l .inv .3 .0;
+      few = l .inv .0;
       pieces = l .inv .3 .1;
       whole = λ e. absurd (apart (sym e ∙ c .loop-test .left));
     }
