@@ -1,5 +1,6 @@
-// Sets of atoms, and numbers and slots of atoms, kept in arrays that can be lent. Only these leaves, and those on one
-// rule, take an atom or a slot apart. An atom past the end is in no set, has the number 0, and is not written.
+// Sets of atoms, and numbers and slots of atoms, kept in arrays that can be lent. Atoms and slots are taken apart in
+// leaves such as these (docs/DECISIONS.md lists them all). An atom past the end is in no set, has the number 0, and is
+// not written.
 use super::Atom;
 use super::Slot;
 use super::Table;
