@@ -26,7 +26,8 @@ extern "C" {
 #define YEQONTUR_ENTRIES 8
 
 /* A slot: free (state 0) or with one rule (state 1): the head is in if every positive entry is in and no negative one
- * is. The entries are the positive list, then the negative list. To be read; rules are changed by the calls. */
+ * is. The entries are the positive list, then the negative list, each ascending, in whatever order an addition named
+ * it. To be read; rules are changed by the calls. */
 typedef struct {
     uint16_t state;
     uint16_t head;
@@ -42,9 +43,10 @@ typedef struct {
     uint16_t slot;
 } yeqontur_kept_label;
 
-/* A table goes in by value and comes back by value. Any bytes are a table; question 15 says whether it is sound.
- * Its structs have no padding, so two sound tables with the same rules in the same slots are equal byte for byte
- * (memcmp): a table can be stored, compared and hashed as the 7,168 bytes that it is. The empty table is all zero. */
+/* A table goes in by value and comes back by value. Any bytes are a table; question 15 says whether it is sound. A
+ * table with a list that does not ascend is not, nor is one with the same rule in two slots. Its structs have no
+ * padding, so two sound tables with the same rules in the same slots are equal byte for byte (memcmp): a table can be
+ * stored, compared and hashed as the 7,168 bytes that it is. The empty table is all zero. */
 typedef struct {
     yeqontur_rule rules[YEQONTUR_SLOTS];
     yeqontur_kept_label labels[YEQONTUR_ATOMS];
@@ -55,7 +57,7 @@ typedef struct {
  *    2  the two lists together have more than 8 entries
  *    3  an entry is not below 256
  *    4  an atom stands twice in one list
- *    5  the table has the same rule already
+ *    5  the table has the same rule already: heads are equal, and each list holds the same atoms, in any order
  *    6  no slot is free
  *    7  the rule would close a loop through a negation
  *    8  the slot number is not below 256
@@ -83,7 +85,7 @@ typedef struct {
     uint32_t refused;
     uint32_t spoiled; /* 0 valid; 1: the rule needs `atom`, which is out; 2: it is blocked by `atom`, which is in */
     uint32_t atom;
-    uint32_t place; /* of that entry in the positive (1) or the negative list (2), from 0 */
+    uint32_t place; /* of that entry in the positive (1) or the negative list (2), as the slot keeps it, from 0 */
 } yeqontur_spoiler_answer;
 
 /* To be read by its fields: 4 bytes between these two are padding. */
@@ -97,8 +99,9 @@ yeqontur_table yeqontur_empty(void);
 
 /* "Asks" lists the refusals that a call can meet, in the order in which it asks; the first that applies is told. */
 
-/* Adds a rule to the lowest free slot and answers that slot; with both lists empty it is a fact. Every other slot keeps
- * its rule, and all labels are right for the rules now held. Asks 15, 1, 2, 3, 4, 5, 6, 7. */
+/* Adds a rule to the lowest free slot and answers that slot; with both lists empty it is a fact. The lists may come in
+ * any order; the slot keeps each ascending. Every other slot keeps its rule, and all labels are right for the rules now
+ * held. Asks 15, 1, 2, 3, 4, 5, 6, 7. */
 yeqontur_change yeqontur_add(yeqontur_table table, uint32_t head, const uint32_t *positives, size_t positive_count,
                              const uint32_t *negatives, size_t negative_count);
 
@@ -108,9 +111,10 @@ yeqontur_change yeqontur_remove(yeqontur_table table, uint32_t slot);
 /* The label of an atom: absent, out, or in with its least depth and supporting slot. Asks 15, 10. */
 yeqontur_label_answer yeqontur_label(yeqontur_table table, uint32_t atom);
 
-/* Whether the rule in a slot is valid, or its first entry that spoils it, positive list first: a positive entry spoils
- * if it is out ("needs"), a negative one if it is in ("blocked by"). An atom may stand in both lists; the answer says
- * which of them is meant, and the place in it. For a valid rule or a refusal every other field is 0. Asks 15, 8, 9. */
+/* Whether the rule in a slot is valid, or its first entry that spoils it, positive list first and each list ascending:
+ * a positive entry spoils if it is out ("needs"), a negative one if it is in ("blocked by"). An atom may stand in both
+ * lists; the answer says which of them is meant, and the place in it. For a valid rule or a refusal every other field
+ * is 0. Asks 15, 8, 9. */
 yeqontur_spoiler_answer yeqontur_spoiler(yeqontur_table table, uint32_t slot);
 
 /* The slots of the rules with this head; the heads of the rules with this entry; all atoms whose label rests on this

@@ -3,6 +3,7 @@
 
 use crate::clock::Pair;
 use crate::{clingo, plain, shapes};
+use oracle::random::Random;
 use std::hint::black_box;
 use yeqontur::{raw, Rule, Table};
 
@@ -22,16 +23,23 @@ impl Case {
         Case { less, rule, full }
     }
 
+    /// The lists come shuffled, not as they are kept.
     fn add(&self) -> Pair {
-        let (head, p, n) = (self.rule.head, &self.rule.positives, &self.rule.negatives);
+        let mut random = Random::seeded(1);
+        let mut shuffled = |list: &[u32]| random.sample(list, list.len());
+        let (p, n) = (
+            shuffled(&self.rule.positives),
+            shuffled(&self.rule.negatives),
+        );
+        let head = self.rule.head;
         let proved = || {
             let mut table = self.less.clone();
-            table.add(head, p, n).expect("a rule that is accepted");
+            table.add(head, &p, &n).expect("a rule that is accepted");
             table
         };
         let plain = || {
             let mut table = *self.less.as_raw();
-            plain::add(&mut table, head, p, n).expect("the same");
+            plain::add(&mut table, head, &p, &n).expect("the same");
             table
         };
         assert!(proved() == self.full && plain() == *self.full.as_raw());
@@ -96,8 +104,9 @@ pub fn bench() {
 mod tests {
     use crate::plain;
     use oracle::calls::Call;
-    use oracle::generate;
+    use oracle::generate::calls::Calls;
     use oracle::random::Random;
+    use oracle::table::RawTable;
     use yeqontur::{Label, Table};
 
     /// The same call on both sides: the same answer, and the same table after it.
@@ -134,8 +143,9 @@ mod tests {
         for round in 0..60 {
             let mut table = Table::new();
             let atoms = [4, 8, 20, 60, 256][round % 5];
+            let mut calls = Calls::on(&RawTable::empty(), atoms, 80);
             for _ in 0..200 {
-                same(&generate::calls::call(&mut random, atoms, 80), &mut table);
+                same(&calls.call(&mut random), &mut table);
             }
         }
     }

@@ -1,7 +1,8 @@
 //! The sheets that are timed. Each is the same in every run and has no more bytes than a program reads.
 
 use oracle::book::Book;
-use oracle::generate::lines::FORMLESS;
+use oracle::generate::again::Named;
+use oracle::generate::lines::{named, FORMLESS};
 use oracle::limits::{ATOMS, SLOTS};
 use oracle::random::Random;
 
@@ -16,18 +17,14 @@ impl Sheet {
     }
 }
 
-/// A sheet under way: its lines, the rules after them, and the line that added each held rule by its slot. Heads are
-/// below `atoms`.
+/// A sheet under way: its lines, the rules after them, and what named each held rule by its slot. Heads are below
+/// `atoms`.
 struct Writer {
     atoms: usize,
     random: Random,
     book: Book,
-    held: Vec<(u32, String)>,
+    held: Vec<(u32, Named)>,
     sheet: Vec<u8>,
-}
-
-fn shown(numbers: &[u32]) -> String {
-    numbers.iter().map(|n| format!(" {n}")).collect()
 }
 
 impl Writer {
@@ -51,7 +48,8 @@ impl Writer {
         self.sheet.push(b'\n');
     }
 
-    /// A rule with up to 3 entries, all below its head, so that it closes no loop. One that is held already is refused.
+    /// A rule with up to 3 entries in any order, all below its head, so that it closes no loop. One that is held
+    /// already is refused.
     fn add(&mut self) {
         let head = self.random.below(self.atoms) as u32;
         let below: Vec<u32> = (head.saturating_sub(30)..head).collect();
@@ -64,14 +62,23 @@ impl Writer {
             entries.len()
         };
         let (positives, negatives) = entries.split_at(cut);
-        let mut line = format!("A {head} :{}", shown(positives));
-        if !negatives.is_empty() {
-            line += &format!(" !{}", shown(negatives));
-        }
-        self.line(line.as_bytes());
+        let rule = Named {
+            head,
+            positives: positives.to_vec(),
+            negatives: negatives.to_vec(),
+        };
+        self.line(named(&rule).as_bytes());
         if let Ok(slot) = self.book.add(head, positives, negatives) {
-            self.held.push((slot, line));
+            self.held.push((slot, rule));
         }
+    }
+
+    /// The line of a held rule, its lists in any order.
+    fn again(&mut self) -> String {
+        let mut rule = self.random.pick(&self.held).1.clone();
+        self.random.shuffle(&mut rule.positives);
+        self.random.shuffle(&mut rule.negatives);
+        named(&rule)
     }
 
     fn remove(&mut self) {
@@ -96,7 +103,7 @@ impl Writer {
             0 => vec![b' '; self.random.below(10)],
             1 => self.random.pick(&FORMLESS).to_vec(),
             2 => vec![b'A'; self.random.between(121, 140)],
-            3 => self.random.pick(&self.held).1.clone().into_bytes(),
+            3 => self.again().into_bytes(),
             _ => format!("R {}", self.random.between(self.held.len(), SLOTS - 1)).into_bytes(),
         };
         self.line(&line);

@@ -8,14 +8,6 @@ use oracle::random::Random;
 use oracle::rules::{Program, Rule};
 use yeqontur::raw::Table;
 
-fn rule(head: u32, positives: &[u32], negatives: &[u32]) -> Rule {
-    Rule {
-        head,
-        positives: positives.to_vec(),
-        negatives: negatives.to_vec(),
-    }
-}
-
 fn program(rules: Vec<Rule>) -> Program {
     let mut slots: Program = rules.into_iter().map(Some).collect();
     slots.resize(SLOTS, None);
@@ -24,8 +16,8 @@ fn program(rules: Vec<Rule>) -> Program {
 
 /// Each atom from the one before; the fact stands in the lowest slot, or in the highest.
 fn chain(length: u32, ascending: bool) -> Program {
-    let mut rules = vec![rule(0, &[], &[])];
-    rules.extend((1..length).map(|a| rule(a, &[a - 1], &[])));
+    let mut rules = vec![Rule::of(0, &[], &[])];
+    rules.extend((1..length).map(|a| Rule::of(a, &[a - 1], &[])));
     if !ascending {
         rules.reverse();
     }
@@ -34,15 +26,19 @@ fn chain(length: u32, ascending: bool) -> Program {
 
 /// Each atom if the one before is not in; the fact stands in the highest slot, so that strata rise against the slots.
 fn negations(length: u32) -> Program {
-    let mut rules = vec![rule(0, &[], &[])];
-    rules.extend((1..length).map(|a| rule(a, &[], &[a - 1])));
+    let mut rules = vec![Rule::of(0, &[], &[])];
+    rules.extend((1..length).map(|a| Rule::of(a, &[], &[a - 1])));
     rules.reverse();
     program(rules)
 }
 
 /// A rule in every slot, all with one head, so that each has to be held against every other to know it is not the same.
 fn one_head() -> Program {
-    program((0..SLOTS as u32).map(|a| rule(255, &[a], &[])).collect())
+    program(
+        (0..SLOTS as u32)
+            .map(|a| Rule::of(255, &[a], &[]))
+            .collect(),
+    )
 }
 
 /// Atom groups of five, each group above the one before by a negation.
@@ -51,8 +47,8 @@ fn strata(count: u32) -> Program {
     for k in 0..count {
         let base = 5 * k;
         let below: Vec<u32> = if k == 0 { vec![] } else { vec![base - 1] };
-        rules.push(rule(base, &[], &below));
-        rules.extend((1..5).map(|i| rule(base + i, &[base + i - 1], &[])));
+        rules.push(Rule::of(base, &[], &below));
+        rules.extend((1..5).map(|i| Rule::of(base + i, &[base + i - 1], &[])));
     }
     program(rules)
 }
@@ -72,7 +68,7 @@ fn random(seed: u64, count: usize, entries: usize) -> Program {
             }
         }
         let cut = random.below(list.len() + 1);
-        let new = rule(head, &list[cut..], &list[..cut]);
+        let new = Rule::of(head, &list[cut..], &list[..cut]);
         if slots.iter().flatten().any(|old| *old == new) {
             continue;
         }

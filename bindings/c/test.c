@@ -24,13 +24,42 @@ static void spoils(yeqontur_table table, uint32_t slot, uint32_t refused, uint32
            "the entry that spoils a rule, its list and its place");
 }
 
-/* A rule that holds 7 in both lists: needed while it is out, and what blocks once it is in. 3 is in. */
+/* A rule that holds 7 in both lists: needed while it is out, and what blocks once it is in. 3 is in. The lists come in
+ * another order than they are kept in, and the places are those of the kept ones. */
 static void sides(yeqontur_table table) {
-    const uint32_t positives[] = {3, 7}, negatives[] = {5, 6, 7};
+    const uint32_t positives[] = {7, 3}, negatives[] = {7, 5, 6};
     table = added(table, 9, positives, 2, negatives, 3, 4);
     spoils(table, 4, 0, 1, 7, 1);
     table = added(table, 7, NULL, 0, NULL, 0, 5);
     spoils(table, 4, 0, 2, 7, 2);
+}
+
+static size_t held(const yeqontur_table *table) {
+    size_t count = 0;
+    for (int slot = 0; slot < YEQONTUR_SLOTS; slot++) {
+        count += table->rules[slot].state;
+    }
+    return count;
+}
+
+/* The same atoms in another order are the same rule, and the slot keeps them ascending. */
+static void orders(void) {
+    const uint32_t given[] = {3, 1, 2}, other[] = {2, 3, 1}, kept[] = {1, 2, 3}, twice[] = {3, 1, 3};
+    const yeqontur_table table = added(yeqontur_empty(), 5, given, 3, NULL, 0, 0);
+    const yeqontur_rule *rule = &table.rules[0];
+    expect(rule->positives == 3 && rule->entries[0] == 1 && rule->entries[1] == 2 && rule->entries[2] == 3,
+           "5 < 3 1 2 is kept as 1 2 3");
+    yeqontur_change change = yeqontur_add(table, 5, other, 3, NULL, 0);
+    expect(change.refused == 5 && held(&change.table) == 1, "the same rule in another order is refused 5");
+    expect(memcmp(&change.table, &table, sizeof table) == 0, "and the table comes back as it was");
+    expect(yeqontur_add(table, 5, twice, 3, NULL, 0).refused == 4, "repeats are asked of the list given");
+    expect(yeqontur_add(table, 5, NULL, 0, kept, 3).refused == 0, "atoms of the other list make another rule");
+    change = yeqontur_add(yeqontur_empty(), 5, kept, 3, NULL, 0);
+    expect(memcmp(&change.table, &table, sizeof table) == 0, "any order of a list makes the same bytes");
+    yeqontur_table swapped = table;
+    swapped.rules[0].entries[1] = 3;
+    swapped.rules[0].entries[2] = 2;
+    expect(yeqontur_label(swapped, 5).refused == 15, "a list that does not ascend is not sound");
 }
 
 int main(void) {
@@ -50,6 +79,7 @@ int main(void) {
     spoils(table, 4, 9, 0, 0, 0);
     spoils(table, 256, 8, 0, 0, 0);
     sides(table);
+    orders();
 
     yeqontur_change change = yeqontur_remove(table, 3);
     expect(change.refused == 0, "an accepted removal");

@@ -1,7 +1,8 @@
-//! Random sequences of all calls, with random buffers and damaged tables.
+//! Random sequences of all calls, with random buffers and damaged tables. Lists come in any order, and rules of the
+//! table again in another one.
 
 use oracle::calls::{Answer, Call, Validity};
-use oracle::generate;
+use oracle::generate::{self, calls::Calls};
 use oracle::labels::Label;
 use oracle::questions::Refusal;
 use oracle::random::Random;
@@ -170,8 +171,9 @@ pub fn compare(seed: u64, count: usize) -> usize {
     while made < count {
         let mut table = start(&mut random);
         let atoms = *random.pick(&[4, 8, 20, 60, 256]);
+        let mut calls = Calls::on(&table, atoms, 2 * atoms);
         for _ in 0..random.between(1, 120).min(count - made) {
-            let call = generate::calls::call(&mut random, atoms, 2 * atoms);
+            let call = calls.call(&mut random);
             made += 1;
             if let Some(difference) = differs(&call, &mut table, &mut random) {
                 if failed < SHOWN {

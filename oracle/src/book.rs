@@ -12,22 +12,42 @@ pub struct Book {
     pages: Program,
 }
 
+/// A head and two lists in any order, as an addition names them.
+struct Named<'a> {
+    head: u32,
+    positives: &'a [u32],
+    negatives: &'a [u32],
+}
+
+impl Named<'_> {
+    fn entries(&self) -> impl Iterator<Item = u32> + '_ {
+        self.positives.iter().chain(self.negatives).copied()
+    }
+
+    /// The rule as a page holds it.
+    fn rule(&self) -> Rule {
+        Rule::of(self.head, self.positives, self.negatives)
+    }
+}
+
 /// A question with its number: the answer "no" refuses.
-type Question = (u32, fn(&Book, &Rule) -> bool);
+type Question = (u32, fn(&Book, &Named) -> bool);
 
 /// What an addition asks, in order.
 const ADDITION: [Question; 7] = [
-    (1, |_, rule| rule.head < ATOMS as u32),
-    (2, |_, rule| rule.entries().count() <= ENTRIES),
-    (3, |_, rule| {
-        rule.entries().all(|entry| entry < ATOMS as u32)
+    (1, |_, named| named.head < ATOMS as u32),
+    (2, |_, named| named.entries().count() <= ENTRIES),
+    (3, |_, named| {
+        named.entries().all(|entry| entry < ATOMS as u32)
     }),
-    (4, |_, rule| {
-        each_once(&rule.positives) && each_once(&rule.negatives)
+    (4, |_, named| {
+        each_once(named.positives) && each_once(named.negatives)
     }),
-    (5, |book, rule| !book.pages.contains(&Some(rule.clone()))),
+    (5, |book, named| !book.pages.contains(&Some(named.rule()))),
     (6, |book, _| book.pages.contains(&None)),
-    (7, |book, rule| !has_loop_through_negation(&book.with(rule))),
+    (7, |book, named| {
+        !has_loop_through_negation(&book.with(named.rule()))
+    }),
 ];
 
 fn each_once(list: &[u32]) -> bool {
@@ -50,25 +70,25 @@ impl Book {
     }
 
     /// The pages and the rule besides, wherever it would go.
-    fn with(&self, rule: &Rule) -> Program {
+    fn with(&self, rule: Rule) -> Program {
         let mut pages = self.pages.clone();
-        pages.push(Some(rule.clone()));
+        pages.push(Some(rule));
         pages
     }
 
     /// Puts the rule on the lowest free page and answers the page's number, or answers the
     /// number of the first "no" and stays.
     pub fn add(&mut self, head: u32, positives: &[u32], negatives: &[u32]) -> Result<u32, u32> {
-        let rule = Rule {
+        let named = Named {
             head,
-            positives: positives.to_vec(),
-            negatives: negatives.to_vec(),
+            positives,
+            negatives,
         };
-        if let Some((number, _)) = ADDITION.iter().find(|(_, passes)| !passes(self, &rule)) {
+        if let Some((number, _)) = ADDITION.iter().find(|(_, passes)| !passes(self, &named)) {
             return Err(*number);
         }
         let page = self.pages.iter().take_while(|page| page.is_some()).count();
-        self.pages[page] = Some(rule);
+        self.pages[page] = Some(named.rule());
         Ok(page as u32)
     }
 

@@ -49,7 +49,8 @@ fn lend(list: &[u32], buffer: &mut [u32]) -> Result<u32, Refusal> {
     Ok(count)
 }
 
-/// Adds the rule in the lowest free slot and answers that slot.
+/// Adds the rule of these lists, in whatever order they come, in the lowest free slot and
+/// answers that slot.
 pub fn add(
     table: &mut RawTable,
     head: u32,

@@ -3,11 +3,12 @@
 use crate::atoms::AtomSet;
 use crate::limits::ATOMS;
 use crate::rules::{held, Rule};
+use std::collections::BTreeSet;
 
 /// What the search has learnt so far about the derivations of each atom.
 struct Search<'a> {
     /// The positive lists of the valid rules with that head.
-    bodies: &'a [Vec<&'a [u32]>],
+    bodies: &'a [Vec<&'a BTreeSet<u32>>],
     /// A number of levels that is known to be enough.
     enough: Vec<Option<u32>>,
     /// A number of levels that is known to be too few.
@@ -25,7 +26,7 @@ impl<'a> Search<'a> {
         if self.enough[place].is_some_and(|known| known <= levels) {
             return true;
         }
-        let bodies: &'a [Vec<&'a [u32]>] = self.bodies;
+        let bodies = self.bodies;
         let found = bodies[place].iter().any(|positives| {
             positives
                 .iter()
@@ -48,7 +49,7 @@ impl<'a> Search<'a> {
 
 /// The depth of each atom of M, by atom number; `None` for the others.
 pub fn depths(program: &[Option<Rule>], m: &AtomSet) -> Vec<Option<u32>> {
-    let mut bodies: Vec<Vec<&[u32]>> = vec![Vec::new(); ATOMS];
+    let mut bodies: Vec<Vec<&BTreeSet<u32>>> = vec![Vec::new(); ATOMS];
     for (_, rule) in held(program).filter(|(_, rule)| rule.valid_in(m)) {
         bodies[rule.head as usize].push(&rule.positives);
     }

@@ -42,7 +42,8 @@ impl Refusal {
     }
 }
 
-/// Questions 1 to 4 of a head and two lists: the rule they make, or the first refusal.
+/// Questions 1 to 4 of a head and two lists in any order: the rule they make, or the first
+/// refusal.
 pub fn rule_from(head: u32, positives: &[u32], negatives: &[u32]) -> Result<Rule, Refusal> {
     let too_large = |atom: u32| atom as usize >= ATOMS;
     if too_large(head) {
@@ -61,11 +62,7 @@ pub fn rule_from(head: u32, positives: &[u32], negatives: &[u32]) -> Result<Rule
     if has_repeat(positives) || has_repeat(negatives) {
         return Err(Refusal::RepeatedAtom);
     }
-    Ok(Rule {
-        head,
-        positives: positives.to_vec(),
-        negatives: negatives.to_vec(),
-    })
+    Ok(Rule::of(head, positives, negatives))
 }
 
 fn has_repeat(list: &[u32]) -> bool {

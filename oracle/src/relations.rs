@@ -5,6 +5,7 @@ use crate::atoms::AtomSet;
 use crate::labels::{Label, Labelled};
 use crate::limits::ATOMS;
 use crate::rules::{held, Rule};
+use std::collections::BTreeSet;
 
 /// The list that an entry stands in.
 #[derive(Clone, Copy, PartialEq, Eq, Debug)]
@@ -13,7 +14,8 @@ pub enum Side {
     Negative,
 }
 
-/// The entry that spoils a rule: its atom, its list, and its place in that list, from 0.
+/// The entry that spoils a rule: its atom, its list, and its place in that list as it is kept,
+/// from 0.
 #[derive(Clone, Copy, PartialEq, Eq, Debug)]
 pub struct Spoiler {
     pub side: Side,
@@ -21,8 +23,8 @@ pub struct Spoiler {
     pub atom: u32,
 }
 
-/// The first spoiling entry, the positive list read first: a positive entry spoils if it is
-/// not in, a negative one if it is. `None` for a valid rule.
+/// The first spoiling entry, the positive list read first and each list as it is kept: a
+/// positive entry spoils if it is not in, a negative one if it is. `None` for a valid rule.
 pub fn spoiler(labelled: &Labelled, rule: &Rule) -> Option<Spoiler> {
     first(Side::Positive, &rule.positives, |atom| {
         !labelled.is_in(atom)
@@ -31,7 +33,7 @@ pub fn spoiler(labelled: &Labelled, rule: &Rule) -> Option<Spoiler> {
 }
 
 /// The first entry of a list that spoils.
-fn first(side: Side, list: &[u32], spoils: impl Fn(u32) -> bool) -> Option<Spoiler> {
+fn first(side: Side, list: &BTreeSet<u32>, spoils: impl Fn(u32) -> bool) -> Option<Spoiler> {
     let (place, &atom) = (0..).zip(list).find(|&(_, &atom)| spoils(atom))?;
     Some(Spoiler { side, place, atom })
 }

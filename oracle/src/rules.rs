@@ -1,17 +1,28 @@
 //! Rules, and programs: which rule each slot holds.
 
 use crate::atoms::AtomSet;
+use std::collections::BTreeSet;
 
-/// A rule with its lists in the order given. Two rules are the same if they are equal.
+/// A head and two sets of atoms: two rules are the same if heads are equal and each list holds
+/// the same atoms. A set is read ascending, and that is the order in which a list is kept.
 #[derive(Clone, PartialEq, Eq, Hash, Debug)]
 pub struct Rule {
     pub head: u32,
-    pub positives: Vec<u32>,
-    pub negatives: Vec<u32>,
+    pub positives: BTreeSet<u32>,
+    pub negatives: BTreeSet<u32>,
 }
 
 impl Rule {
-    /// The entries, the positive list read first.
+    /// The rule of a head and two lists in any order.
+    pub fn of(head: u32, positives: &[u32], negatives: &[u32]) -> Rule {
+        Rule {
+            head,
+            positives: positives.iter().copied().collect(),
+            negatives: negatives.iter().copied().collect(),
+        }
+    }
+
+    /// The entries as they are kept, the positive list read first.
     pub fn entries(&self) -> impl Iterator<Item = u32> + '_ {
         self.positives.iter().chain(&self.negatives).copied()
     }

@@ -12,7 +12,8 @@ use std::collections::HashSet;
 struct Wrong;
 
 /// What a slot holds: `Ok(None)` for a free one that stands as in the empty table, `Ok` with
-/// the rule for a held one that passes 1 to 4 with its filler as in the empty table.
+/// the rule for a held one that passes 1 to 4 with its lists ascending and its filler as in the
+/// empty table.
 fn slot_content(raw: &RawRule) -> Result<Option<Rule>, Wrong> {
     match raw.state {
         FREE if *raw == RawRule::EMPTY => Ok(None),
@@ -22,8 +23,7 @@ fn slot_content(raw: &RawRule) -> Result<Option<Rule>, Wrong> {
 }
 
 fn held_rule(raw: &RawRule) -> Option<Rule> {
-    let positives = raw.positives as usize;
-    let used = positives + raw.negatives as usize;
+    let used = raw.positives as usize + raw.negatives as usize;
     if used > ENTRIES {
         return None;
     }
@@ -32,12 +32,10 @@ fn held_rule(raw: &RawRule) -> Option<Rule> {
         return None;
     }
     let entries: Vec<u32> = listed.iter().map(|&entry| entry.into()).collect();
-    rule_from(
-        raw.head.into(),
-        &entries[..positives],
-        &entries[positives..],
-    )
-    .ok()
+    let (positives, negatives) = entries.split_at(raw.positives.into());
+    let rule = rule_from(raw.head.into(), positives, negatives).ok()?;
+    let ascending = rule.positives.iter().eq(positives) && rule.negatives.iter().eq(negatives);
+    ascending.then_some(rule)
 }
 
 fn no_two_same(program: &[Option<Rule>]) -> bool {
@@ -46,7 +44,8 @@ fn no_two_same(program: &[Option<Rule>]) -> bool {
 }
 
 /// The program that the table holds, if all that soundness asks of the rules is so: each
-/// passes 1 to 4, no two are the same, and there is no loop through a negation.
+/// passes 1 to 4 and has ascending lists, no two are the same, and there is no loop through a
+/// negation.
 pub fn sound_rules(table: &RawTable) -> Option<Program> {
     let slots: Result<Program, Wrong> = table.rules.iter().map(slot_content).collect();
     let program = slots.ok()?;

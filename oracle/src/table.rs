@@ -17,7 +17,8 @@ pub struct RawRule {
     pub head: u16,
     pub positives: u8,
     pub negatives: u8,
-    /// The positive entries, then the negative ones, then zeros.
+    /// The positive entries, then the negative ones, then zeros. In a sound table each list
+    /// ascends.
     pub entries: [u16; ENTRIES],
 }
 
@@ -47,7 +48,7 @@ impl RawRule {
     };
 
     /// A slot that holds the rule, which must pass questions 1 to 3.
-    fn holding(rule: &Rule) -> RawRule {
+    pub fn holding(rule: &Rule) -> RawRule {
         let mut entries = [0; ENTRIES];
         for (place, entry) in entries.iter_mut().zip(rule.entries()) {
             *place = entry as u16;

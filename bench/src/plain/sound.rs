@@ -4,13 +4,11 @@ use super::labels::{occurring, strata};
 use super::{has, negatives, number, positives, valid, Flags, Numbers};
 use yeqontur::raw::{Label, Rule, Table, ATOMS, ENTRIES, SLOTS};
 
-pub fn distinct<T: PartialEq>(list: &[T]) -> bool {
-    list.iter()
-        .enumerate()
-        .all(|(i, x)| !list[i + 1..].contains(x))
+fn ascends(list: &[u16]) -> bool {
+    list.windows(2).all(|pair| pair[0] < pair[1])
 }
 
-/// Clean, and questions 1 to 4 where the slot holds a rule.
+/// Clean, and where the slot holds a rule, questions 1 to 4 and ascending lists. A list that ascends has no repeat.
 fn well_formed(rule: &Rule) -> bool {
     let end = rule.positives as usize + rule.negatives as usize;
     if rule.state > 1 || end > ENTRIES || rule.entries[end..].iter().any(|&x| x != 0) {
@@ -21,15 +19,16 @@ fn well_formed(rule: &Rule) -> bool {
     }
     (rule.head as usize) < ATOMS
         && rule.entries[..end].iter().all(|&x| (x as usize) < ATOMS)
-        && distinct(positives(rule))
-        && distinct(negatives(rule))
+        && ascends(positives(rule))
+        && ascends(negatives(rule))
 }
 
-pub fn same(a: &Rule, b: &Rule) -> bool {
+/// Entry for entry: rules with ascending lists are the same exactly if they are equal.
+pub fn equal(a: &Rule, b: &Rule) -> bool {
     a.head == b.head && positives(a) == positives(b) && negatives(a) == negatives(b)
 }
 
-/// A number that rules which are the same share.
+/// A number that equal rules share.
 fn key(rule: &Rule) -> usize {
     let entries = positives(rule).iter().chain(negatives(rule));
     let sum = entries.fold(rule.head as usize, |k, &x| (8121 * k + x as usize) % 65536);
@@ -37,7 +36,7 @@ fn key(rule: &Rule) -> usize {
 }
 
 /// Only rules of one key are compared: they are linked by the slot before.
-fn no_two_same(rules: &[Rule; SLOTS]) -> bool {
+fn no_two_equal(rules: &[Rule; SLOTS]) -> bool {
     let mut last = [0; 256];
     let mut before = [0; SLOTS];
     for (i, rule) in rules.iter().enumerate().filter(|(_, rule)| rule.state != 0) {
@@ -45,7 +44,7 @@ fn no_two_same(rules: &[Rule; SLOTS]) -> bool {
         let start = last[key];
         let mut k = start;
         while k > 0 {
-            if same(rule, &rules[k - 1]) {
+            if equal(rule, &rules[k - 1]) {
                 return false;
             }
             k = before[k - 1];
@@ -89,7 +88,7 @@ pub fn sound(table: &Table) -> bool {
     let clean = |l: &Label| l.state == 2 || (l.state < 2 && l.depth == 0 && l.slot == 0);
     table.rules.iter().all(well_formed)
         && table.labels.iter().all(clean)
-        && no_two_same(&table.rules)
+        && no_two_equal(&table.rules)
         && certified(table)
         && occurring(&table.rules)
             .iter()

@@ -10,7 +10,8 @@ pub const SLOTS: usize = 256;
 pub const ATOMS: usize = 256;
 pub const ENTRIES: usize = 8;
 
-/// A slot: free (state 0) or with one rule (state 1); positives first among the entries.
+/// A slot: free (state 0) or with one rule (state 1); positives first among the entries. In a sound table each list
+/// ascends.
 #[repr(C)]
 #[derive(Clone, Copy, PartialEq, Eq, Hash, Debug)]
 pub struct Rule {
@@ -74,7 +75,7 @@ pub struct LabelAnswer {
 }
 
 /// `spoiled` is 0 for a valid rule, 1 if it needs `atom` and 2 if it is blocked by `atom`; `place` is that of the entry
-/// in the positive (1) or the negative list (2), from 0.
+/// in the positive (1) or the negative list (2), as the slot keeps it, from 0.
 #[repr(C)]
 #[derive(Clone, Copy, PartialEq, Eq, Debug)]
 pub struct SpoilerAnswer {

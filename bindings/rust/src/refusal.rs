@@ -9,6 +9,7 @@ pub enum Refusal {
     TooManyEntries,
     EntryTooLarge,
     RepeatedEntry,
+    /// A rule with this head has the same atoms in each list, in whatever order.
     SameRule,
     TableFull,
     NegativeCycle,
@@ -20,6 +21,7 @@ pub enum Refusal {
         needed: usize,
     },
     AtomNotIn,
+    /// Also of a table in which a rule's list does not ascend.
     TableUnsound,
 }
 
@@ -133,7 +135,7 @@ impl Refusal {
             Refusal::TableUnsound => (
                 15,
                 "the table handed in is not sound",
-                "start from the empty table and add the rules again: these bytes were changed",
+                "start from the empty table and add the rules again: this library does not write such bytes",
             ),
         }
     }

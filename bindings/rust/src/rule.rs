@@ -4,11 +4,16 @@ use crate::{raw, Refusal, Table};
 use std::fmt;
 
 /// A rule that the table holds: its head is in if every positive entry is in and no negative entry is.
+///
+/// Each list ascends, in whatever order the addition named it. So two rules are the same exactly if their heads and their
+/// lists are equal; `==` compares the slots too. Sort lists of your own before you compare them with these.
 #[derive(Clone, PartialEq, Eq, Debug)]
 pub struct Rule {
     pub slot: u32,
     pub head: u32,
+    /// Ascending.
     pub positives: Vec<u32>,
+    /// Ascending.
     pub negatives: Vec<u32>,
 }
 
@@ -21,7 +26,8 @@ pub enum Side {
     Negative,
 }
 
-/// Whether a rule is valid, or the first entry that spoils it: its list, its place in that list, from 0, and its atom.
+/// Whether a rule is valid, or the first entry that spoils it: its list, its place in that list as the table keeps it,
+/// from 0, and its atom.
 #[derive(Clone, Copy, PartialEq, Eq, Debug)]
 pub enum Validity {
     Valid,

@@ -44,6 +44,18 @@ impl Table {
 
     /// Adds the rule that the head is in if every positive atom is in and no negative one is; with both lists empty, a
     /// fact. Answers its slot, the lowest that was free. A refused call leaves the table as it was.
+    ///
+    /// The lists may come in any order, and the table keeps each ascending: a rule with the same head and the same
+    /// atoms in each list is the same rule, and refused (5).
+    ///
+    /// ```
+    /// # use yeqontur::{Refusal, Table};
+    /// let mut table = Table::new();
+    /// assert_eq!(table.add(5, &[3, 1, 2], &[]), Ok(0));
+    /// assert_eq!(table.add(5, &[2, 3, 1], &[]), Err(Refusal::SameRule));
+    /// assert_eq!(table.rule(0)?.positives, [1, 2, 3]);
+    /// # Ok::<(), Refusal>(())
+    /// ```
     pub fn add(&mut self, head: u32, positives: &[u32], negatives: &[u32]) -> Result<u32, Refusal> {
         let change = raw::add(&self.0, head, positives, negatives);
         self.0 = change.table;
@@ -64,7 +76,8 @@ impl Table {
         answered(told.refused, 0, label)
     }
 
-    /// Whether the rule in the slot is valid, or the first entry that stops it, the positive list read first.
+    /// Whether the rule in the slot is valid, or the first entry that stops it, the positive list read first and each
+    /// list ascending.
     pub fn spoiler(&self, slot: u32) -> Result<Validity, Refusal> {
         let told = raw::spoiler(&self.0, slot);
         let validity = Validity::from_numbers(told.spoiled, told.place, told.atom);

@@ -16,7 +16,7 @@ pub struct Why {
 pub enum Because {
     /// The atom stands in no rule.
     Absent,
-    /// In, by its supporting rule: a reason for each positive entry, in the rule's order. No negative entry is in.
+    /// In, by its supporting rule: a reason for each positive entry, ascending. No negative entry is in.
     Supported { rule: Rule, from: Vec<Why> },
     /// Out, since each of its rules is stopped. An atom that is the head of no rule has none to show.
     Stopped(Vec<Stopped>),
@@ -32,7 +32,7 @@ pub struct Stopped {
     pub rule: Rule,
     /// The entry's list: the rule needs a positive entry, and is blocked by a negative one.
     pub side: Side,
-    /// The entry's place in that list, from 0.
+    /// The entry's place in that list, which ascends, from 0.
     pub place: u32,
     /// The entry's atom, with its own reason.
     pub by: Why,

@@ -37,16 +37,30 @@ fn positives_are_read_first() {
 }
 
 #[test]
+fn first_and_place_follow_the_kept_order_not_the_order_given() {
+    let mut t = table(&[(1, &[], &[]), (9, &[7, 1, 4], &[]), (8, &[], &[6, 1, 0])]);
+    assert_eq!(t.spoiler(1), needs(4, 1));
+    assert_eq!(t.spoiler(2), blocked_by(1, 1));
+    assert_eq!(t.add(6, &[], &[]), Ok(3));
+    assert_eq!(t.spoiler(2), blocked_by(1, 1));
+    assert_eq!(t.remove(0), Ok(()));
+    assert_eq!(t.spoiler(1), needs(1, 0));
+    assert_eq!(t.spoiler(2), blocked_by(6, 2));
+}
+
+/// The list is named in an order that is not the kept one.
+#[test]
 fn every_place_of_either_list() {
     let atoms: Vec<u32> = (1..9).collect();
+    let given = [4, 8, 1, 5, 2, 7, 3, 6];
     for place in 0..8 {
-        let mut t = table(&[(0, &atoms, &[])]);
+        let mut t = table(&[(0, &given, &[])]);
         for &atom in &atoms[..place] {
             assert!(t.add(atom, &[], &[]).is_ok());
         }
         let stopper = atoms[place];
         assert_eq!(t.spoiler(0), needs(stopper, place as u32));
-        let mut t = table(&[(0, &[], &atoms)]);
+        let mut t = table(&[(0, &[], &given)]);
         assert_eq!(t.add(stopper, &[], &[]), Ok(1));
         assert_eq!(t.spoiler(0), blocked_by(stopper, place as u32));
     }

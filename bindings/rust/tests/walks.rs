@@ -24,7 +24,7 @@ fn labels_of_the_atoms_that_occur_ascending() {
 }
 
 #[test]
-fn rules_by_slot_without_the_free_ones() {
+fn rules_by_slot_without_the_free_ones_each_list_ascending() {
     let mut t = table(&[(9, &[2, 1], &[7]), (2, &[], &[]), (255, &[], &[9, 3])]);
     assert_eq!(t.remove(1), Ok(()));
     let rule = |slot, head, positives: &[u32], negatives: &[u32]| Rule {
@@ -36,10 +36,10 @@ fn rules_by_slot_without_the_free_ones() {
     let rules: Vec<Rule> = t.rules().collect();
     assert_eq!(
         rules,
-        [rule(0, 9, &[2, 1], &[7]), rule(2, 255, &[], &[9, 3])]
+        [rule(0, 9, &[1, 2], &[7]), rule(2, 255, &[], &[3, 9])]
     );
     let written: Vec<String> = rules.iter().map(Rule::to_string).collect();
-    assert_eq!(written, ["9 < 2, 1, not 7", "255 < not 9, not 3"]);
+    assert_eq!(written, ["9 < 1, 2, not 7", "255 < not 3, not 9"]);
 }
 
 #[test]

@@ -101,7 +101,7 @@ fn a_reason_with_branches_is_told_once() {
         (2, &[1, 0], &[]),
         (3, &[2, 1, 0], &[]),
     ]);
-    let tree = "3 in 4 by 3 (2 in 3 by 2 (1 in 2 by 1 (0 in 1 by 0); 0 in 1 by 0); 1 in 2 by 1 (earlier); 0 in 1 by 0)";
+    let tree = "3 in 4 by 3 (0 in 1 by 0; 1 in 2 by 1 (0 in 1 by 0); 2 in 3 by 2 (0 in 1 by 0; 1 in 2 by 1 (earlier)))";
     shows(&t, 3, tree);
 }
 

@@ -83,7 +83,8 @@ add-determined t r x y u v (contract.accepted s w S d l Z h U) (contract.refused
 add-determined t r x y u v (contract.accepted s w S d l Z h U) (contract.accepted q z T e k Y i W) =
     let same : s .0 ≡ q .0 = Option·some-injective _ _ (sym l ∙ k) in
     let slot : s ≡ q = λ i. record { 0 = same i } in
-    (ap added.Taken slot, table-unique w z Z Y U W (h ∙ ap (λ (n : ℕ). set (held t) n (some r)) same ∙ sym i))
+    let rules = h ∙ ap (λ (n : ℕ). set (held t) n (some (theory.kept r))) same ∙ sym i in
+    (ap added.Taken slot, table-unique w z Z Y U W rules)
 
 pub remove-determined :
     (t : Table) (s : ℕ) (x y : RemoveAnswer) (u v : Table) → RemoveEnds t s x u → RemoveEnds t s y v

@@ -6,7 +6,7 @@ use mathlib.Core.List.{List, _++_}
 use mathlib.Core.Option.{none, some}
 use lib.ListN.{length, getD, drop, set}
 use Rattle.theory.specs.Lists.{Lists}
-use Rattle.theory.specs.Rules.{Program, Held}
+use Rattle.theory.specs.Rules.{Program, Held, kept}
 use Rattle.theory.specs.Rules as theory
 use Rattle.theory.specs.Models.{AtomSet, Admissible}
 use Rattle.theory.specs.Labels.{Labelled, spoiler}
@@ -44,7 +44,8 @@ pub record Sized (t : Table) : Type 0 where
   pub atoms : length (t .labels) ≡ document .atoms
   pub entries : (s : ℕ) → s < document .slots → length (getD (t .rules) s pastRule .entries) ≡ document .entries
 
--- Add: 15, 1, 2, 3, 4, 5, 6, 7. Takes the lowest free slot; every other slot keeps its rule.
+-- Add: 15, 1, 2, 3, 4, 5, 6, 7. Takes the lowest free slot, where the rule is kept with ascending lists; every other
+-- slot keeps its rule.
 pub data AddEnds (t : Table) (r : theory.Rule) : AddAnswer → Table → Type 0 where
   unsound : (Sound t → ⊥) → AddEnds t r (added.Refused Unsound) t
   refused :
@@ -52,7 +53,7 @@ pub data AddEnds (t : Table) (r : theory.Rule) : AddAnswer → Table → Type 0 
       → AddEnds t r (added.Refused f) t
   accepted :
       (s : Slot) (u : Table) → Sound t → first-no (add-questions document (held t) r) ≡ none
-      → lowest-free (held t) ≡ some (s .0) → Sized u → held u ≡ set (held t) (s .0) (some r) → Sound u
+      → lowest-free (held t) ≡ some (s .0) → Sized u → held u ≡ set (held t) (s .0) (some (kept r)) → Sound u
       → AddEnds t r (added.Taken s) u
 
 -- Remove: 15, 8, 9. That slot becomes free; every other keeps its rule.

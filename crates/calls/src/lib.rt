@@ -57,7 +57,7 @@ pub enum LabelAnswer {
     Refused(Refusal),
 }
 
-// The entry that spoils a rule: its place in the positive or the negative list, from 0, and the atom.
+// The entry that spoils a rule: its place in the positive or the negative list, which ascend, from 0, and the atom.
 pub enum SpoilerAnswer {
     Valid,
     Positive(u8, Atom),

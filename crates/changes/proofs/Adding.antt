@@ -2,21 +2,22 @@
 use Prim.Native.Nat.{ℕ, _≤_, _<_}
 use native.Mathlib.Omega.{arith}
 use mathlib.Core.Path.{_≡_, refl, sym, _∙_, ap, subst}
-use mathlib.Core.Logic.{⊎-elim}
+use mathlib.Core.Logic.{⊎-elim, _↔_}
 use mathlib.Core.Bool.{Bool, true, false, not, _&&_}
 use mathlib.Core.List.{List, [], _∷_, _++_}
 use mathlib.Core.Option.{Option, none, some, Option·none-ne-some, Option·some-injective}
 use lib.Dec.{leb, ltb}
 use lib.ListN.{length, set}
 use Rattle.theory.specs.Lists.{every}
-use Rattle.theory.specs.Rules.{Program, Held, Bounded, any-rule, same}
+use Rattle.theory.specs.Rules.{Program, Held, Ascending, Bounded, any-rule, same, kept}
 use Rattle.theory.specs.Rules as theory
 use Rattle.theory.specs.Dependencies.{NegativeCycle}
 use Rattle.theory.specs.Questions.{Question, asks, first-no, rule-questions, add-questions}
 use Rattle.theory.specs.Questions.{lowest-free, is-some, put-in, stratified}
 use Rattle.theory.specs.Limits.{document}
-use Rattle.theory.proofs.Lists.{clash, test, and-l, and-r, every-at, leb-le, ltb-lt}
-use Rattle.theory.proofs.Rules.{any-rule-of, same-refl}
+use Rattle.theory.proofs.Lists.{clash, test, same-test, and-l, and-r, every-at, leb-le, ltb-lt}
+use Rattle.theory.proofs.Rules.{any-rule-of}
+use Rattle.theory.proofs.Sameness.{same-kept, same-held, kept-passes, kept-ascending}
 use Rattle.theory.proofs.Cycles.{cycle-found, stratified-iff}
 use Rattle.theory.proofs.Questions.{first-no-yes, first-no-here, first-no-take, first-no-asked}
 use Rattle.table.specs.declared.Rule.{Rule}
@@ -47,12 +48,18 @@ first-no-before (x ∷ xs) ys k e = ⊎-elim
     (λ (t : x .yes? ≡ false). first-no-here x (xs ++ ys) t ∙ sym (first-no-here x xs t) ∙ e)
     (test (x .yes?))
 
--- A test for the same rule as in a slot that was made for q.
+-- Whether a sound table holds the rule of a slot made for q tells whether it holds the same rule as q.
 pub same-told :
-    (q : theory.Rule) (r : Rule) → SlotWith q r → (P : Program) (b v : Bool) → b ≡ any-rule (same (ruleOf r)) P → b ≡ v
-    → any-rule (same q) P ≡ v
-same-told q r R P b v e u =
-    ap (λ (z : theory.Rule). any-rule (same z) P) (sym (slot-rule r q (R .held))) ∙ sym e ∙ u
+    (t : Table) → Sound t → (q : theory.Rule) → first-no (rule-questions document q) ≡ none → (r : Rule)
+    → SlotWith (kept q) r → (b v : Bool) → (b ≡ true) ↔ ((s : ℕ) × Held (held t) s (ruleOf r)) → b ≡ v
+    → any-rule (same q) (held t) ≡ v
+same-told t S q pass r R b v e u =
+    let one : ruleOf r ≡ kept q = slot-rule r (kept q) (R .held) in
+    let told = same-held document (held t) q (S .labels .ascending) pass in
+    same-test (any-rule (same q) (held t)) b
+    (λ y. (let w = told .0 y in e .1 (w .0, subst (Held (held t) (w .0)) (sym one) (w .1))))
+    (λ y. (let w = e .0 y in told .1 (w .0, subst (Held (held t) (w .0)) one (w .1))))
+    ∙ u
 
 -- A refusal that hands the table back as it came.
 pub handed-back :
@@ -88,7 +95,7 @@ module _ (t : Table) (S : Sound t) (q : theory.Rule) where
         ≡ first-no
         (asks 5 (not (any-rule (same q) (held t)))
         ∷ asks 6 (is-some (lowest-free (held t)))
-        ∷ asks 7 (stratified (put-in (held t) (lowest-free (held t)) q))
+        ∷ asks 7 (stratified (put-in (held t) (lowest-free (held t)) (kept q)))
         ∷ [])
     four = first-no-take 4 (add-questions document (held t) q) pass
 
@@ -99,7 +106,7 @@ module _ (t : Table) (S : Sound t) (q : theory.Rule) where
       five : first-no (add-questions document (held t) q)
           ≡ first-no
           (asks 6 (is-some (lowest-free (held t)))
-          ∷ asks 7 (stratified (put-in (held t) (lowest-free (held t)) q))
+          ∷ asks 7 (stratified (put-in (held t) (lowest-free (held t)) (kept q)))
           ∷ [])
       five = four ∙ first-no-yes _ _ (ap not other)
 
@@ -108,29 +115,34 @@ module _ (t : Table) (S : Sound t) (q : theory.Rule) where
 
       -- the rule is put into the lowest free slot
       module _
-          (s : ℕ) (inside : s < document .slots) (low : lowest-free (held t) ≡ some s) (r : Rule) (R : SlotWith q r)
+          (s : ℕ) (inside : s < document .slots) (low : lowest-free (held t) ≡ some s) (r : Rule)
+          (R : SlotWith (kept q) r)
         where
           six : first-no (add-questions document (held t) q)
-              ≡ first-no (asks 7 (stratified (set (held t) s (some q))) ∷ [])
+              ≡ first-no (asks 7 (stratified (set (held t) s (some (kept q)))) ∷ [])
           six =
               five ∙ first-no-yes _ _ (ap is-some low)
-              ∙ ap (λ (o : Option ℕ). first-no (asks 7 (stratified (put-in (held t) o q)) ∷ [])) low
+              ∙ ap (λ (o : Option ℕ). first-no (asks 7 (stratified (put-in (held t) o (kept q))) ∷ [])) low
 
-          program-put : programOf (set (t .rules) s r) ≡ set (held t) s (some q)
+          program-put : programOf (set (t .rules) s r) ≡ set (held t) s (some (kept q))
           program-put = program-after t S s inside r ∙ ap (set (held t) s) (R .held)
 
-          one : (p : theory.Rule) → slotOf r ≡ some p → q ≡ p
-          one p h = Option·some-injective q p (sym (R .held) ∙ h)
+          one : (p : theory.Rule) → slotOf r ≡ some p → kept q ≡ p
+          one p h = Option·some-injective (kept q) p (sym (R .held) ∙ h)
 
           passes : (p : theory.Rule) → slotOf r ≡ some p → first-no (rule-questions document p) ≡ none
-          passes p h = subst (λ (z : theory.Rule). first-no (rule-questions document z) ≡ none) (one p h) pass
+          passes p h = subst (λ (z : theory.Rule). first-no (rule-questions document z) ≡ none) (one p h)
+              (kept-passes document q pass)
+
+          ascending : (p : theory.Rule) → slotOf r ≡ some p → Ascending p
+          ascending p h = subst Ascending (one p h) (kept-ascending document q pass)
 
           fresh : (k : ℕ) (p : theory.Rule) → slotOf r ≡ some p → Held (held t) k p → ⊥
           fresh k p h i =
-              clash (any-rule-of (same q) (held t) k p i (ap (same q) (sym (one p h)) ∙ same-refl q)) other
+              clash (any-rule-of (same q) (held t) k p i (ap (same q) (sym (one p h)) ∙ same-kept q)) other
 
           bounded-put : Bounded (programOf (set (t .rules) s r)) (document .atoms)
-          bounded-put = bounded-after t S s inside r (R .clean) passes fresh
+          bounded-put = bounded-after t S s inside r (R .clean) passes ascending fresh
 
           module _ (l : Labelling) (L : LabellingOf (programOf (set (t .rules) s r)) l) where
             refused-cyclic : l .acyclic ≡ false → AddEnds t q (added.Refused refusal.NegativeCycle) t
@@ -149,7 +161,7 @@ module _ (t : Table) (S : Sound t) (q : theory.Rule) where
                 (six ∙ first-no-yes _ _ (stratified-iff _ .1 (λ c. w .0 (subst NegativeCycle (sym program-put) c)))
                 ∙ (unfold first-no in refl))
                 low (sized-after t S s inside r Z n (l .labels) m) program-put
-                (sound-after t S s inside r (R .clean) passes fresh (l .labels) (w .0) (w .1 .0) (w .1 .1))
+                (sound-after t S s inside r (R .clean) passes ascending fresh (l .labels) (w .0) (w .1 .0) (w .1 .1))
 
           -- the slots with that rule
           module _ (changed : List Rule) (put : changed ≡ set (t .rules) s r) where

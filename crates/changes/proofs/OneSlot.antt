@@ -9,14 +9,14 @@ use mathlib.Core.Option.{none, some}
 use lib.Dec.{eqb}
 use lib.ListN.{length, getD, set, length-set}
 use lib.Seq.{getD-set-same, getD-set-other}
-use Rattle.theory.specs.Rules.{Program, Held, Bounded, same}
+use Rattle.theory.specs.Rules.{Program, Held, Ascending, Bounded, same}
 use Rattle.theory.specs.Rules as theory
 use Rattle.theory.specs.Models.{AtomSet}
 use Rattle.theory.specs.Dependencies.{DependencyPath, Depends, here, positive, negative, NegativeCycle}
 use Rattle.theory.specs.Questions.{first-no, rule-questions}
 use Rattle.theory.specs.Limits.{document}
 use Rattle.theory.proofs.Lists.{test, clash, eqb-eq, eqb-of}
-use Rattle.theory.proofs.Rules.{same-eq}
+use Rattle.theory.proofs.Sameness.{ascending-same}
 use Rattle.theory.proofs.Questions.{other-set}
 use Rattle.table.specs.declared.Rule.{Rule}
 use Rattle.table.specs.declared.Label.{Label}
@@ -77,14 +77,19 @@ module _ (t : Table) (S : Sound t) (s : ℕ) (inside : s < document .slots) (r :
       now-held : Held (set (held t) s (slotOf r)) k q
       now-held = subst (λ (P : Program). Held P k q) program-after h
 
-  -- What is put is clean, passes questions 1 to 4 and is not held already, if it is a rule at all.
+  -- What is put is clean, passes questions 1 to 4, has ascending lists and is not held already, if it is a rule at all.
   module _ (clean : CleanRule r)
       (passes : (q : theory.Rule) → slotOf r ≡ some q → first-no (rule-questions document q) ≡ none)
+      (ascending : (q : theory.Rule) → slotOf r ≡ some q → Ascending q)
       (fresh : (k : ℕ) (q : theory.Rule) → slotOf r ≡ some q → Held (held t) k q → ⊥) where
     passes-after :
         (k : ℕ) (q : theory.Rule) → Held (programOf after) k q → first-no (rule-questions document q) ≡ none
     passes-after k q h =
         ⊎-elim (λ w. passes q (w .1)) (λ w. S .labels .passes k q (w .1)) (held-after k q h)
+
+    ascending-after : (k : ℕ) (q : theory.Rule) → Held (programOf after) k q → Ascending q
+    ascending-after k q h =
+        ⊎-elim (λ w. ascending q (w .1)) (λ w. S .labels .ascending k q (w .1)) (held-after k q h)
 
     pub bounded-after : Bounded (programOf after) (document .atoms)
     bounded-after = bounded-of document (programOf after) passes-after
@@ -93,7 +98,7 @@ module _ (t : Table) (S : Sound t) (s : ℕ) (inside : s < document .slots) (r :
         (j k : ℕ) (p q : theory.Rule) → Held (programOf after) j p → Held (programOf after) k q → same p q ≡ true
         → j ≡ k
     single-after j k p q h i u =
-        let e = same-eq p q u in
+        let e = ascending-same p q (ascending-after j p h) (ascending-after k q i) .0 u in
         ⊎-elim
         (λ w. ⊎-elim
         (λ v. w .0 ∙ sym (v .0))
@@ -122,6 +127,7 @@ module _ (t : Table) (S : Sound t) (s : ℕ) (inside : s < document .slots) (r :
       labels = record {
         slots = program-length after ∙ length-set (t .rules) s r ∙ long;
         passes = passes-after;
+        ascending = ascending-after;
         single = single-after;
         acyclic = free;
         model = M;

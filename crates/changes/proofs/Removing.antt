@@ -6,7 +6,7 @@ use mathlib.Core.Bool.{Bool, true, false}
 use mathlib.Core.List.{List}
 use mathlib.Core.Option.{none, some, Option·none-ne-some}
 use lib.ListN.{length, set}
-use Rattle.theory.specs.Rules.{Held, Bounded}
+use Rattle.theory.specs.Rules.{Held, Ascending, Bounded}
 use Rattle.theory.specs.Rules as theory
 use Rattle.theory.specs.Dependencies.{NegativeCycle}
 use Rattle.theory.specs.Questions.{first-no, rule-questions, slot-questions}
@@ -32,11 +32,14 @@ module _ (t : Table) (S : Sound t) (s : ℕ) (inside : s < document .slots) wher
   passes : (p : theory.Rule) → slotOf freeRule ≡ some p → first-no (rule-questions document p) ≡ none
   passes p h = absurd (Option·none-ne-some p h)
 
+  ascending : (p : theory.Rule) → slotOf freeRule ≡ some p → Ascending p
+  ascending p h = absurd (Option·none-ne-some p h)
+
   fresh : (k : ℕ) (p : theory.Rule) → slotOf freeRule ≡ some p → Held (held t) k p → ⊥
   fresh k p h i = Option·none-ne-some p h
 
   bounded-freed : Bounded (programOf (set (t .rules) s freeRule)) (document .atoms)
-  bounded-freed = bounded-after t S s inside freeRule free-clean passes fresh
+  bounded-freed = bounded-after t S s inside freeRule free-clean passes ascending fresh
 
   -- every rule of the rest was held before
   rest-acyclic : NegativeCycle (programOf (set (t .rules) s freeRule)) → ⊥
@@ -54,7 +57,7 @@ module _ (t : Table) (S : Sound t) (s : ℕ) (inside : s < document .slots) wher
       let w = L .acyclic (not-cyclic (l .acyclic) refl) in
       contract.accepted _ S asked (sized-after t S s inside freeRule Z refl (l .labels) m)
       (program-after t S s inside freeRule)
-      (sound-after t S s inside freeRule free-clean passes fresh (l .labels) (w .0) (w .1 .0) (w .1 .1))
+      (sound-after t S s inside freeRule free-clean passes ascending fresh (l .labels) (w .0) (w .1 .0) (w .1 .1))
     where
       not-cyclic : (b : Bool) → l .acyclic ≡ b → l .acyclic ≡ true
       not-cyclic true e = e

@@ -29,7 +29,7 @@ pub struct AtomLabel {
 }
 
 // `spoiled` is 0 for a valid rule, 1 if the rule needs a positive entry that is out, 2 if it is blocked by a negative
-// entry that is in. `atom` is that entry, `place` where it stands in its list, from 0.
+// entry that is in. `atom` is that entry, `place` where it stands in its list, which ascends, from 0.
 #[repr(C)]
 pub struct RuleSpoiler {
     pub refused: u32,

@@ -1,31 +1,37 @@
 -- Demand 2: after an accepted addition or removal an atom is in if and only if it is in the admissible model of the
--- rules now held; a rule that closes a loop through a negation is refused by 7, and no other is. Assumes nothing.
-use Prim.Native.Nat.{ℕ}
+-- rules now held; a rule that closes a loop through a negation is refused by 7, and no other is. Request #102, of the
+-- calls. Assumes nothing.
+use Prim.Native.Nat.{ℕ, _<_}
 use native.Mathlib.Omega.{arith}
-use mathlib.Core.Path.{_≡_, refl, sym, _∙_, ap}
+use mathlib.Core.Path.{_≡_, refl, sym, _∙_, ap, subst}
 use mathlib.Core.Logic.{⊎-elim}
-use mathlib.Core.Bool.{true, not, _||_}
-use mathlib.Core.List.{[]}
+use mathlib.Core.Bool.{true, false, not, _||_}
+use mathlib.Core.List.{[], List·Memᴰ·head}
 use mathlib.Core.Option.{none, some, Option·some-injective, Option·none-ne-some}
 use lib.Dec.{eqb}
 use lib.ListN.{take}
 use Rattle.theory.specs.Lists.{every}
-use Rattle.theory.specs.Rules.{Rule, Program}
+use Rattle.theory.specs.Rules.{Rule, Program, Held, any-rule, same}
 use Rattle.theory.specs.Models.{AtomSet, Admissible}
 use Rattle.theory.specs.Dependencies.{NegativeCycle}
 use Rattle.theory.specs.Labels.{Label, absent, out, in-at, Labelled, is-absent, is-out, is-in}
-use Rattle.theory.specs.Questions.{Question, asks, first-no, add-questions, stratified, lowest-free, put-in}
+use Rattle.theory.specs.Questions.{Question, asks, first-no, add-questions, stratified, with-added}
 use Rattle.theory.specs.Questions.{is-in-label}
 use Rattle.theory.specs.Limits.{document}
 use Rattle.theory.proofs.Lists.{clash, every-at, or-cases, not-true, eqb-of, unless}
+use Rattle.theory.proofs.Rules.{any-rule-of}
+use Rattle.theory.proofs.Sameness.{same-iff}
+use Rattle.theory.proofs.Removal.{none-left, ground-gone}
 use Rattle.theory.proofs.Cycles.{found-cycle, cycle-found}
-use Rattle.theory.proofs.Questions.{first-no-here, first-no-take, first-no-at}
+use Rattle.theory.proofs.Questions.{first-no-here, first-no-take, first-no-at, passed-bounded}
 use Rattle.theory.proofs.Labels.{in-occurs}
 use Rattle.table.specs.declared.Table.{Table}
+use Rattle.table.specs.Labels.{labelAt}
 use Rattle.table.specs.Sound.{Sound}
 use Rattle.calls.specs.declared.AddAnswer.{AddAnswer}
 use Rattle.calls.specs.declared.AddAnswer.the-variants as added
 use Rattle.calls.specs.declared.RemoveAnswer.{RemoveAnswer}
+use Rattle.calls.specs.declared.RemoveAnswer.the-variants as removed
 use Rattle.calls.specs.declared.Refusal.{Refusal}
 use Rattle.calls.specs.declared.Refusal.the-variants as refusal
 use Rattle.calls.specs.Answers.{numberOf}
@@ -62,9 +68,9 @@ demand-2-remove t u s x (contract.unsound n) S = absurd (n S)
 demand-2-remove t u s x (contract.refused f T e) S = sound-in-model t S
 demand-2-remove t u s x (contract.accepted w T e Z h U) S = sound-in-model w U
 
--- The table with the rule.
+-- The table with the rule, as it is kept.
 abbrev with-rule : Table → Rule → Program
-with-rule t r = put-in (held t) (lowest-free (held t)) r
+with-rule t r = with-added (held t) r
 
 -- Refused by 7: the rule closes a loop through a negation.
 pub refused-7-cycle :
@@ -93,21 +99,61 @@ refused-7-cycle t u r E S = found-cycle (with-rule t r) (unless (stratified (wit
         none-no y (e ∙ ap (λ (g : Refusal). some (numberOf g)) k)
     cannot y q (contract.accepted s w T e l Z h U) = (let z : _≡_ {A = ℕ} 0 1 = cc in omega arith)
 
+-- An addition to a sound table is refused by the first question answered no.
+add-refused :
+    (t u : Table) (r : Rule) (x : AddAnswer) → AddEnds t r x u → Sound t → (k : ℕ) → (k ≡ 11 → ⊥)
+    → first-no (add-questions document (held t) r) ≡ some k → x ≡ added.Refused (refusalOf k)
+add-refused t u r x (contract.unsound n) S k m asked = absurd (n S)
+add-refused t u r x (contract.refused f T e) S k m asked =
+    let q : numberOf f ≡ k = Option·some-injective _ _ (sym e ∙ asked) in
+    ap added.Refused (sym (refusal-number f (λ h. m (sym q ∙ h))) ∙ ap refusalOf q)
+add-refused t u r x (contract.accepted s w T e l Z h U) S k m asked = absurd (Option·none-ne-some k (sym e ∙ asked))
+
 -- And where questions 1 to 6 are answered yes, a rule that closes one is refused by 7.
 pub cycle-refused-7 :
     (t u : Table) (r : Rule) (x : AddAnswer) → AddEnds t r x u → Sound t
     → first-no (take 6 (add-questions document (held t) r)) ≡ none → NegativeCycle (with-rule t r)
     → x ≡ added.Refused refusal.NegativeCycle
-cycle-refused-7 t u r x E S six c = go E
-  where
-    asked : first-no (add-questions document (held t) r) ≡ some 7
-    asked =
-        first-no-take 6 (add-questions document (held t) r) six
-        ∙ first-no-here (asks 7 (stratified (with-rule t r))) [] (cycle-found (with-rule t r) c)
+cycle-refused-7 t u r x E S six c =
+    add-refused t u r x E S 7 (λ e. omega arith)
+    (first-no-take 6 (add-questions document (held t) r) six
+    ∙ first-no-here (asks 7 (stratified (with-rule t r))) [] (cycle-found (with-rule t r) c))
 
-    go : {y : AddAnswer} {v : Table} → AddEnds t r y v → y ≡ added.Refused refusal.NegativeCycle
-    go (contract.unsound n) = absurd (n S)
-    go (contract.refused f T e) =
-        let k : numberOf f ≡ 7 = Option·some-injective _ _ (sym e ∙ asked) in
-        ap added.Refused (sym (refusal-number f (λ q. omega (arith, q, k))) ∙ ap refusalOf k)
-    go (contract.accepted s w T e l Z h U) = absurd (Option·none-ne-some 7 (sym e ∙ asked))
+-- Request #102: where a slot holds the rule in whatever order, an addition of it that passes questions 1 to 4 is
+-- refused by 5; and once that slot is removed, no slot holds it.
+
+pub same-refused-5 :
+    (t u : Table) (r : Rule) (x : AddAnswer) → AddEnds t r x u → Sound t
+    → first-no (take 4 (add-questions document (held t) r)) ≡ none → (s : ℕ) (q : Rule) → Held (held t) s q
+    → same r q ≡ true → x ≡ added.Refused refusal.Same
+same-refused-5 t u r x E S four s q h y =
+    add-refused t u r x E S 5 (λ e. omega arith)
+    (first-no-take 4 (add-questions document (held t) r) four
+    ∙ first-no-here _ _ (ap not (any-rule-of (same r) (held t) s q h y)))
+
+pub removed-none-left :
+    (t u : Table) (s : ℕ) (y : RemoveAnswer) → RemoveEnds t s y u → y ≡ removed.Removed → (q r : Rule)
+    → Held (held t) s q → same r q ≡ true → any-rule (same r) (held u) ≡ false
+removed-none-left t u s y (contract.unsound n) e q r h v = (let z : _≡_ {A = ℕ} 0 1 = cc in absurd (omega arith))
+removed-none-left t u s y (contract.refused f S a) e q r h v = (let z : _≡_ {A = ℕ} 0 1 = cc in absurd (omega arith))
+removed-none-left t u s y (contract.accepted w S a Z i U) e q r h v =
+    ap (any-rule (same r)) i ∙ none-left document (held t) _ (S .labels) r s q h v
+
+-- And where the removed rule was the only one of its head, in whatever order, that atom's label is not in any more.
+pub removed-label-gone :
+    (t u : Table) (s : ℕ) (y : RemoveAnswer) → RemoveEnds t s y u → y ≡ removed.Removed → (q r : Rule)
+    → Held (held t) s q → same r q ≡ true
+    → ((k : ℕ) (p : Rule) → Held (held t) k p → p .head ≡ r .head → same r p ≡ true)
+    → is-in-label (labelAt (u .labels) (r .head)) ≡ false
+removed-label-gone t u s y (contract.unsound n) e q r h v only = (let z : _≡_ {A = ℕ} 0 1 = cc in absurd (omega arith))
+removed-label-gone t u s y (contract.refused f S a) e q r h v only =
+    (let z : _≡_ {A = ℕ} 0 1 = cc in absurd (omega arith))
+removed-label-gone t u s y (contract.accepted w S a Z i U) e q r h v only =
+    let L = U .labels in
+    let low : r .head < document .atoms =
+    subst (λ (x : ℕ). x < document .atoms) (sym (same-iff r q .0 v .heads))
+    (passed-bounded document (held t) (S .labels .passes) s q h (q .head) (List·Memᴰ·head refl)) in
+    ground-gone document (held t) _ (S .labels) r s q h v only (L .model)
+    (subst (λ (P : Program). Admissible P (L .model)) i (L .admissible)) _
+    (subst (λ (P : Program). Labelled P (L .model) (r .head) (labelAt (w .labels) (r .head))) i
+    (L .labels (r .head) low))

@@ -10,6 +10,7 @@ use mathlib.Core.Option.{Option, none, some}
 use lib.Dec.{ltb}
 use lib.ListN.{length, getD, replicate}
 use Rattle.theory.specs.Rules.{Rule, Program, Held}
+use Rattle.theory.specs.Rules as theory
 use Rattle.theory.specs.Models.{AtomSet, valid, Admissible, OnlyModel}
 use Rattle.theory.specs.Dependencies.{NegativeCycle}
 use Rattle.theory.specs.Labels.{Label, out, in-at, Labelled, is-out, is-in}
@@ -87,7 +88,7 @@ step-follows {t} S (adds {r} (contract.refused f T e)) = record {
 }
 step-follows {t} S (adds {r} (contract.accepted s u T e l Z h U)) = record {
   said = sym (answer-yes (held t) (add r) e ∙ ap slot-answer l);
-  holds = h ∙ sym (after-yes (held t) (add r) e ∙ ap (λ (o : Option ℕ). put-in (held t) o r) l);
+  holds = h ∙ sym (after-yes (held t) (add r) e ∙ ap (λ (o : Option ℕ). put-in (held t) o (theory.kept r)) l);
   still = U;
 }
 step-follows {t} S (removes (contract.unsound n)) = absurd (n S)

@@ -1,55 +1,55 @@
--- Walks over the slots: the same rule, and the lowest free slot. Assumes nothing.
+-- Walks over the slots: one that holds a rule, and the lowest free one. Assumes nothing.
 use Prim.Native.Nat.{ℕ, _≤_, _<_}
 use native.Mathlib.Omega.{arith}
 use mathlib.Core.Path.{_≡_, refl, sym, _∙_, ap, subst}
+use mathlib.Core.Logic.{_↔_}
 use mathlib.Core.Bool.{Bool, true, false}
 use mathlib.Core.List.{List}
-use mathlib.Core.Option.{Option, none, some}
+use mathlib.Core.Option.{none, some}
 use lib.ListN.{length, getD}
-use Rattle.theory.specs.Rules.{Program, Held, passes, any-rule}
+use Rattle.theory.specs.Rules.{Program, Held}
 use Rattle.theory.specs.Rules as theory
 use Rattle.theory.specs.Questions.{lowest-free}
 use Rattle.theory.specs.Limits.{document}
-use Rattle.theory.proofs.Lists.{clash, unless}
-use Rattle.theory.proofs.Rules.{any-rule-at, any-rule-of}
+use Rattle.theory.proofs.Lists.{clash}
 use Rattle.theory.proofs.Questions.{held-below, lowest-free-of, lowest-free-none}
 use Rattle.table.specs.declared.Rule.{Rule}
 use Rattle.table.specs.declared.Slot.{Slot}
 use Rattle.table.specs.Rules.{programOf, slotOf, ruleOf, pastRule}
-use Rattle.table.proofs.Programs.{program-at, program-length, slot-free, slot-held, state-held}
+use Rattle.table.proofs.Programs.{program-at, program-length, slot-free, slot-held, slot-rule, slot-state, state-held}
 use Rattle.making.specs.declared.FreeSlot.{FreeSlot}
 use Rattle.making.specs.declared.FreeSlot.the-variants.{At, Nowhere}
 use Rattle.making.specs.Parts.{LowestFree, at, nowhere}
 
--- A slot that is not free passes if its rule does.
-pub slot-passes : (f : theory.Rule → Bool) (r : Rule) → (r .state ≡ 0 → ⊥) → f (ruleOf r) ≡ passes f (slotOf r)
-slot-passes f r n = ap (passes f) (sym (slot-held r n))
+-- A slot holds the rule if it is not free and its own rule is that.
+module _ (r : Rule) (q : theory.Rule) where
+  pub free-not : r .state ≡ 0 → (false ≡ true) ↔ (slotOf r ≡ some q)
+  free-not e = (λ t. absurd (clash t refl), λ h. absurd (slot-state r q h e))
 
--- No slot up to i passes the test.
-abbrev pub NonePasses : (theory.Rule → Bool) → Program → ℕ → Type 0
-NonePasses f P i = (k : ℕ) → k < i → passes f (getD P k none) ≡ false
+  pub held-equal :
+      (r .state ≡ 0 → ⊥) → (b : Bool) → (b ≡ true) ↔ (ruleOf r ≡ q) → (b ≡ true) ↔ (slotOf r ≡ some q)
+  held-equal n b told = (λ t. slot-held r n ∙ ap some (told .0 t), λ h. told .1 (slot-rule r q h))
 
-module _ (f : theory.Rule → Bool) (rules : List Rule) (i : ℕ) where
-  pub passes-here :
-      (b : Bool) → b ≡ passes f (slotOf (getD rules i pastRule)) → b ≡ true → true ≡ any-rule f (programOf rules)
-  passes-here b e t =
-      sym (by (getD (programOf rules) i none) refl (ap (passes f) (program-at rules i) ∙ sym e ∙ t))
-    where
-      by : (o : Option theory.Rule) → getD (programOf rules) i none ≡ o → passes f o ≡ true
-          → any-rule f (programOf rules) ≡ true
-      by none h u = absurd (clash u refl)
-      by (some r) h u = any-rule-of f (programOf rules) i r h u
+-- No slot up to i holds the rule.
+abbrev pub NoneHolds : Program → theory.Rule → ℕ → Type 0
+NoneHolds P q i = (k : ℕ) → k < i → Held P k q → ⊥
 
-  pub passes-not :
-      (b : Bool) → b ≡ passes f (slotOf (getD rules i pastRule)) → b ≡ false
-      → passes f (getD (programOf rules) i none) ≡ false
-  passes-not b e t = ap (passes f) (program-at rules i) ∙ sym e ∙ t
+module _ (q : theory.Rule) (rules : List Rule) (i : ℕ) where
+  -- what the test of slot i tells
+  module _ (b : Bool) (told : (b ≡ true) ↔ (slotOf (getD rules i pastRule) ≡ some q)) where
+    pub holds-here : b ≡ true → (true ≡ true) ↔ ((s : ℕ) × Held (programOf rules) s q)
+    holds-here t = (λ u. (i, program-at rules i ∙ told .0 t), λ w. refl)
 
-  pub passes-none : length rules ≤ i → NonePasses f (programOf rules) i → false ≡ any-rule f (programOf rules)
-  passes-none l h = sym (unless _ (λ t. (
-      let w = any-rule-at f (programOf rules) t in
-      let k = held-below (programOf rules) (w .0) (w .1) (w .2) in
-      clash (ap (passes f) (w .2) ∙ w .3) (h (w .0) (omega (arith, k, program-length rules))))))
+    pub holds-not : b ≡ false → Held (programOf rules) i q → ⊥
+    holds-not f h = clash (told .1 (sym (program-at rules i) ∙ h)) f
+
+  pub holds-none :
+      length rules ≤ i → NoneHolds (programOf rules) q i → (false ≡ true) ↔ ((s : ℕ) × Held (programOf rules) s q)
+  holds-none l none-before = (
+    λ t. absurd (clash t refl),
+    λ w. (let k = held-below (programOf rules) (w .0) q (w .1) in
+        absurd (none-before (w .0) (omega (arith, k, program-length rules)) (w .1))),
+  )
 
 -- Every slot up to i holds a rule.
 abbrev pub AllHeld : Program → ℕ → Type 0

@@ -5,20 +5,27 @@ use mathlib.Core.Logic.{_⊎_}
 use mathlib.Core.List.{List}
 use mathlib.Core.Option.{none, some}
 use lib.ListN.{length, getD}
+use lib.Seq.{slice}
+use Rattle.theory.specs.Lists.{insert}
 use Rattle.theory.specs.Rules.{Program}
 use Rattle.theory.specs.Rules as theory
 use Rattle.theory.specs.Questions.{lowest-free}
 use Rattle.theory.specs.Limits.{document}
 use Rattle.table.specs.declared.Atom.{Atom}
 use Rattle.table.specs.declared.Rule.{Rule}
-use Rattle.table.specs.Rules.{slotOf, noAtom}
+use Rattle.table.specs.Rules.{slotOf, numbers, noAtom}
 use Rattle.table.specs.Clean.{CleanRule}
 use Rattle.making.specs.declared.FreeSlot.{FreeSlot}
 use Rattle.making.specs.declared.FreeSlot.the-variants.{At, Nowhere}
 
+-- An atom x is put among the entries from a place to below another, as `insert` does; every other entry is as before.
+pub record Inserted (before : List Atom) (from to x : ℕ) (after : List Atom) : Type 0 where
+  pub inside : numbers (slice from (to + 1) after) ≡ insert x (numbers (slice from to before))
+  pub outside : (i : ℕ) → (i < from) ⊎ (to < i) → getD after i noAtom ≡ getD before i noAtom
+
 -- A list of numbers stands among the entries from a place on; every other entry is as before.
-pub record Copied (before : List Atom) (from : ℕ) (list : List ℕ) (after : List Atom) : Type 0 where
-  pub inside : (i : ℕ) → i < length list → getD after (from + i) noAtom .0 ≡ getD list i 0
+pub record Placed (before : List Atom) (from : ℕ) (list : List ℕ) (after : List Atom) : Type 0 where
+  pub inside : numbers (slice from (from + length list) after) ≡ list
   pub outside : (i : ℕ) → (i < from) ⊎ (from + length list ≤ i) → getD after i noAtom ≡ getD before i noAtom
 
 -- A slot that holds the rule, with nothing past its lists.

@@ -19,7 +19,7 @@ pub data SoundProbe (t : Table) : ℕ → Type 0 where
   is-sound : Sound t → SoundProbe t 1
   is-not : (Sound t → ⊥) → SoundProbe t 0
 
--- The rules are sound by themselves: each slot well formed, no two rules the same.
+-- The rules are sound by themselves: each slot well formed, no rule in two slots.
 pub record RulesFit (t : Table) : Type 0 where
   pub slots : (s : ℕ) → s < document .slots → WellFormed (getD (t .rules) s pastRule)
   pub single : Single (programOf (t .rules))

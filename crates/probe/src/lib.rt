@@ -2,7 +2,7 @@
 use history::Replayed;
 use history::replay;
 use labels::labels_of;
-use slots::no_two_same;
+use slots::no_two_equal;
 use slots::slots_well_formed;
 use sound::sound;
 use table::Table;
@@ -41,7 +41,7 @@ pub extern "C" fn probe_labels(table: Table) -> Relabelled
             table: table,
         };
     }
-    if !no_two_same(rules) {
+    if !no_two_equal(rules) {
         return Relabelled {
             refused: 15,
             table: table,

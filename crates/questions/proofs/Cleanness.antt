@@ -1,26 +1,21 @@
 -- Laws of slots and labels that stand as in the empty table, by what is tested of them. Assumes nothing.
-use Prim.Native.Nat.{ℕ, _+_, _-_, _≤_, _<_}
+use Prim.Native.Nat.{ℕ, _+_, _≤_, _<_}
 use native.Mathlib.Omega.{arith}
-use mathlib.Core.Path.{_≡_, refl, sym, _∙_, ap, ap₂}
+use mathlib.Core.Path.{_≡_, refl, sym, _∙_, ap}
 use mathlib.Core.Logic.{_↔_, ⊎-elim}
 use mathlib.Core.Bool.{Bool, true, false, not, true≢false}
 use mathlib.Core.List.{List}
 use lib.Dec.{eqb}
-use lib.ListN.{length, getD, take, drop, length-replicate, getD-replicate}
+use lib.ListN.{length, getD, length-replicate, getD-replicate}
 use lib.Seq.{ext-getD}
-use Rattle.theory.specs.Rules as theory
-use Rattle.theory.specs.Questions.{first-no, rule-questions}
 use Rattle.theory.specs.Limits.{document}
 use Rattle.theory.proofs.Lists.{le-or-lt, not-true, not-false, clash, eqb-eq, eqb-of}
 use Rattle.table.specs.declared.Atom.{Atom}
 use Rattle.table.specs.declared.Rule.{Rule}
 use Rattle.table.specs.declared.Label.{Label}
-use Rattle.table.specs.Rules.{numbers, noAtom, ruleOf}
-use Rattle.table.specs.Clean.{freeRule, CleanRule, CleanLabel, WellFormed}
-use Rattle.table.specs.Questions.{ruleFrom, refusalNumber}
-use Rattle.table.proofs.Entries.{past, numbers-take, numbers-drop}
-use Rattle.table.proofs.Programs.{slot-state, slot-rule, slot-held}
-use Rattle.questions.proofs.Refusals.{none-refused}
+use Rattle.table.specs.Rules.{noAtom}
+use Rattle.table.specs.Clean.{freeRule, CleanRule, CleanLabel}
+use Rattle.table.proofs.Entries.{past}
 
 -- An answer no is right where the thing is refuted.
 pub is-not : {P : Type 0} → (P → ⊥) → (false ≡ true) ↔ P
@@ -30,20 +25,31 @@ is-not f = (λ t. absurd (true≢false (sym t)), λ p. absurd (f p))
 abbrev pub Empty : List Atom → ℕ → ℕ → Type 0
 Empty xs from j = (i : ℕ) → from ≤ i → i < j → getD xs i noAtom ≡ noAtom
 
-pub empty-more :
-    (xs : List Atom) (from j : ℕ) → Empty xs from j → getD xs j noAtom .0 ≡ 0 → Empty xs from (j + 1)
-empty-more xs from j h e i l k = ⊎-elim
-    (λ (m : j ≤ i). (let q : i ≡ j = omega arith in rw q (ap (λ n. record { 0 = n }) e)))
-    (λ (m : i < j). h i l m)
-    (le-or-lt j i)
+-- The sum of the entries read so far is 0 exactly if they are as in the empty table.
+module _ (xs : List Atom) (from j sum : ℕ) (told : (sum ≡ 0) ↔ Empty xs from j) where
+  pub sum-more : from ≤ j → (sum + getD xs j noAtom .0 ≡ 0) ↔ Empty xs from (j + 1)
+  sum-more l = (
+    λ z i k m. ⊎-elim
+        (λ (n : j ≤ i). (
+        let q : i ≡ j = omega arith in
+        let e : getD xs j noAtom .0 ≡ 0 = omega arith in
+        rw q (ap (λ n. record { 0 = n }) e)))
+        (λ (n : i < j). told .0 (omega arith) i k n)
+        (le-or-lt j i),
+    λ h.
+        let e : getD xs j noAtom .0 ≡ 0 = ap (λ a. a .0) (h j l (omega arith)) in
+        let z : sum ≡ 0 = told .1 (λ i k m. h i k (omega arith)) in
+        omega arith,
+  )
 
-pub empty-all :
-    (xs : List Atom) (from j : ℕ) → length xs ≤ j → Empty xs from j
-    → (i : ℕ) → from ≤ i → getD xs i noAtom ≡ noAtom
-empty-all xs from j k h i l = ⊎-elim
-    (λ (m : j ≤ i). sym (past xs i noAtom (omega arith)))
-    (λ (m : i < j). h i l m)
-    (le-or-lt j i)
+  pub sum-all : length xs ≤ j → (eqb sum 0 ≡ true) ↔ ((i : ℕ) → from ≤ i → getD xs i noAtom ≡ noAtom)
+  sum-all k = (
+    λ t i l. ⊎-elim
+        (λ (m : j ≤ i). sym (past xs i noAtom (omega arith)))
+        (λ (m : i < j). told .0 (eqb-eq sum 0 t) i l m)
+        (le-or-lt j i),
+    λ h. eqb-of sum 0 (told .1 (λ i l m. h i l)),
+  )
 
 -- Labels.
 module _ (l : Label) where
@@ -115,43 +121,3 @@ module _ (r : Rule) (long : length (r .entries) ≡ document .entries) where
         },
         λ w. eqb-of (r .head .0) 0 (ap (λ q. q .head .0) (w .free e)),
       )
-
--- A slot that a sound table can have.
-module _ (r : Rule) (t : Bool) (told : (t ≡ true) ↔ CleanRule r) where
-  pub not-clean : not t ≡ true → (false ≡ true) ↔ WellFormed r
-  not-clean u = is-not (λ w. clash (told .1 (w .clean)) (not-true t u))
-
-  module _ (u : not t ≡ false) where
-    pub well-free : r .state ≡ 0 → (true ≡ true) ↔ WellFormed r
-    well-free e = (
-      λ v. record { clean = told .0 (not-false t u); passes = λ q h. absurd (slot-state r q h e) },
-      λ w. refl,
-    )
-
-    pub well-held :
-        (r .state ≡ 0 → ⊥) → (k : ℕ) → k ≡ refusalNumber (first-no (rule-questions document (ruleOf r)))
-        → (eqb k 0 ≡ true) ↔ WellFormed r
-    well-held h k e = (
-      λ v. record {
-        clean = told .0 (not-false t u);
-        passes = λ q s.
-            ap (λ z. first-no (rule-questions document z)) (sym (slot-rule r q s))
-            ∙ none-refused document (r .head .0) (ruleOf r .positives) (ruleOf r .negatives) (sym e ∙ eqb-eq k 0 v);
-      },
-      λ w. eqb-of k 0 (e ∙ ap refusalNumber (w .passes (ruleOf r) (slot-held r h))),
-    )
-
--- The rule that two parts of the entries' numbers make.
-pub rule-from-parts :
-    (r : Rule) (xs : List ℕ) → xs ≡ numbers (r .entries)
-    → ruleFrom (r .head .0) (take (r .positives - 0) (drop 0 xs))
-    (take (r .positives + r .negatives - r .positives) (drop (r .positives) xs))
-    ≡ ruleOf r
-rule-from-parts r xs e =
-    let p : r .positives - 0 ≡ r .positives = omega arith in
-    let n : r .positives + r .negatives - r .positives ≡ r .negatives = omega arith in
-    ap₂ (ruleFrom (r .head .0))
-    (ap₂ take p e ∙ numbers-take (r .positives) (r .entries))
-    (ap₂ (λ k ys. take k (drop (r .positives) ys)) n e
-    ∙ ap (take (r .negatives)) (numbers-drop (r .positives) (r .entries))
-    ∙ numbers-take (r .negatives) (drop (r .positives) (r .entries)))

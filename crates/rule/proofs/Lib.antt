@@ -1,2 +1,2 @@
--- Laws about sameness, for the proofs of the functions.
-pub mod Sameness
+-- Laws about equality, for the proofs of the functions.
+pub mod Equality

@@ -1,15 +1,16 @@
-// One rule: where its lists end, whether it is valid, what spoils it, whether two are the same.
+// One rule: where its lists end, whether it is valid, what spoils it, whether two are equal.
 use table::Rule;
 use table::Spoiler;
 use table::Table;
 use table::sets::has;
 ghost use mathlib.Core.Path.{_≡_};
+ghost use mathlib.Core.Bool.{true};
+ghost use mathlib.Core.Logic.{_↔_};
 ghost use Prim.Native.Nat.{_+_, _≤_, min};
 ghost use lib.Seq.{slice};
 ghost use Rattle.theory.specs.Lists.{before};
 ghost use Rattle.theory.specs.Models.{valid};
 ghost use Rattle.theory.specs.Labels.{spoiler};
-ghost use Rattle.theory.specs.Rules.{same};
 ghost use Rattle.theory.specs.Limits.{document};
 ghost use Rattle.table.specs.Sets.{member, standing};
 ghost use Rattle.table.specs.Rules.{numbers, ruleOf, spoilerOf};
@@ -94,9 +95,10 @@ pub fn valid(rule: Rule, flags: &[bool; Table::ATOMS]) -> bool
     }
 }
 
-// Are the two rules the same: equal heads, and each list the same entries in the same order?
-pub fn same(a: Rule, b: Rule) -> bool
-    ensures { λ r. ⌜ r ≡ same (ruleOf a) (ruleOf b) ⌝ }
+// Are the two rules equal, entry for entry? Of rules with ascending lists this asks whether they are the same (the law
+// `ascending-same`).
+pub fn equal(a: Rule, b: Rule) -> bool
+    ensures { λ r. ⌜ (r ≡ true) ↔ (ruleOf a ≡ ruleOf b) ⌝ }
 {
     if a.head.0 != b.head.0 {
         return false;

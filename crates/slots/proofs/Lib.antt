@@ -1,2 +1,2 @@
--- Laws behind the search for two rules the same. Nothing here needs to be believed: all of it is checked.
+-- Laws behind the search for two equal rules. Nothing here needs to be believed: all of it is checked.
 pub mod Links

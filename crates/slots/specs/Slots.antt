@@ -1,9 +1,8 @@
--- No two rules the same. Assumes nothing.
+-- No rule in two slots. Assumes nothing.
 use Prim.Native.Nat.{ℕ}
 use mathlib.Core.Path.{_≡_}
-use mathlib.Core.Bool.{true}
-use Rattle.theory.specs.Rules.{Rule, Program, Held, same}
+use Rattle.theory.specs.Rules.{Rule, Program, Held}
 
--- No two rules are the same.
+-- No rule stands in two slots. (Where every list ascends, rules that are the same are equal: the law `ascending-same`.)
 abbrev pub Single : Program → Type 0
-Single P = (s t : ℕ) (q r : Rule) → Held P s q → Held P t r → same q r ≡ true → s ≡ t
+Single P = (s t : ℕ) (r : Rule) → Held P s r → Held P t r → s ≡ t

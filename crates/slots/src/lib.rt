@@ -1,8 +1,8 @@
-// Slots and labels by themselves: each well formed, and no two rules the same.
+// Slots and labels by themselves: each well formed, and no two rules equal.
 use questions::clean::clean_label;
 use questions::clean::well_formed;
+use rule::equal;
 use rule::negative_end;
-use rule::same;
 use table::Atom;
 use table::Label;
 use table::Rule;
@@ -11,14 +11,14 @@ ghost use mathlib.Core.Path.{_≡_};
 ghost use mathlib.Core.Bool.{true};
 ghost use mathlib.Core.Logic.{_↔_};
 ghost use Prim.Native.Nat.{ℕ, _<_, _≤_};
-ghost use lib.ListN.{getD};
+ghost use lib.ListN.{getD, set};
 ghost use Rattle.theory.specs.Limits.{document};
 ghost use Rattle.table.specs.Sets.{number};
 ghost use Rattle.table.specs.Rules.{slotOf, ruleOf, programOf, pastRule};
 ghost use Rattle.table.specs.Labels.{absentLabel};
 ghost use Rattle.table.specs.Clean.{WellFormed, CleanLabel};
 ghost use Rattle.slots.specs.Slots.{Single};
-ghost use Rattle.slots.specs.Keys.{key, linked, noted};
+ghost use Rattle.slots.specs.Keys.{key, slot-key};
 
 // Is every slot one that a sound table can have?
 pub fn slots_well_formed(rules: [Rule; Table::SLOTS]) -> bool
@@ -57,7 +57,7 @@ fn wide(a: Atom) -> usize
     a.0 as usize
 }
 
-// A number that rules which are the same share: rules are linked by it.
+// A number that equal rules share: rules are linked by it.
 fn key(rule: Rule) -> usize
     ensures { λ r. ⌜ r ≡ key (ruleOf rule) ⌝ }
 {
@@ -73,36 +73,37 @@ fn key(rule: Rule) -> usize
     8121 * k % 65536 / 256
 }
 
-// Where to start looking for a rule that is the same: 1 more than the last slot so far with a rule of this key; 0 if
-// there is none, or the slot is free.
-fn last_of(rule: Rule, last: &[u16; 256]) -> u16
-    ensures { λ r. ⌜ r ≡ linked (number (now (last .entry))) (slotOf rule) ⌝ }
+// The key by which the slot is linked: that of its rule. A free slot has one past the last, by which nothing is linked.
+fn slot_key(rule: Rule) -> usize
+    ensures { λ r. ⌜ r ≡ slot-key (slotOf rule) ⌝ }
 {
     if rule.state == 0 {
-        return 0;
+        return 256;
     }
-    let k = key(rule);
+    key(rule)
+}
+
+// Where to start looking for an equal rule: 1 more than the last slot so far of this key; 0 if there is none.
+fn last_of(k: usize, last: &[u16; 256]) -> u16
+    ensures { λ r. ⌜ r ≡ number (now (last .entry)) k ⌝ }
+{
     let s = &last[..];
     if k < s.len() { s[k] } else { 0 }
 }
 
-// The slot before `next`, if it holds a rule, is now the last of its key.
-fn note(rule: Rule, last: &mut [u16; 256], next: u16)
-    ensures { λ _. ⌜ now (last .exit) ≡ noted (now (last .entry)) (slotOf rule) next ⌝ }
+// The slot before `next` is now the last of this key; past the last key nothing is kept.
+fn note(k: usize, last: &mut [u16; 256], next: u16)
+    ensures { λ _. ⌜ now (last .exit) ≡ set (now (last .entry)) k next ⌝ }
 {
-    if rule.state == 0 {
-        return;
-    }
-    let k = key(rule);
     let s = &mut last[..];
     if k < s.len() {
         s[k] = next;
     }
 }
 
-// Are no two rules the same? Rules of one key are linked: `last` has 1 more than the last slot of a key so far,
+// Are no two rules equal? Rules of one key are linked: `last` has 1 more than the last slot of a key so far,
 // `before` for a slot 1 more than the one before it that has the same key, and 0 says that there is none.
-pub fn no_two_same(rules: [Rule; Table::SLOTS]) -> bool
+pub fn no_two_equal(rules: [Rule; Table::SLOTS]) -> bool
     ensures { λ r. ⌜ (r ≡ true) ↔ Single (programOf rules) ⌝ }
 {
     let mut last: [u16; 256] = [0; 256];
@@ -110,17 +111,18 @@ pub fn no_two_same(rules: [Rule; Table::SLOTS]) -> bool
     let mut i: usize = 0;
     while i < Table::SLOTS {
         let rule = rules[i];
-        let start = last_of(rule, &last);
-        let mut k = start as usize;
-        while k > 0 {
-            let other = rules[k - 1];
-            if same(rule, other) {
+        let k = slot_key(rule);
+        let start = last_of(k, &last);
+        let mut link = start as usize;
+        while link > 0 {
+            let other = rules[link - 1];
+            if equal(rule, other) {
                 return false;
             }
-            k = before[k - 1] as usize;
+            link = before[link - 1] as usize;
         }
         before[i] = start;
-        note(rule, &mut last, (i + 1) as u16);
+        note(k, &mut last, (i + 1) as u16);
         i += 1;
     }
     true

@@ -9,7 +9,7 @@ use mathlib.Core.Option.{Option, none, some, Option·none-ne-some}
 use lib.Dec.{ltb}
 use lib.ListN.{length, getD, length-map, List·getD-eq-default}
 use Rattle.theory.specs.Lists.{_∈_, every}
-use Rattle.theory.specs.Rules.{Rule, Program, Held, Occurs, Bounded, entries}
+use Rattle.theory.specs.Rules.{Rule, Program, Held, Occurs, Bounded, Ascending, entries, same}
 use Rattle.theory.specs.Dependencies.{NegativeCycle}
 use Rattle.theory.specs.Labels.{Label, absent, out, in-at, Labelled, is-absent}
 use Rattle.theory.specs.Limits.{Limits}
@@ -17,6 +17,7 @@ use Rattle.theory.specs.Questions.{Question, first-no, rule-questions, is-in-la
 use Rattle.theory.specs.Limits.{document}
 use Rattle.theory.specs.Certificate.{kept-in, kept-depth, kept-slot, depth-in, slot-in}
 use Rattle.theory.proofs.Lists.{test, ltb-lt, every-at, le-or-lt}
+use Rattle.theory.proofs.Sameness.{ascending-same}
 use Rattle.theory.proofs.Certificate.{Certified, certified-admissible, certified-labels, labels-certified}
 use Rattle.table.specs.declared.Table.{Table}
 use Rattle.table.specs.Rules.{programOf, pastRule}
@@ -133,6 +134,17 @@ module _ (t : Table) (slots : length (t .rules) ≡ document .slots) (atoms : le
       WellFormedSlots → (s : ℕ) (r : Rule) → Held P s r → first-no (rule-questions document r) ≡ none
   well-formed-passes W s r h = W s (held-low s r h) .passes r (sym (program-at (t .rules) s) ∙ h)
 
+  well-formed-ascending : WellFormedSlots → (s : ℕ) (r : Rule) → Held P s r → Ascending r
+  well-formed-ascending W s r h = W s (held-low s r h) .ascending r (sym (program-at (t .rules) s) ∙ h)
+
+  -- where the lists ascend, rules that are the same are equal
+  well-formed-single :
+      WellFormedSlots → Single P
+      → (s u : ℕ) (q r : Rule) → Held P s q → Held P u r → same q r ≡ true → s ≡ u
+  well-formed-single W U s u q r h g z =
+      let e = ascending-same q r (well-formed-ascending W s q h) (well-formed-ascending W u r g) .0 z in
+      U s u r (h ∙ ap some e) g
+
   pub well-formed-bounded : WellFormedSlots → Bounded P (document .atoms)
   well-formed-bounded W = bounded-of document P (well-formed-passes W)
 
@@ -142,7 +154,13 @@ module _ (t : Table) (slots : length (t .rules) ≡ document .slots) (atoms : le
     sound-well-formed s l = record {
       clean = S .clean .rules s l;
       passes = λ q e. S .labels .passes s q (program-at (t .rules) s ∙ e);
+      ascending = λ q e. S .labels .ascending s q (program-at (t .rules) s ∙ e);
     }
+
+    pub sound-single : Single P
+    sound-single s u r h g =
+        let a = S .labels .ascending s r h in
+        S .labels .single s u r r h g (ascending-same r r a a .1 refl)
 
     -- every label is the defined one: past the end it is absent, and no atom there occurs
     all-labelled : (a : ℕ) → Labelled P (S .labels .model) a (label a)
@@ -175,7 +193,8 @@ module _ (t : Table) (slots : length (t .rules) ≡ document .slots) (atoms : le
         labels = record {
           slots = simp length-map (slots);
           passes = well-formed-passes W;
-          single = U;
+          ascending = well-formed-ascending W;
+          single = well-formed-single W U;
           acyclic = A;
           model = kept-in label;
           admissible = certified-admissible P label C;

@@ -2,7 +2,7 @@
 use certificate::certified;
 use occurring::occurring;
 use slots::labels_clean;
-use slots::no_two_same;
+use slots::no_two_equal;
 use slots::slots_well_formed;
 use strata::strata;
 use table::Label;
@@ -63,7 +63,7 @@ pub fn sound(table: Table) -> bool
     if !occurrence_kept(rules, labels) {
         return false;
     }
-    if !no_two_same(rules) {
+    if !no_two_equal(rules) {
         return false;
     }
     acyclic(rules)

@@ -62,6 +62,7 @@ empty-labels limits =
     record {
       slots = program-length (replicate (limits .slots) freeRule) ∙ length-replicate (limits .slots) freeRule;
       passes = λ s r h. absurd (holds-none (limits .slots) s r h);
+      ascending = λ s r h. absurd (holds-none (limits .slots) s r h);
       single = λ s t q r h k e. absurd (holds-none (limits .slots) s q h);
       acyclic = no-cycle (limits .slots);
       model = λ a. false;

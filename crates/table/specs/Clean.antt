@@ -44,7 +44,9 @@ pub record Clean (t : Table) : Type 0 where
   pub rules : (s : ℕ) → s < document .slots → CleanRule (getD (t .rules) s pastRule)
   pub labels : (a : ℕ) → a < document .atoms → CleanLabel (getD (t .labels) a absentLabel)
 
--- A slot that a sound table can have: clean, and if it holds a rule, that rule passes questions 1 to 4.
+-- A slot that a sound table can have: clean, and if it holds a rule, that rule passes questions 1 to 4 and has
+-- ascending lists.
 pub record WellFormed (r : Rule) : Type 0 where
   pub clean : CleanRule r
   pub passes : (q : theory.Rule) → slotOf r ≡ some q → first-no (rule-questions document q) ≡ none
+  pub ascending : (q : theory.Rule) → slotOf r ≡ some q → theory.Ascending q

@@ -42,7 +42,8 @@ pub struct Table {
     pub labels: [Label; Table::ATOMS],
 }
 
-// The first entry that spoils a rule, if one does: its place in the positive or the negative list, from 0, and atom.
+// The first entry that spoils a rule, if one does: its place in the positive or the negative list as the slot keeps it,
+// from 0, and its atom.
 pub enum Spoiler {
     Nothing,
     Positive(u8, Atom),

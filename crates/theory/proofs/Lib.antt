@@ -1,5 +1,6 @@
 -- Laws about the definitions of specs/. Nothing here needs to be believed: all of it is checked.
 pub mod Lists
+pub mod Sorting
 pub mod Rules
 pub mod Cycles
 pub mod Strata
@@ -13,4 +14,8 @@ pub mod Certificate
 pub mod Questions
 pub mod Book
 pub mod Explanations
+pub mod Sameness
+pub mod Kept
+pub mod Removal
+pub mod Spoilers
 pub mod Tables

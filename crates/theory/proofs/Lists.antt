@@ -2,7 +2,7 @@
 use Prim.Native.Nat.{ℕ, zero, suc, _≤_, _<_}
 use native.Mathlib.Omega.{arith}
 use native.Mathlib.Decide.{decLe}
-use mathlib.Core.Path.{_≡_, refl, sym, _∙_, ap, ap₂, subst}
+use mathlib.Core.Path.{_≡_, refl, sym, _∙_, ap, subst}
 use mathlib.Core.Logic.{_⊎_, inl, inr, ⊎-elim}
 use mathlib.Core.Bool.{Bool, true, false, not, _&&_, _||_, true≢false}
 use mathlib.Core.List.{List, [], _∷_, List·Memᴰ, List·Memᴰ·head, List·Memᴰ·tail, List·Memᴰ·cases-cons}
@@ -10,7 +10,7 @@ use mathlib.Core.List.{List·Memᴰ·not-nil}
 use mathlib.Core.Option.{Option, none, some, Option·some-injective, Option·none-ne-some}
 use lib.Dec.{T, eqb, leb, ltb, eqb→eq, eqb-refl, leb→le, ltb→lt, le→leb, lt→ltb}
 use lib.ListN.{length, getD}
-use Rattle.theory.specs.Lists.{_∈_, agree, any, before, every, first, FirstAt, Sorted}
+use Rattle.theory.specs.Lists.{_∈_, any, before, every, first, FirstAt, Sorted}
 
 -- Tests.
 
@@ -220,13 +220,13 @@ module _ (f : ℕ → Bool) where
       first-miss y ys t ∙ first-past ys k))
       (test (f y))
 
+pub entry-in : (xs : List ℕ) (i : ℕ) → i < length xs → getD xs i 0 ∈ xs
+entry-in [] i l = absurd (omega arith)
+entry-in (y ∷ ys) zero l = List·Memᴰ·head refl
+entry-in (y ∷ ys) (suc i) l = List·Memᴰ·tail (entry-in ys i (omega arith))
+
 pub first-in : (f : ℕ → Bool) (xs : List ℕ) (i x : ℕ) → FirstAt f xs i x → x ∈ xs
 first-in f xs i x w = subst (λ (y : ℕ). y ∈ xs) (w .there) (entry-in xs i (w .low))
-  where
-    entry-in : (xs : List ℕ) (i : ℕ) → i < length xs → getD xs i 0 ∈ xs
-    entry-in [] i l = absurd (omega arith)
-    entry-in (y ∷ ys) zero l = List·Memᴰ·head refl
-    entry-in (y ∷ ys) (suc i) l = List·Memᴰ·tail (entry-in ys i (omega arith))
 
 -- Where an entry passes, some place is the first; where none passes, there is none; and the first is what it is.
 
@@ -259,20 +259,6 @@ first-of f (y ∷ ys) (suc i) x w =
       earlier = λ j l. w .earlier (suc j) (omega arith);
     }) in
     (first-miss f y ys t ∙ e .0, before-miss f y ys t ∙ ap suc (e .1))
-
--- Lists that agree entry for entry are equal.
-pub agree-eq : (xs ys : List ℕ) → agree xs ys ≡ true → xs ≡ ys
-unfolding agree
-agree-eq [] [] t = refl
-agree-eq [] (y ∷ ys) t = absurd (true≢false (sym t))
-agree-eq (x ∷ xs) [] t = absurd (true≢false (sym t))
-agree-eq (x ∷ xs) (y ∷ ys) t =
-    ap₂ _∷_ (eqb-eq x y (and-l (eqb x y) _ t)) (agree-eq xs ys (and-r (eqb x y) _ t))
-
-pub agree-refl : (xs : List ℕ) → agree xs xs ≡ true
-unfolding agree
-agree-refl [] = refl
-agree-refl (x ∷ xs) = and-of _ _ (eqb-of x x refl) (agree-refl xs)
 
 -- How many entries of a list pass a test.
 

@@ -1,18 +1,17 @@
 -- Laws of programs, held rules and valid rules. Assumes nothing.
-use Prim.Native.Nat.{ℕ, zero, suc, _<_}
-use mathlib.Core.Path.{_≡_, refl, sym, _∙_, ap, subst}
+use Prim.Native.Nat.{ℕ, zero, suc}
+use mathlib.Core.Path.{_≡_, refl, sym, _∙_, ap}
 use mathlib.Core.Logic.{_⊎_, inl, inr, ⊎-elim}
 use mathlib.Core.Bool.{Bool, true, false, not, _&&_, true≢false}
 use mathlib.Core.List.{List, [], _∷_, _++_, List·Memᴰ, List·Memᴰ·head, List·Memᴰ·tail, List·Memᴰ·cases-cons}
 use mathlib.Core.List.{List·Memᴰ·not-nil}
 use mathlib.Core.Option.{Option, none, some, Option·some-injective, Option·none-ne-some}
-use lib.Dec.{eqb}
 use lib.ListN.{getD}
-use Rattle.theory.specs.Lists.{_∈_, agree, any, every}
-use Rattle.theory.specs.Rules.{any-rule, entries, Held, Occurs, passes, Program, Rule, same}
+use Rattle.theory.specs.Lists.{_∈_, any, every}
+use Rattle.theory.specs.Rules.{any-rule, entries, Held, Occurs, passes, Program, Rule}
 use Rattle.theory.specs.Models.{AtomSet, valid}
 use Rattle.theory.specs.Questions.{rules}
-use Rattle.theory.proofs.Lists.{agree-eq, agree-refl, and-l, and-of, and-r, eqb-eq, eqb-of, every-at}
+use Rattle.theory.proofs.Lists.{and-l, and-of, and-r, every-at}
 use Rattle.theory.proofs.Lists.{every-of, false-not, in-mem, mem, mem-in, not-true, or-cases, or-l, or-r}
 
 -- Some rule held passes.
@@ -89,24 +88,3 @@ pub occurs-of : (P : Program) (a : ℕ) → Occurs P a → occurs-test P a ≡ t
 unfolding occurs-test
 occurs-of P a o =
     any-rule-of (λ r. mem a (r .head ∷ entries r)) P (o .slot) (o .rule) (o .held) (in-mem a _ (o .there))
-
--- Rules that are the same are equal.
-
-rule-path : (q r : Rule) → q .head ≡ r .head → q .positives ≡ r .positives → q .negatives ≡ r .negatives → q ≡ r
-rule-path q r h p n = λ i. record { head = h i; positives = p i; negatives = n i }
-
-pub same-eq : (q r : Rule) → same q r ≡ true → q ≡ r
-unfolding same
-same-eq q r t =
-    let u = and-r (eqb (q .head) (r .head))
-    (agree (q .positives) (r .positives) && agree (q .negatives) (r .negatives)) t in
-    rule-path q r
-    (eqb-eq _ _ (and-l (eqb (q .head) (r .head)) _ t))
-    (agree-eq _ _ (and-l (agree (q .positives) (r .positives)) _ u))
-    (agree-eq _ _ (and-r (agree (q .positives) (r .positives)) _ u))
-
-pub same-refl : (r : Rule) → same r r ≡ true
-unfolding same
-same-refl r =
-    and-of _ _ (eqb-of (r .head) (r .head) refl)
-    (and-of _ _ (agree-refl (r .positives)) (agree-refl (r .negatives)))

@@ -1,4 +1,4 @@
--- T1 to T11 hold: their answers are computed, their labels are shown by the certificate. Assumes nothing.
+-- T1 to T11 and the tables of request #102 hold: their answers are computed, their labels are shown by the certificate. Assumes nothing.
 use Prim.Native.Nat.{ℕ, zero, suc, _≤_, _<_}
 use native.Mathlib.Omega.{arith}
 use mathlib.Core.Path.{_≡_, refl, sym, _∙_, ap, ap₂, subst}
@@ -9,7 +9,7 @@ use mathlib.Core.List.{List·Memᴰ·not-nil, Memᴰ·map}
 use mathlib.Core.Option.{Option, none, some}
 use lib.Dec.{eqb, leb}
 use lib.ListN.{getD}
-use Rattle.theory.specs.Lists.{_∈_, agree, any, distinct, every}
+use Rattle.theory.specs.Lists.{_∈_, any, distinct, every, insert, same-members, sort}
 use Rattle.theory.specs.Rules.{any-rule, entries, Held, Occurs, passes, Program, Rule, same}
 use Rattle.theory.specs.Models.{AtomSet, valid}
 use Rattle.theory.specs.Labels.{absent, in-at, Label, Labelled, out}
@@ -303,9 +303,9 @@ all-show [] t = tt
 all-show (e ∷ es) t =
     (example-shows e (and-l (example-test e) _ t), all-show es (and-r (example-test e) (every example-test es) t))
 
--- The small tables of document 01 show what it says.
+-- The small tables of document 01 and of request #102 show what these say.
 pub tables-shown : Each Shows tables
-unfolding tables every any distinct agree same first-no lowest-free rules reaches stratified answer after answers
-    after-all valid greatest occurs-test each-rule rule-test support-rule none-before label-test certified-test
-    same-label same-answer same-answers result example-test lookup
+unfolding tables every any distinct same-members insert sort same first-no lowest-free rules reaches stratified answer
+    after answers after-all valid greatest occurs-test each-rule rule-test support-rule none-before label-test
+    certified-test same-label same-answer same-answers result example-test lookup
 tables-shown = all-show tables refl

@@ -5,7 +5,7 @@ use mathlib.Core.Option.{Option, none, some}
 use lib.ListN.{set, replicate}
 use Rattle.theory.specs.Rules.{Rule, Program}
 use Rattle.theory.specs.Limits.{Limits}
-use Rattle.theory.specs.Questions.{first-no, add-questions, slot-questions, lowest-free, put-in}
+use Rattle.theory.specs.Questions.{first-no, add-questions, slot-questions, lowest-free, with-added}
 
 -- The calls that change a table.
 pub data Call : Type 0 where
@@ -32,13 +32,13 @@ module _ (limits : Limits) where
   refusal P (add r) = first-no (add-questions limits P r)
   refusal P (remove s) = first-no (slot-questions limits P s)
 
-  -- What an accepted call answers, and what it leaves: the rule on the lowest free page; the page free.
+  -- What an accepted call answers, and what it leaves: the rule, as it is kept, on the lowest free page; the page free.
   abbrev pub granted : Program → Call → Answer
   granted P (add r) = slot-answer (lowest-free P)
   granted P (remove s) = accepted
 
   abbrev pub changed : Program → Call → Program
-  changed P (add r) = put-in P (lowest-free P) r
+  changed P (add r) = with-added P r
   changed P (remove s) = set P s none
 
   -- What a call answers and leaves: at the first no, that number, and the book stays.

@@ -60,7 +60,7 @@ first-on d f xs =
     elim (first f xs) [ some x ↦ some (record { side = d; place = before f xs; atom = x }) | none ↦ none ]
 
 -- The spoiler of a rule not valid in M is its first spoiling entry, the positive list read first, then the negative,
--- each in the order given. A positive entry spoils if out, a negative one if in.
+-- each in its order (a held rule's lists ascend). A positive entry spoils if out, a negative one if in.
 unfoldable pub spoiler : AtomSet → Rule → Option Spoiler
 spoiler M r = elim (first-on positive (λ x. not (M x)) (r .positives)) [
   | some s ↦ some s

@@ -1,5 +1,5 @@
 -- The words about lists of numbers that the definitions use. Assumes nothing.
-use Prim.Native.Nat.{ℕ, zero, suc, _<_}
+use Prim.Native.Nat.{ℕ, zero, suc, min, max, _<_}
 use mathlib.Core.Path.{_≡_}
 use mathlib.Core.Bool.{Bool, true, false, not, _&&_, _||_}
 use mathlib.Core.List.{List, [], _∷_, List·Memᴰ}
@@ -44,12 +44,19 @@ unfoldable pub distinct : List ℕ → Bool
 distinct [] = true
 distinct (x ∷ xs) = not (any (eqb x) xs) && distinct xs
 
--- Two lists agree entry for entry, order included.
-unfoldable pub agree : List ℕ → List ℕ → Bool
-agree [] [] = true
-agree [] (y ∷ ys) = false
-agree (x ∷ xs) [] = false
-agree (x ∷ xs) (y ∷ ys) = eqb x y && agree xs ys
+-- Two lists hold the same numbers, in whatever order.
+unfoldable pub same-members : List ℕ → List ℕ → Bool
+same-members xs ys = every (λ x. any (eqb x) ys) xs && every (λ y. any (eqb y) xs) ys
+
+-- A number put into a list that ascends: of two numbers the smaller takes the place, the greater goes on.
+unfoldable pub insert : ℕ → List ℕ → List ℕ
+insert x [] = x ∷ []
+insert x (y ∷ ys) = min x y ∷ insert (max x y) ys
+
+-- The numbers of a list in ascending order.
+unfoldable pub sort : List ℕ → List ℕ
+sort [] = []
+sort (x ∷ xs) = insert x (sort xs)
 
 -- Each entry comes before all that follow.
 abbrev pub Sorted : (ℕ → ℕ → Type 0) → List ℕ → Type 0

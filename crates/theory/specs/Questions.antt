@@ -7,7 +7,7 @@ use lib.Dec.{eqb, leb, ltb}
 use lib.ListN.{length, getD, set}
 use Rattle.theory.specs.Lists.{every, any, distinct}
 use Rattle.theory.specs.Limits.{Limits}
-use Rattle.theory.specs.Rules.{Rule, Program, entries, any-rule, same}
+use Rattle.theory.specs.Rules.{Rule, Program, entries, any-rule, same, kept}
 use Rattle.theory.specs.Labels.{Label, absent, out, in-at}
 
 -- A question with its number and answer. The first that is answered no is the refusal.
@@ -40,6 +40,10 @@ lowest-free (some r ∷ P) = elim (lowest-free P) [ none ↦ none | some s ↦ s
 abbrev pub put-in : Program → Option ℕ → Rule → Program
 put-in P none r = P
 put-in P (some s) r = set P s (some r)
+
+-- The program with a rule added: kept in the lowest free slot.
+abbrev pub with-added : Program → Rule → Program
+with-added P r = put-in P (lowest-free P) (kept r)
 
 -- The rules held, in the order of their slots.
 unfoldable pub rules : Program → List Rule
@@ -75,7 +79,7 @@ module _ (limits : Limits) where
       rule-questions r
       ++ (asks 5 (not (any-rule (same r) P))
       ∷ asks 6 (is-some (lowest-free P))
-      ∷ asks 7 (stratified (put-in P (lowest-free P) r))
+      ∷ asks 7 (stratified (with-added P r))
       ∷ [])
 
   -- Remove, and Spoiler of a slot. 8: Is the slot number below 256?  9: Does the slot hold a rule?

@@ -6,7 +6,7 @@ use mathlib.Core.List.{List, _∷_, _++_}
 use mathlib.Core.Option.{Option, none, some}
 use lib.Dec.{eqb}
 use lib.ListN.{getD}
-use Rattle.theory.specs.Lists.{_∈_, any, agree}
+use Rattle.theory.specs.Lists.{_∈_, any, same-members, sort, Sorted}
 
 -- A rule: a head and two lists of atoms, the positive list and the negative list.
 pub record Rule : Type 0 where
@@ -45,6 +45,18 @@ pub record Occurs (P : Program) (a : ℕ) : Type 0 where
 abbrev pub Bounded : Program → ℕ → Type 0
 Bounded P n = (s : ℕ) (r : Rule) → Held P s r → (x : ℕ) → x ∈ r .head ∷ entries r → x < n
 
--- Two rules are the same if heads are equal and each list agrees entry for entry, order included.
+-- Two rules are the same if heads are equal, the positive lists hold the same atoms and the negative lists hold the
+-- same atoms, in whatever order.
 unfoldable pub same : Rule → Rule → Bool
-same q r = eqb (q .head) (r .head) && (agree (q .positives) (r .positives) && agree (q .negatives) (r .negatives))
+same q r =
+    eqb (q .head) (r .head)
+    && (same-members (q .positives) (r .positives) && same-members (q .negatives) (r .negatives))
+
+-- A rule as it is kept, on a page of the book and in a slot of the table: each list ascending.
+abbrev pub kept : Rule → Rule
+kept r = record { head = r .head; positives = sort (r .positives); negatives = sort (r .negatives) }
+
+-- Each list of the rule is ascending.
+pub record Ascending (r : Rule) : Type 0 where
+  pub positives : Sorted (λ x y. x < y) (r .positives)
+  pub negatives : Sorted (λ x y. x < y) (r .negatives)

@@ -1,4 +1,5 @@
--- The small tables T1 to T11 of document 01 as one list, and what is claimed of each. Assumes nothing.
+-- The small tables T1 to T11 of document 01 and those of request #102 as one list, and what is claimed of each. Assumes
+-- nothing.
 use Prim.Native.Nat.{ℕ, zero, suc}
 use mathlib.Core.Path.{_≡_}
 use mathlib.Core.List.{List, [], _∷_, _++_, map}
@@ -34,7 +35,8 @@ pub record Shows (e : Example) : Type 0 where
       (a : ℕ) → (a ∈ map (λ l. l .atom) (e .rows) → ⊥)
       → Labelled (after-all document (empty document) (e .calls)) model a absent
 
--- A fact, a rule with one positive entry, a rule with one negative entry.
+-- A fact; a rule with one positive entry, with one negative entry, with two positive entries, with two
+-- negative entries, with one of each.
 abbrev pub fact : ℕ → Call
 fact h = add (record { head = h; positives = []; negatives = [] })
 
@@ -43,6 +45,15 @@ from h x = add (record { head = h; positives = x ∷ []; negatives = [] })
 
 abbrev pub unless : ℕ → ℕ → Call
 unless h x = add (record { head = h; positives = []; negatives = x ∷ [] })
+
+abbrev pub from-both : ℕ → ℕ → ℕ → Call
+from-both h x y = add (record { head = h; positives = x ∷ y ∷ []; negatives = [] })
+
+abbrev pub unless-either : ℕ → ℕ → ℕ → Call
+unless-either h x y = add (record { head = h; positives = []; negatives = x ∷ y ∷ [] })
+
+abbrev pub from-unless : ℕ → ℕ → ℕ → Call
+from-unless h x y = add (record { head = h; positives = x ∷ []; negatives = y ∷ [] })
 
 infix 70 _is_
 abbrev pub _is_ : ℕ → Label → Row
@@ -92,4 +103,14 @@ tables =
     (1 is in-at 3 2 ∷ 2 is out ∷ 3 is in-at 1 5 ∷ 4 is in-at 2 3 ∷ 5 is out ∷ [])
     ∷ shows (from 1 2 ∷ unless 2 3 ∷ from 1 4 ∷ from 4 3 ∷ from 3 4 ∷ unless 3 5 ∷ fact 5 ∷ []) (slots-from 0 7)
     (1 is in-at 2 0 ∷ 2 is in-at 1 1 ∷ 3 is out ∷ 4 is out ∷ 5 is in-at 1 6 ∷ [])
+    -- request #102: the same rule in another order is refused, and with its slot removed the label is gone
+    ∷ shows (fact 1 ∷ fact 2 ∷ from-both 5 1 2 ∷ from-both 5 2 1 ∷ []) (slots-from 0 3 ++ (refused 5 ∷ []))
+    (1 is in-at 1 0 ∷ 2 is in-at 1 1 ∷ 5 is in-at 2 2 ∷ [])
+    ∷ shows (fact 1 ∷ fact 2 ∷ from-both 5 1 2 ∷ from-both 5 2 1 ∷ remove 2 ∷ [])
+    (slots-from 0 3 ++ (refused 5 ∷ accepted ∷ [])) (1 is in-at 1 0 ∷ 2 is in-at 1 1 ∷ [])
+    ∷ shows (unless-either 5 1 2 ∷ unless-either 5 2 1 ∷ []) (slots-from 0 1 ++ (refused 5 ∷ []))
+    (1 is out ∷ 2 is out ∷ 5 is in-at 1 0 ∷ [])
+    -- and atoms that change lists make another rule
+    ∷ shows (fact 1 ∷ from-unless 5 1 2 ∷ from-unless 5 2 1 ∷ []) (slots-from 0 3)
+    (1 is in-at 1 0 ∷ 2 is out ∷ 5 is in-at 2 1 ∷ [])
     ∷ []

@@ -1,7 +1,9 @@
 //! Random lists of calls, with good and bad arguments.
 
 use crate::calls::Call;
+use crate::generate::again::{Earlier, Named};
 use crate::random::Random;
+use crate::table::RawTable;
 
 /// Numbers at and past the limits, where a narrow type would wrap.
 const LIMITS: [u32; 9] = [
@@ -31,50 +33,72 @@ fn list(random: &mut Random, atoms: usize) -> Vec<u32> {
     (0..count).map(|_| number(random, atoms)).collect()
 }
 
-/// An addition over about that many atoms.
-pub fn addition(random: &mut Random, atoms: usize) -> Call {
-    let positives = list(random, atoms);
-    let negatives = if random.percent(50) {
-        list(random, atoms)
-    } else {
-        Vec::new()
-    };
-    Call::Add {
-        head: number(random, atoms),
-        positives,
-        negatives,
-    }
+/// Draws calls over about so many atoms and slots. Some additions name an earlier rule again.
+pub struct Calls {
+    atoms: usize,
+    slots: usize,
+    earlier: Earlier,
 }
 
-/// A removal of one of about that many slots.
-pub fn removal(random: &mut Random, slots: usize) -> Call {
-    Call::Remove {
-        slot: number(random, slots),
+impl Calls {
+    /// Calls on that table; its rules may be named again.
+    pub fn on(table: &RawTable, atoms: usize, slots: usize) -> Calls {
+        Calls {
+            atoms,
+            slots,
+            earlier: Earlier::in_table(table),
+        }
     }
-}
 
-/// A call over about that many atoms and slots; most of them change the table.
-pub fn call(random: &mut Random, atoms: usize, slots: usize) -> Call {
-    match random.below(20) {
-        0..=9 => addition(random, atoms),
-        10..=12 => removal(random, slots),
-        13 => Call::Label {
-            atom: number(random, atoms),
-        },
-        14 => Call::Spoiler {
-            slot: number(random, slots),
-        },
-        15 => Call::Justifications {
-            atom: number(random, atoms),
-        },
-        16 => Call::Consequences {
-            atom: number(random, atoms),
-        },
-        17 => Call::Repercussions {
-            atom: number(random, atoms),
-        },
-        _ => Call::Reason {
-            atom: number(random, atoms),
-        },
+    /// Named before, one time in five; else its lists are drawn.
+    fn named(&mut self, random: &mut Random) -> Named {
+        if random.percent(20) {
+            if let Some(again) = self.earlier.again(random) {
+                return again;
+            }
+        }
+        let named = Named {
+            head: number(random, self.atoms),
+            positives: list(random, self.atoms),
+            negatives: if random.percent(50) {
+                list(random, self.atoms)
+            } else {
+                Vec::new()
+            },
+        };
+        self.earlier.note(named.clone());
+        named
+    }
+
+    pub fn addition(&mut self, random: &mut Random) -> Call {
+        let named = self.named(random);
+        Call::Add {
+            head: named.head,
+            positives: named.positives,
+            negatives: named.negatives,
+        }
+    }
+
+    pub fn removal(&self, random: &mut Random) -> Call {
+        Call::Remove {
+            slot: number(random, self.slots),
+        }
+    }
+
+    /// Any call; most of them change the table.
+    pub fn call(&mut self, random: &mut Random) -> Call {
+        let atom = number(random, self.atoms);
+        match random.below(20) {
+            0..=9 => self.addition(random),
+            10..=12 => self.removal(random),
+            13 => Call::Label { atom },
+            14 => Call::Spoiler {
+                slot: number(random, self.slots),
+            },
+            15 => Call::Justifications { atom },
+            16 => Call::Consequences { atom },
+            17 => Call::Repercussions { atom },
+            _ => Call::Reason { atom },
+        }
     }
 }

@@ -64,7 +64,7 @@ fn few_rules() -> Vec<Vec<Rule>> {
         vec![rule(LAST, LAST - entries..LAST, [])],
         vec![rule(1, [2], [2]), fact(2)],
         vec![rule(1, [2], [2])],
-        vec![rule(1, [2, 3], []), rule(1, [3, 2], []), fact(2), fact(3)],
+        vec![rule(1, [2], [3]), rule(1, [3], [2]), fact(2), fact(3)],
         vec![rule(1, [2], []), rule(2, [1], []), fact(2)],
     ]
 }

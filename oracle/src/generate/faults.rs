@@ -5,6 +5,7 @@ use crate::generate::programs::{program, FLAVOURS};
 use crate::generate::table_of;
 use crate::labels::{Label, Labelled};
 use crate::limits::ENTRIES;
+use crate::loops::has_loop_through_negation;
 use crate::random::Random;
 use crate::relations::spoiler;
 use crate::rules::{held, Rule};
@@ -14,8 +15,15 @@ use crate::table::{RawRule, RawTable};
 pub enum Fault {
     /// A rule stands in two slots.
     SameRule,
-    /// An atom stands twice in a list.
+    /// An atom stands twice in a list, once beside the other.
     RepeatedAtom,
+    /// Two entries of a list stand in each other's place.
+    Swapped,
+    /// A rule stands in two slots, in one of them with two entries swapped.
+    SameSwapped,
+    /// The end of the positive list is moved, so that an entry stands in the other list. Where
+    /// both lists ascend still, the table is sound: its labels are those of the rule that it has.
+    MovedEnd,
     /// A rule closes a loop through a negation, yet there is one admissible model.
     Loop,
     /// A rule is gone and the labels are those from before.
@@ -24,9 +32,12 @@ pub enum Fault {
     OtherSupport,
 }
 
-pub const FAULTS: [Fault; 5] = [
+pub const FAULTS: [Fault; 8] = [
     Fault::SameRule,
     Fault::RepeatedAtom,
+    Fault::Swapped,
+    Fault::SameSwapped,
+    Fault::MovedEnd,
     Fault::Loop,
     Fault::StaleLabels,
     Fault::OtherSupport,
@@ -39,6 +50,9 @@ pub fn faulty(random: &mut Random, fault: Fault) -> RawTable {
     let faulty = match fault {
         Fault::SameRule => same_rule(random, &labelled),
         Fault::RepeatedAtom => repeated_atom(random, &labelled),
+        Fault::Swapped => swapped(random, &labelled),
+        Fault::SameSwapped => same_swapped(random, &labelled),
+        Fault::MovedEnd => moved_end(random, &labelled),
         Fault::Loop => closed_loop(random, &labelled),
         Fault::StaleLabels => stale_labels(random, &labelled),
         Fault::OtherSupport => other_support(random, &labelled),
@@ -68,16 +82,71 @@ fn same_rule(random: &mut Random, labelled: &Labelled) -> Option<RawTable> {
 }
 
 fn repeated_atom(random: &mut Random, labelled: &Labelled) -> Option<RawTable> {
-    let mut program = labelled.program.clone();
-    let short = |rule: &&mut Rule| (1..ENTRIES).contains(&rule.entries().count());
-    let rule = any_of(random, program.iter_mut().flatten().filter(short).collect())?;
-    let list = if rule.positives.is_empty() {
-        &mut rule.negatives
+    let short = |rule: &Rule| (1..ENTRIES).contains(&rule.entries().count());
+    let rules = held(&labelled.program).filter(|(_, rule)| short(rule));
+    let (slot, rule) = any_of(random, rules.collect())?;
+    let mut table = RawTable::keeping(labelled);
+    let raw = &mut table.rules[slot as usize];
+    raw.entries.copy_within(..ENTRIES - 1, 1);
+    if rule.positives.is_empty() {
+        raw.negatives += 1;
     } else {
-        &mut rule.positives
-    };
-    list.push(list[0]);
-    Some(table_of(program))
+        raw.positives += 1;
+    }
+    Some(table)
+}
+
+/// Both lists of a slot whose counts fit.
+fn lists(raw: &mut RawRule) -> [&mut [u16]; 2] {
+    let (positives, rest) = raw.entries.split_at_mut(raw.positives as usize);
+    [positives, &mut rest[..raw.negatives as usize]]
+}
+
+/// Swaps two entries of one of the lists, if one has two.
+fn swap_in<'a>(random: &mut Random, lists: impl IntoIterator<Item = &'a mut [u16]>) -> Option<()> {
+    let long = lists.into_iter().filter(|list| list.len() > 1);
+    let list = any_of(random, long.collect())?;
+    let one = random.below(list.len());
+    let other = (one + random.between(1, list.len() - 1)) % list.len();
+    list.swap(one, other);
+    Some(())
+}
+
+fn swapped(random: &mut Random, labelled: &Labelled) -> Option<RawTable> {
+    let mut table = RawTable::keeping(labelled);
+    swap_in(random, table.rules.iter_mut().flat_map(lists))?;
+    Some(table)
+}
+
+fn same_swapped(random: &mut Random, labelled: &Labelled) -> Option<RawTable> {
+    let long = |rule: &Rule| rule.positives.len() > 1 || rule.negatives.len() > 1;
+    let rules = held(&labelled.program).filter(|(_, rule)| long(rule));
+    let (slot, rule) = any_of(random, rules.collect())?;
+    let mut table = with_rule(random, labelled, rule.clone())?;
+    swap_in(random, lists(&mut table.rules[slot as usize]))?;
+    Some(table)
+}
+
+fn moved_end(random: &mut Random, labelled: &Labelled) -> Option<RawTable> {
+    let both = |rule: &Rule| !rule.positives.is_empty() && !rule.negatives.is_empty();
+    let rules = held(&labelled.program).filter(|(_, rule)| both(rule));
+    let (slot, rule) = any_of(random, rules.collect())?;
+    let (mut rule, mut raw) = (rule.clone(), RawRule::holding(rule));
+    if random.percent(50) {
+        rule.positives.extend(rule.negatives.pop_first());
+        (raw.positives, raw.negatives) = (raw.positives + 1, raw.negatives - 1);
+    } else {
+        rule.negatives.extend(rule.positives.pop_last());
+        (raw.positives, raw.negatives) = (raw.positives - 1, raw.negatives + 1);
+    }
+    let mut program = labelled.program.clone();
+    program[slot as usize] = Some(rule);
+    if has_loop_through_negation(&program) {
+        return None;
+    }
+    let mut table = table_of(program);
+    table.rules[slot as usize] = raw;
+    Some(table)
 }
 
 /// An in atom gets a rule that negates it, or negates the head of a rule that it is an entry
@@ -92,15 +161,7 @@ fn closed_loop(random: &mut Random, labelled: &Labelled) -> Option<RawTable> {
         held(&labelled.program).filter(|(_, rule)| rule.entries().any(|entry| entry == head));
     let heads: Vec<u32> = follow.map(|(_, rule)| rule.head).chain([head]).collect();
     let negated = *random.pick(&heads);
-    with_rule(
-        random,
-        labelled,
-        Rule {
-            head,
-            positives: Vec::new(),
-            negatives: vec![negated],
-        },
-    )
+    with_rule(random, labelled, Rule::of(head, &[], &[negated]))
 }
 
 fn stale_labels(random: &mut Random, labelled: &Labelled) -> Option<RawTable> {

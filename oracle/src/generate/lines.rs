@@ -1,5 +1,6 @@
 //! Random lines of a sheet: commands, refusals, lines without a form, and long ones.
 
+use crate::generate::again::Named;
 use crate::limits::LINE_BYTES;
 use crate::random::Random;
 
@@ -100,10 +101,15 @@ pub fn bytes_of(random: &mut Random, from: &[u8], most: usize) -> Vec<u8> {
         .collect()
 }
 
-fn numbers(random: &mut Random, bound: usize, most: usize) -> String {
+fn numbers(random: &mut Random, bound: usize, most: usize) -> Vec<u32> {
     (0..random.between(0, most))
-        .map(|_| format!(" {}", random.below(bound)))
+        .map(|_| random.below(bound) as u32)
         .collect()
+}
+
+/// Each number after a space.
+fn fields(numbers: &[u32]) -> String {
+    numbers.iter().map(|number| format!(" {number}")).collect()
 }
 
 /// A command that reads well, over about that many atoms and slots.
@@ -124,11 +130,20 @@ pub fn command(random: &mut Random, atoms: usize, slots: usize) -> Vec<u8> {
 /// An addition over about that many atoms.
 pub fn addition(random: &mut Random, atoms: usize) -> String {
     let head = random.below(atoms);
-    let positives = numbers(random, atoms, 2);
+    let most = *random.pick(&[2, 2, 3, 5]);
+    let positives = fields(&numbers(random, atoms, most));
     if random.percent(60) {
         return format!("A {head} :{positives}");
     }
-    format!("A {head} :{positives} !{}", numbers(random, atoms, 2))
+    let negatives = fields(&numbers(random, atoms, most));
+    format!("A {head} :{positives} !{negatives}")
+}
+
+/// The line that names this rule.
+pub fn named(named: &Named) -> String {
+    let (positives, negatives) = (fields(&named.positives), fields(&named.negatives));
+    let mark = if negatives.is_empty() { "" } else { " !" };
+    format!("A {} :{positives}{mark}{negatives}", named.head)
 }
 
 /// The line with more spaces between its tokens and at its ends.

@@ -1,5 +1,6 @@
 //! Seeded generators of what engines are compared on.
 
+pub mod again;
 pub mod calls;
 pub mod damage;
 pub mod edges;
@@ -32,7 +33,7 @@ pub fn sound_table(random: &mut Random) -> RawTable {
 pub fn mixed_table(random: &mut Random) -> RawTable {
     match random.below(10) {
         0..=3 => sound_table(random),
-        4..=7 => {
+        4..=6 => {
             let field = *random.pick(&damage::FIELDS);
             let table = sound_table(random);
             damage::damaged(random, &table, field)

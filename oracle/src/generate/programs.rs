@@ -101,14 +101,7 @@ pub fn unlayered(random: &mut Random, atoms: usize, rules: usize) -> Program {
         let head = *random.pick(&numbers);
         let positives = some_of(random, &numbers, 2);
         let negatives = some_of(random, &numbers, 2);
-        add_new(
-            &mut program,
-            Rule {
-                head,
-                positives,
-                negatives,
-            },
-        );
+        add_new(&mut program, Rule::of(head, &positives, &negatives));
     }
     program
 }
@@ -160,20 +153,12 @@ impl Layers {
         let layer = random.below(self.atoms.len());
         let head = *random.pick(&self.atoms[layer]);
         if random.percent(shape.facts) {
-            return Rule {
-                head,
-                positives: Vec::new(),
-                negatives: Vec::new(),
-            };
+            return Rule::of(head, &[], &[]);
         }
         let negatives = some_of(random, &self.atoms[..layer].concat(), shape.negatives);
         let room = shape.positives.min(ENTRIES - negatives.len());
         let positives = some_of(random, &self.atoms[..=layer].concat(), room);
-        Rule {
-            head,
-            positives,
-            negatives,
-        }
+        Rule::of(head, &positives, &negatives)
     }
 }
 
@@ -211,17 +196,9 @@ fn chain(random: &mut Random, order: fn(&mut Random, &mut Vec<Option<Rule>>)) ->
     if random.percent(50) {
         atoms.sort_unstable();
     }
-    let mut rules = vec![Some(Rule {
-        head: atoms[0],
-        positives: Vec::new(),
-        negatives: Vec::new(),
-    })];
+    let mut rules = vec![Some(Rule::of(atoms[0], &[], &[]))];
     for pair in atoms.windows(2) {
-        rules.push(Some(Rule {
-            head: pair[1],
-            positives: vec![pair[0]],
-            negatives: Vec::new(),
-        }));
+        rules.push(Some(Rule::of(pair[1], &pair[..1], &[])));
     }
     order(random, &mut rules);
     let in_front = random.below(SLOTS - length + 1);
@@ -248,11 +225,7 @@ fn strata(random: &mut Random) -> Program {
         } else {
             Vec::new()
         };
-        rules.push(Some(Rule {
-            head,
-            positives,
-            negatives,
-        }));
+        rules.push(Some(Rule::of(head, &positives, &negatives)));
     }
     if random.percent(50) {
         random.shuffle(&mut rules);

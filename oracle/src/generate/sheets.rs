@@ -1,6 +1,8 @@
 //! Random sheets: stories, refusals, lines without a form, garbage, and lengths at the limits.
 
-use crate::generate::lines::{addition, any_line, bytes_of, command, long_or_command};
+use crate::command::{read_line, Command, Line};
+use crate::generate::again::{Earlier, Named};
+use crate::generate::lines::{addition, any_line, bytes_of, command, long_or_command, named};
 use crate::limits::{INPUT_BYTES, SLOTS};
 use crate::random::Random;
 
@@ -39,9 +41,18 @@ pub const FLAVOURS: [Flavour; 8] = [
 pub fn sheet(random: &mut Random, flavour: Flavour) -> Vec<u8> {
     let mut sheet = match flavour {
         Flavour::Empty => bytes_of(random, b"  \n", 400),
-        Flavour::Story => repeated(random, 60, |random| command(random, 6, 8)),
-        Flavour::Mixed => repeated(random, 120, |random| any_line(random, 6, 8)),
-        Flavour::Crowded => crowded(random),
+        Flavour::Story => {
+            let story = repeated(random, 50, |random| command(random, 6, 8));
+            with_some_again(random, &story)
+        }
+        Flavour::Mixed => {
+            let mixed = repeated(random, 100, |random| any_line(random, 6, 8));
+            with_some_again(random, &mixed)
+        }
+        Flavour::Crowded => {
+            let crowded = crowded(random);
+            with_some_again(random, &crowded)
+        }
         Flavour::Chain => chain(random),
         Flavour::LongLines => repeated(random, 60, long_or_command),
         Flavour::Garbage => garbage(random),
@@ -61,6 +72,40 @@ fn repeated(random: &mut Random, most: usize, line: impl Fn(&mut Random) -> Vec<
         sheet.push(b'\n');
     }
     sheet
+}
+
+/// The sheet, with an addition named again after one line in six.
+fn with_some_again(random: &mut Random, sheet: &[u8]) -> Vec<u8> {
+    let mut earlier = Earlier::default();
+    let mut longer = Vec::new();
+    for line in sheet.split_inclusive(|&byte| byte == b'\n') {
+        longer.extend(line);
+        if let Some(named) = addition_in(line) {
+            earlier.note(named);
+        }
+        let again = (random.below(6) == 0).then(|| earlier.again(random));
+        if let Some(again) = again.flatten() {
+            longer.extend(named(&again).into_bytes());
+            longer.push(b'\n');
+        }
+    }
+    longer
+}
+
+/// What a line of a sheet, with its newline, names in an addition.
+fn addition_in(line: &[u8]) -> Option<Named> {
+    match read_line(line.strip_suffix(b"\n")?) {
+        Line::Command(Command::Add {
+            head,
+            positives,
+            negatives,
+        }) => Some(Named {
+            head,
+            positives,
+            negatives,
+        }),
+        _ => None,
+    }
 }
 
 fn crowded(random: &mut Random) -> Vec<u8> {

@@ -1,8 +1,9 @@
 //! Random lists of calls written as numbers, whole and spoiled.
 
 use crate::calls::Call;
-use crate::generate::calls::{addition, removal};
+use crate::generate::calls::Calls;
 use crate::random::Random;
+use crate::table::RawTable;
 
 /// What is done to a list of calls once it is written.
 #[derive(Clone, Copy, PartialEq, Eq, Debug)]
@@ -48,12 +49,13 @@ fn whole(random: &mut Random) -> Vec<u32> {
     } else {
         (random.between(0, 120), 25)
     };
+    let mut calls = Calls::on(&RawTable::empty(), atoms, 2 * atoms);
     let mut words = Vec::new();
     for _ in 0..count {
         let call = if random.percent(removals) {
-            removal(random, 2 * atoms)
+            calls.removal(random)
         } else {
-            addition(random, atoms)
+            calls.addition(random)
         };
         words.extend(written(&call));
     }

@@ -9,6 +9,7 @@ use oracle::generate::programs::{program as of_flavour, small, FLAVOURS};
 use oracle::labels::{Label, Labelled};
 use oracle::random::Random;
 use oracle::rules::{held, Program, Rule};
+use std::collections::BTreeSet;
 
 /// A derivation: the slot of its last rule, and one of each positive entry.
 #[derive(Clone)]
@@ -54,7 +55,8 @@ fn least_height(all: &[Derivation]) -> Option<u32> {
 fn narrow_program(random: &mut Random) -> Program {
     let mut program = small(random, 5, 8, 8);
     for rule in program.iter_mut().flatten() {
-        rule.positives.truncate(random.between(1, 2));
+        let most = random.between(1, 2);
+        rule.positives = rule.positives.iter().copied().take(most).collect();
     }
     program
 }
@@ -154,11 +156,7 @@ fn a_derivation_of_least_height_may_end_in_another_rule_than_the_supporting_one(
 
 #[test]
 fn every_derivation_of_a_fact_alone_is_the_fact() {
-    let program = vec![Some(Rule {
-        head: 1,
-        positives: vec![],
-        negatives: vec![],
-    })];
+    let program = vec![Some(Rule::of(1, &[], &[]))];
     let m: AtomSet = [1].into_iter().collect();
     let all = derivations(&program, &m, 1, 9);
     assert_eq!((all.len(), all[0].slot, all[0].height()), (1, 0, 1));
@@ -169,7 +167,7 @@ fn depth_runs_to_the_number_of_atoms_whichever_way_the_slots_go() {
     let chain = |atom: u32| Rule {
         head: atom,
         positives: atom.checked_sub(1).into_iter().collect(),
-        negatives: vec![],
+        negatives: BTreeSet::new(),
     };
     let up: Program = (0..256).map(|atom| Some(chain(atom))).collect();
     let down: Program = up.iter().rev().cloned().collect();

@@ -11,13 +11,16 @@ use oracle::random::Random;
 use oracle::rules::{held, Program};
 use oracle::sound::sound;
 use oracle::table::RawTable;
+use std::collections::BTreeSet;
 
 fn assert_sound_rules(program: &Program) {
     assert_eq!(program.len(), SLOTS);
     assert!(!has_loop_through_negation(program));
     for (slot, rule) in held(program) {
+        let list = |set: &BTreeSet<u32>| set.iter().copied().collect::<Vec<u32>>();
+        let (positives, negatives) = (list(&rule.positives), list(&rule.negatives));
         assert_eq!(
-            rule_from(rule.head, &rule.positives, &rule.negatives).as_ref(),
+            rule_from(rule.head, &positives, &negatives).as_ref(),
             Ok(rule)
         );
         assert!(

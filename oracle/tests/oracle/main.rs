@@ -3,10 +3,12 @@
 mod clingo;
 mod commands;
 mod depths;
+mod drawn_orders;
 mod generators;
 mod loops;
 mod models;
 mod notation;
+mod orders;
 mod refusals;
 mod relations;
 mod replay;

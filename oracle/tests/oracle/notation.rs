@@ -6,20 +6,26 @@ use oracle::rules::{Program, Rule};
 use oracle::sheet::shown;
 use oracle::table::RawTable;
 
-pub fn rule(text: &str) -> Rule {
+/// The head and both lists, in the order in which they are written.
+fn lists(text: &str) -> (u32, Vec<u32>, Vec<u32>) {
     let (head, entries) = text.split_once('<').expect("a rule has a <");
     let number = |token: &str| token.parse().expect("a number");
     let (negatives, positives): (Vec<&str>, Vec<&str>) = entries
         .split_whitespace()
         .partition(|token| token.starts_with('!'));
-    Rule {
-        head: number(head.trim()),
-        positives: positives.into_iter().map(number).collect(),
-        negatives: negatives
+    (
+        number(head.trim()),
+        positives.into_iter().map(number).collect(),
+        negatives
             .into_iter()
             .map(|token| number(&token[1..]))
             .collect(),
-    }
+    )
+}
+
+pub fn rule(text: &str) -> Rule {
+    let (head, positives, negatives) = lists(text);
+    Rule::of(head, &positives, &negatives)
 }
 
 /// The rules in the slots from 0 on, the other slots free.
@@ -31,9 +37,8 @@ pub fn program(rules: &[&str]) -> Program {
 
 /// The slot that the added rule takes, or the number of the refusal.
 pub fn add(table: &mut RawTable, text: &str) -> Result<u32, u32> {
-    let rule = rule(text);
-    calls::add(table, rule.head, &rule.positives, &rule.negatives)
-        .map_err(|refusal| refusal.number())
+    let (head, positives, negatives) = lists(text);
+    calls::add(table, head, &positives, &negatives).map_err(|refusal| refusal.number())
 }
 
 /// The table after adding the rules to the empty one; their slots count from 0.

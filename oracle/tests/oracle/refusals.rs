@@ -2,7 +2,7 @@
 
 use crate::notation::{add, table};
 use oracle::calls::{self, Call};
-use oracle::generate::calls::call;
+use oracle::generate::calls::Calls;
 use oracle::generate::mixed_table;
 use oracle::questions::Refusal;
 use oracle::random::Random;
@@ -16,8 +16,9 @@ fn a_refused_call_changes_no_table_and_writes_no_entry() {
     let mut refused: BTreeMap<u32, usize> = BTreeMap::new();
     for _ in 0..400 {
         let mut table = mixed_table(&mut random);
+        let mut calls = Calls::on(&table, 256, 256);
         for _ in 0..10 {
-            let call = call(&mut random, 256, 256);
+            let call = calls.call(&mut random);
             let mut buffer: Vec<u32> = (0..random.below(6)).map(|_| random.word() as u32).collect();
             let (table_before, buffer_before) = (table.clone(), buffer.clone());
             if let Err(refusal) = call.make(&mut table, &mut buffer) {
@@ -30,7 +31,7 @@ fn a_refused_call_changes_no_table_and_writes_no_entry() {
             }
         }
     }
-    for number in [1, 2, 3, 4, 6, 7, 8, 9, 10, 11, 12, 15] {
+    for number in [1, 2, 3, 4, 5, 6, 7, 8, 9, 10, 11, 12, 15] {
         assert!(
             refused.contains_key(&number),
             "{number} occurs: {refused:?}"
@@ -144,8 +145,9 @@ fn every_accepted_change_leaves_a_sound_table() {
     let mut accepted = 0;
     for _ in 0..100 {
         let mut table = oracle::generate::sound_table(&mut random);
+        let mut calls = Calls::on(&table, 256, 256);
         for _ in 0..5 {
-            let call = call(&mut random, 256, 256);
+            let call = calls.call(&mut random);
             accepted += usize::from(call.make(&mut table, &mut [0; 256]).is_ok());
             assert!(sound(&table), "{call:?}");
         }

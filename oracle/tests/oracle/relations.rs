@@ -37,14 +37,14 @@ fn stopper(table: &RawTable, slot: u32) -> String {
 
 #[test]
 fn the_spoiler_is_the_first_spoiling_entry_positives_read_first() {
-    let table = table(&["1 <", "2 <", "9 < 1 7 6 !2", "8 < 1 !5 !2 !1", "7 < 1 !6"]);
+    let table = table(&["1 <", "2 <", "9 < 7 1 6 !2", "8 < 1 !5 !2 !0", "7 < 1 !6"]);
     let stoppers: Vec<String> = (0..5).map(|slot| stopper(&table, slot)).collect();
     assert_eq!(
         stoppers,
         [
             "valid",
             "valid",
-            "needs 6 at 2",
+            "needs 6 at 1",
             "blocked by 2 at 1",
             "valid"
         ]
@@ -58,7 +58,7 @@ fn an_atom_in_both_lists_spoils_on_the_side_that_its_label_says() {
     assert_eq!(add(&mut table, "7 <"), Ok(2));
     assert_eq!(stopper(&table, 1), "blocked by 7 at 2");
     assert_eq!(add(&mut table, "6 <"), Ok(3));
-    assert_eq!(stopper(&table, 1), "blocked by 6 at 0");
+    assert_eq!(stopper(&table, 1), "blocked by 6 at 1");
     assert_eq!(calls::remove(&mut table, 0), Ok(()));
     assert_eq!(stopper(&table, 1), "needs 1 at 0");
 }
@@ -68,8 +68,20 @@ fn the_last_place_of_either_list() {
     let facts = ["1 <", "2 <", "3 <", "4 <", "5 <", "6 <", "7 <"];
     let needs = table(&[&facts[..], &["9 < 1 2 3 4 5 6 7 8"]].concat());
     assert_eq!(stopper(&needs, 7), "needs 8 at 7");
-    let blocked = table(&["1 <", "9 < !8 !7 !6 !5 !4 !3 !2 !1"]);
-    assert_eq!(stopper(&blocked, 1), "blocked by 1 at 7");
+    let blocked = table(&["8 <", "9 < !8 !7 !6 !5 !4 !3 !2 !1"]);
+    assert_eq!(stopper(&blocked, 1), "blocked by 8 at 7");
+}
+
+#[test]
+fn first_and_place_follow_the_kept_order_not_the_order_given() {
+    let mut table = table(&["1 <", "9 < 7 1 4", "8 < !6 !1 !0"]);
+    assert_eq!(stopper(&table, 1), "needs 4 at 1");
+    assert_eq!(stopper(&table, 2), "blocked by 1 at 1");
+    assert_eq!(add(&mut table, "6 <"), Ok(3));
+    assert_eq!(stopper(&table, 2), "blocked by 1 at 1");
+    assert_eq!(calls::remove(&mut table, 0), Ok(()));
+    assert_eq!(stopper(&table, 1), "needs 1 at 0");
+    assert_eq!(stopper(&table, 2), "blocked by 6 at 2");
 }
 
 #[test]

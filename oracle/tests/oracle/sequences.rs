@@ -2,7 +2,7 @@
 
 use oracle::book::Book;
 use oracle::calls::{self, Answer, Call, Validity};
-use oracle::generate::calls::call;
+use oracle::generate::calls::Calls;
 use oracle::labels::Labelled;
 use oracle::model::admissible_models;
 use oracle::questions::Refusal;
@@ -58,8 +58,9 @@ fn follow(
 ) -> BTreeMap<u32, usize> {
     let mut answers = BTreeMap::new();
     let mut buffer = [0; 256];
+    let mut drawn = Calls::on(table, size.0, size.1);
     for _ in 0..calls {
-        let call = call(random, size.0, size.1);
+        let call = drawn.call(random);
         let answer = call.make(table, &mut buffer).map_err(Refusal::number);
         if let Some(expected) = book_answer(book, &call) {
             assert_eq!(answer, expected, "{call:?} in {book:?}");

@@ -2,7 +2,7 @@
 
 use crate::notation::table;
 use oracle::generate::damage::{damaged, Field, FIELDS};
-use oracle::generate::faults::{faulty, FAULTS};
+use oracle::generate::faults::{faulty, Fault, FAULTS};
 use oracle::generate::programs::{program, Flavour};
 use oracle::generate::{sound_table, table_of};
 use oracle::random::Random;
@@ -132,10 +132,44 @@ fn repeated_atoms_same_rules_and_loops_through_a_negation_are_unsound() {
 }
 
 #[test]
-fn the_same_atoms_in_another_order_are_another_rule() {
-    assert!(sound(&table(&[
-        "1 < 2 3", "1 < 3 2", "1 < 2 !3", "1 < 3 !2"
-    ])));
+fn the_same_atoms_in_another_order_are_unsound_in_another_slot_and_in_their_own() {
+    let ordered = table(&["1 < 2 3"]);
+    let mut unordered = ordered.clone();
+    unordered.rules[0].entries[..2].reverse();
+    let mut both = ordered.clone();
+    both.rules[1] = unordered.rules[0];
+    assert!(sound(&ordered) && !sound(&unordered) && !sound(&both));
+}
+
+#[test]
+fn each_list_ascends_by_itself() {
+    assert!(sound(&table(&["9 < 2 3 !1", "9 < 3 !1 !2", "9 < 3 !2"])));
+    let whole = table(&["9 < 2 4 5 !1 !3 !6"]);
+    for (one, other) in [(0, 1), (1, 2), (0, 2), (3, 4), (4, 5), (3, 5)] {
+        let mut swapped = whole.clone();
+        swapped.rules[0].entries.swap(one, other);
+        assert!(!sound(&swapped), "{one} and {other}");
+    }
+}
+
+#[test]
+fn an_entry_moved_to_the_other_list_is_judged_by_the_order_it_comes_to_stand_in() {
+    let mut random = Random::seeded(65);
+    let mut seen = [0, 0];
+    for _ in 0..600 {
+        let table = faulty(&mut random, Fault::MovedEnd);
+        let ascends = |list: &[u16]| list.windows(2).all(|pair| pair[0] < pair[1]);
+        let ordered = table.rules.iter().all(|raw| {
+            let (positives, rest) = raw.entries.split_at(raw.positives.into());
+            ascends(positives) && ascends(&rest[..raw.negatives.into()])
+        });
+        assert_eq!(sound(&table), ordered);
+        seen[usize::from(ordered)] += 1;
+    }
+    assert!(
+        seen.iter().all(|&count| count > 100),
+        "both occur: {seen:?}"
+    );
 }
 
 #[test]
@@ -171,7 +205,7 @@ fn generated_tables_are_sound_and_each_kind_of_damage_is_noticed() {
 fn each_fault_is_noticed() {
     let mut random = Random::seeded(64);
     let mut unsound = [0; FAULTS.len()];
-    for round in 0..1_000 {
+    for round in 0..200 * FAULTS.len() {
         let kind = round % FAULTS.len();
         unsound[kind] += usize::from(!sound(&faulty(&mut random, FAULTS[kind])));
     }

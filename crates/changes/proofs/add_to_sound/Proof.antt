@@ -35,8 +35,9 @@ other :
     ≡ false
 other c =
     let made = c .before .before .before in
-    same-told _ (made .make-rule .result) (made .make-rule .ensures) _ _ false (c .before .holds-same .ensures)
-    (c .if2 .left)
+    let s = made .before .before .before .before .before in
+    same-told (s .args .table) (s .pre) (named s) (pass (made .before)) (made .make-rule .result)
+    (made .make-rule .ensures) _ false (c .before .holds-rule .ensures) (c .if2 .left)
 
 first-no-requires : tie.Need-first-no-requires
 first-no-requires c κs = tt
@@ -59,8 +60,8 @@ returns c =
 make-rule-requires : tie.Need-make-rule-requires
 make-rule-requires c κs = pass c
 
-holds-same-requires : tie.Need-holds-same-requires
-holds-same-requires c κs = tt
+holds-rule-requires : tie.Need-holds-rule-requires
+holds-rule-requires c κs = tt
 
 refuse-requires-2 : tie.Need-refuse-requires-2
 refuse-requires-2 c κs = tt
@@ -72,8 +73,8 @@ returns-2 c =
     let s = made .before .before .before .before .before in
     handed-back (s .args .table) (named s) _ _ (c .refuse2 .ensures)
     (refused-same (s .args .table) (s .pre) (named s) (pass (made .before))
-    (same-told _ (made .make-rule .result) (made .make-rule .ensures) _ _ _ (holds .holds-same .ensures)
-    (c .before .if2 .taken)))
+    (same-told (s .args .table) (s .pre) (named s) (pass (made .before)) (made .make-rule .result)
+    (made .make-rule .ensures) _ _ (holds .holds-rule .ensures) (c .before .if2 .taken)))
 
 lowest-free-requires : tie.Need-lowest-free-requires
 lowest-free-requires c κs = tt
@@ -151,7 +152,7 @@ add-to-sound-spec =
     refuse-requires
     returns
     make-rule-requires
-    holds-same-requires
+    holds-rule-requires
     refuse-requires-2
     returns-2
     lowest-free-requires

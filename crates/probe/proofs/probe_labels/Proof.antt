@@ -31,17 +31,17 @@ slots-well-formed-requires c κs = tt
 returns : tie.Need-returns
 returns c = unfit (λ F. refused _ (c .before .slots-well-formed .ensures) (c .if1 .taken) (F .slots))
 
-no-two-same-requires : tie.Need-no-two-same-requires
-no-two-same-requires c κs = tt
+no-two-equal-requires : tie.Need-no-two-equal-requires
+no-two-equal-requires c κs = tt
 
 returns-2 : tie.Need-returns-2
-returns-2 c = unfit (λ F. refused _ (c .before .no-two-same .ensures) (c .if2 .taken) (F .single))
+returns-2 c = unfit (λ F. refused _ (c .before .no-two-equal .ensures) (c .if2 .taken) (F .single))
 
 -- the rules fit
 fit : (c : tie.Else2) → RulesFit (c .before .before .before .before .before .args .table)
 fit c = record {
   slots = well (c .before .before);
-  single = granted _ (c .before .no-two-same .ensures) (c .if2 .left);
+  single = granted _ (c .before .no-two-equal .ensures) (c .if2 .left);
 }
 
 labels-of-requires : tie.Need-labels-of-requires
@@ -64,7 +64,7 @@ probe-labels-spec =
     (tie.spec
     slots-well-formed-requires
     returns
-    no-two-same-requires
+    no-two-equal-requires
     returns-2
     labels-of-requires
     returns-3

@@ -1,5 +1,5 @@
 -- `slots::key` meets its contract: what was mixed in and what is left give the whole. Assumes nothing.
-use Prim.Native.Nat.{_-_, _≤_, _<_}
+use Prim.Native.Nat.{_-_, _<_}
 use native.Mathlib.Omega.{arith}
 use mathlib.Core.Path.{_≡_, refl, _∙_, ap}
 use lib.ListN.{length, length-map}
@@ -18,7 +18,7 @@ abbrev Inv-loop : tie.InvT-loop
 Inv-loop rule n k₀ j₀ k j = (k < 65536) × (mixed k (numbers (slice j n (rule .entries))) ≡ key (ruleOf rule))
 
 abbrev μ-loop : tie.MeasureT-loop
-μ-loop rule n k₀ j₀ k j = n - j
+μ-loop rule n k₀ j₀ k j = document .entries - j
 
 -- what owning the rule tells of its entries
 long : (s : tie.Start Inv-loop μ-loop) → length (s .args .t1 .entries) ≡ document .entries

@@ -8,7 +8,7 @@ use Rattle.table.specs.Clean.{WellFormed}
 use Rattle.questions.proofs.Cleanness.{is-not}
 use Rattle.questions.proofs.Passes.{refused, granted}
 use Rattle.sound.proofs.Soundness.{sound-well-formed, sound-kept, sound-occurrence, sound-of}
-use Rattle.sound.proofs.Soundness.{well-formed-bounded}
+use Rattle.sound.proofs.Soundness.{sound-single, well-formed-bounded}
 use Rattle.sound.proofs.sound.Statement.{statement}
 use Rattle.sound.proofs.sound.Tie as tie
 
@@ -69,11 +69,16 @@ returns-4 c =
     let t = s .args .table in
     is-not (λ S. refused _ (c .before .occurrence-kept .ensures) (c .if4 .taken) (sound-occurrence t n m S))
 
-no-two-same-requires : tie.Need-no-two-same-requires
-no-two-same-requires c κs = tt
+no-two-equal-requires : tie.Need-no-two-equal-requires
+no-two-equal-requires c κs = tt
 
 returns-5 : tie.Need-returns-5
-returns-5 c = is-not (λ S. refused _ (c .before .no-two-same .ensures) (c .if5 .taken) (S .labels .single))
+returns-5 c =
+    let s = c .before .before .before .before .before .before .before .before .before .before .before .before in
+    let n = rules-long s in
+    let m = labels-long s in
+    let t = s .args .table in
+    is-not (λ S. refused _ (c .before .no-two-equal .ensures) (c .if5 .taken) (sound-single t n m S))
 
 acyclic-requires : tie.Need-acyclic-requires
 acyclic-requires c κs =
@@ -89,7 +94,7 @@ returns-6 c =
     let n = rules-long s in
     let m = labels-long s in
     let t = s .args .table in
-    let same = c .before in
+    let single = c .before in
     let occurs = c .before .before .before in
     let kept = c .before .before .before .before .before in
     let clean = c .before .before .before .before .before .before .before in (
@@ -98,7 +103,7 @@ returns-6 c =
           (granted _ (clean .before .labels-clean .ensures) (clean .if2 .left))
           (granted _ (kept .before .certified .ensures) (kept .if3 .left))
           (granted _ (occurs .before .occurrence-kept .ensures) (occurs .if4 .left))
-          (granted _ (same .before .no-two-same .ensures) (same .if5 .left))
+          (granted _ (single .before .no-two-equal .ensures) (single .if5 .left))
           (c .acyclic .ensures .0 u),
       λ S. c .acyclic .ensures .1 (S .labels .acyclic),
     )
@@ -115,7 +120,7 @@ sound-spec =
     returns-3
     occurrence-kept-requires
     returns-4
-    no-two-same-requires
+    no-two-equal-requires
     returns-5
     acyclic-requires
     returns-6)

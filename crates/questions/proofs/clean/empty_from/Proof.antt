@@ -1,27 +1,29 @@
 -- `questions::clean::empty_from` meets its contract. Assumes nothing.
--- The loop keeps: the entries read so far are as in the empty table.
-use Prim.Native.Nat.{_-_, _≤_}
+-- The loop keeps: the sum is 0 exactly if the entries read so far are as in the empty table.
+use Prim.Native.Nat.{_-_, _*_, _≤_}
 use native.Mathlib.Omega.{arith}
-use mathlib.Core.Path.{_≡_, refl, ap}
+use mathlib.Core.Path.{_≡_, refl}
+use mathlib.Core.Logic.{_↔_}
 use lib.ListN.{length, length-map}
 use borrow.Author.Needs.{needs}
 use Rattle.theory.specs.Limits.{document}
-use Rattle.questions.proofs.Cleanness.{is-not, Empty, empty-more, empty-all}
+use Rattle.questions.proofs.Cleanness.{Empty, sum-more, sum-all}
 use Rattle.questions.proofs.clean.empty_from.Statement.{statement}
 use Rattle.questions.proofs.clean.empty_from.Tie as tie
 
 abbrev Inv-loop : tie.InvT-loop
-Inv-loop from rule j₀ j = (from ≤ j) × Empty (rule .entries) from j
+Inv-loop from rule sum₀ j₀ sum j =
+    (from ≤ j) × (sum ≤ 65535 * (j - from)) × ((sum ≡ 0) ↔ Empty (rule .entries) from j)
 
 abbrev μ-loop : tie.MeasureT-loop
-μ-loop from rule j₀ j = document .entries - j
+μ-loop from rule sum₀ j₀ sum j = document .entries - j
 
 -- what owning the rule tells of its entries
 long : (s : tie.Start Inv-loop μ-loop) → length (s .args .t1 .entries) ≡ document .entries
 long s = simp length-map at (s .good .0 .1 .1 .1 .1 .1 .1 .0 .1 .0 .1)
 
 loop-holds : tie.Need-loop-holds Inv-loop μ-loop
-loop-holds c = (search needs, λ i l k. absurd (omega arith))
+loop-holds c = (omega arith, omega arith, (λ z i l k. absurd (omega arith), λ h. refl))
 
 mul-a : tie.Need-mul-a Inv-loop μ-loop
 mul-a c = search needs
@@ -29,8 +31,11 @@ mul-a c = search needs
 element-copy-out-a : tie.Need-element-copy-out-a Inv-loop μ-loop
 element-copy-out-a c = search needs
 
-returns : tie.Need-returns Inv-loop μ-loop
-returns c = is-not (λ h. c .if1 .taken (ap (λ a. a .0) (h _ (c .before .before .before .before .loop .inv .0))))
+cast-sum : tie.Need-cast-sum Inv-loop μ-loop
+cast-sum c = search needs
+
+add-sum : tie.Need-add-sum Inv-loop μ-loop
+add-sum c = omega (arith, c .struct-known .given)
 
 add-j : tie.Need-add-j Inv-loop μ-loop
 add-j c = search needs
@@ -40,14 +45,19 @@ loop-less c = search needs
 
 loop-again : tie.Need-loop-again Inv-loop μ-loop
 loop-again c =
-    let l = c .before .before .before .before in
-    (search needs, empty-more (l .before .args .t1 .entries) _ _ (l .loop .inv .1) (c .if1 .left))
+    let l = c .before .before .before in (
+      omega arith,
+      omega (arith, c .struct-known .given),
+      sum-more (l .before .args .t1 .entries) (l .before .args .from) (l .loop .j) (l .loop .sum) (l .loop .inv .2)
+          (l .loop .inv .0),
+    )
 
-returns-2 : tie.Need-returns-2 Inv-loop μ-loop
-returns-2 c =
-    let s = c .before .before in
-    let l = long s in
-    (λ t. empty-all (s .args .t1 .entries) _ (c .before .loop .j) (omega arith) (c .before .loop .inv .1), λ h. refl)
+returns : tie.Need-returns Inv-loop μ-loop
+returns c =
+    let l = c .before in
+    let n = long (l .before) in
+    sum-all (l .before .args .t1 .entries) (l .before .args .from) (l .loop .j) (l .loop .sum) (l .loop .inv .2)
+    (omega arith)
 
 pub empty-from-spec : {M : Type 1} → statement M
 empty-from-spec =
@@ -58,8 +68,9 @@ empty-from-spec =
     loop-holds
     mul-a
     element-copy-out-a
-    returns
+    cast-sum
+    add-sum
     add-j
     loop-less
     loop-again
-    returns-2)
+    returns)

@@ -1,24 +1,23 @@
--- `rule::same` meets its contract. Assumes nothing.
--- The loop keeps: the rules are the same exactly if the entries that are left agree.
+-- `rule::equal` meets its contract. Assumes nothing.
+-- The loop keeps: the rules are equal exactly if the entries that are left are equal in number.
 use Prim.Native.Nat.{_-_, _≤_}
 use native.Mathlib.Omega.{arith}
-use mathlib.Core.Path.{_≡_, sym, _∙_}
+use mathlib.Core.Path.{_≡_}
+use mathlib.Core.Logic.{_↔_}
 use lib.ListN.{length, length-map}
 use lib.Seq.{slice}
 use borrow.Author.Needs.{needs}
-use Rattle.theory.specs.Lists.{agree}
-use Rattle.theory.specs.Rules.{same}
 use Rattle.theory.specs.Limits.{document}
 use Rattle.table.specs.Rules.{numbers, ruleOf}
-use Rattle.rule.proofs.Sameness.{other-head, other-positives, other-negatives}
-use Rattle.rule.proofs.Sameness.{same-all, agree-over, agree-next, agree-stop}
-use Rattle.rule.proofs.same.Statement.{statement}
-use Rattle.rule.proofs.same.Tie as tie
+use Rattle.rule.proofs.Equality.{other-head, other-positives, other-negatives}
+use Rattle.rule.proofs.Equality.{equal-from, equal-over, equal-next, equal-stop}
+use Rattle.rule.proofs.equal.Statement.{statement}
+use Rattle.rule.proofs.equal.Tie as tie
 
 abbrev Inv-loop : tie.InvT-loop
 Inv-loop a b p q n m j₀ j =
     (n ≤ document .entries)
-    × (agree (numbers (slice j n (a .entries))) (numbers (slice j n (b .entries))) ≡ same (ruleOf a) (ruleOf b))
+    × ((numbers (slice j n (a .entries)) ≡ numbers (slice j n (b .entries))) ↔ (ruleOf a ≡ ruleOf b))
 
 abbrev μ-loop : tie.MeasureT-loop
 μ-loop a b p q n m j₀ j = n - j
@@ -63,7 +62,7 @@ loop-holds : tie.Need-loop-holds Inv-loop μ-loop
 loop-holds c =
     let c2 = c .before .before .before in
     let s = c2 .before .before .before .before in
-    let e = same-all (s .args .t1) (s .args .t2) (document .entries) (long-a s) (long-b s) _ _
+    let e = equal-from (s .args .t1) (s .args .t2) (document .entries) (long-a s) (long-b s) _ _
     (c2 .before .before .positive-end .ensures) (c2 .before .positive-end2 .ensures)
     _ _ (c .before .before .negative-end .ensures) (c .before .negative-end2 .ensures)
     (c2 .if2 .left) (c .if3 .left) (c2 .before .before .before .if1 .left) in
@@ -88,9 +87,8 @@ returns-4 c =
     let s = l .before .before .before .before .before .before .before .before in
     let la = long-a s in
     let lb = long-b s in
-    sym (agree-stop (s .args .t1 .entries) (s .args .t2 .entries) _ _
-    (t .loop-test .taken) (omega arith) (omega arith) (c .if4 .taken))
-    ∙ l .loop .inv .1
+    equal-stop (s .args .t1 .entries) (s .args .t2 .entries) _ _ _ _ (l .loop .inv .1)
+    (t .loop-test .taken) (omega arith) (omega arith) (c .if4 .taken)
 
 add-j : tie.Need-add-j Inv-loop μ-loop
 add-j c = search needs
@@ -105,15 +103,17 @@ loop-again c =
     let s = l .before .before .before .before .before .before .before .before in
     let la = long-a s in
     let lb = long-b s in
-    let e = sym (agree-next (s .args .t1 .entries) (s .args .t2 .entries) _ _
-    (t .loop-test .taken) (omega arith) (omega arith) (c .if4 .left)) ∙ l .loop .inv .1 in
+    let e = equal-next (s .args .t1 .entries) (s .args .t2 .entries) _ _ _ _ (l .loop .inv .1)
+    (t .loop-test .taken) (omega arith) (omega arith) (c .if4 .left) in
     (l .loop .inv .0, e)
 
 returns-5 : tie.Need-returns-5 Inv-loop μ-loop
-returns-5 c = sym (agree-over _ _ _ _ (c .loop-test .left)) ∙ c .before .loop .inv .1
+returns-5 c =
+    let s = c .before .before .before .before .before .before .before .before .before in
+    equal-over (s .args .t1 .entries) (s .args .t2 .entries) _ _ _ _ (c .before .loop .inv .1) (c .loop-test .left)
 
-pub same-spec : {M : Type 1} → statement M
-same-spec =
+pub equal-spec : {M : Type 1} → statement M
+equal-spec =
     tie.close
     (tie.spec
     Inv-loop
