@@ -17,7 +17,7 @@ use Rattle.theory.specs.Questions.{first-no, rule-questions}
 use Rattle.theory.specs.Limits.{document}
 use Rattle.theory.proofs.Lists.{test, clash, eqb-eq, eqb-of}
 use Rattle.theory.proofs.Sameness.{ascending-same}
-use Rattle.theory.proofs.Questions.{other-set}
+use Rattle.theory.proofs.Questions.{other-set, passed-bounded}
 use Rattle.table.specs.declared.Rule.{Rule}
 use Rattle.table.specs.declared.Label.{Label}
 use Rattle.table.specs.declared.Table.{Table}
@@ -27,7 +27,6 @@ use Rattle.table.specs.Sound.{Sound}
 use Rattle.table.proofs.Programs.{program-length, program-set}
 use Rattle.calls.specs.Contracts.{held, Sized}
 use Rattle.labels.specs.Labelling.{Labels}
-use Rattle.sound.proofs.Soundness.{bounded-of}
 
 -- Where every rule of Q is held by P, a path by Q is one by P.
 module _ (P Q : Program) (kept : (s : ℕ) (r : theory.Rule) → Held Q s r → Held P s r) where
@@ -92,7 +91,7 @@ module _ (t : Table) (S : Sound t) (s : ℕ) (inside : s < document .slots) (r :
         ⊎-elim (λ w. ascending q (w .1)) (λ w. S .labels .ascending k q (w .1)) (held-after k q h)
 
     pub bounded-after : Bounded (programOf after) (document .atoms)
-    bounded-after = bounded-of document (programOf after) passes-after
+    bounded-after = passed-bounded document (programOf after) passes-after
 
     single-after :
         (j k : ℕ) (p q : theory.Rule) → Held (programOf after) j p → Held (programOf after) k q → same p q ≡ true

@@ -27,7 +27,8 @@ use Rattle.table.specs.Sound.{Sound}
 use Rattle.table.specs.declared.kept.Kept.{Kept}
 use Rattle.table.specs.Kept.{KeptOf}
 use Rattle.table.proofs.KeptFields.{flags-are, slots-are}
-use Rattle.sound.proofs.Soundness.{bounded-of, kept-certified, sound-kept, sound-occurrence}
+use Rattle.theory.proofs.Questions.{passed-bounded}
+use Rattle.sound.proofs.Soundness.{kept-certified, sound-kept, sound-occurrence}
 use Rattle.calls.specs.declared.Refusal.{Refusal}
 use Rattle.calls.specs.declared.Asked.{Asked}
 use Rattle.calls.specs.declared.Asked.the-variants.{Passed, Refused}
@@ -46,7 +47,7 @@ use Rattle.listing.proofs.Lists.{flags-list}
 
 -- Every atom of a sound table's rules is below the number of atoms.
 pub sound-bounded : (t : Table) → Sound t → Bounded (held t) (document .atoms)
-sound-bounded t S = bounded-of document (held t) (S .labels .passes)
+sound-bounded t S = passed-bounded document (held t) (S .labels .passes)
 
 -- What a sound table keeps is what is defined. The in atoms kept are the model.
 module _ (t : Table) (slots : length (t .rules) ≡ document .slots) (atoms : length (t .labels) ≡ document .atoms)

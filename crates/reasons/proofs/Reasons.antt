@@ -23,7 +23,7 @@ use Rattle.theory.proofs.Rules.{held-unique, valid-positive}
 use Rattle.theory.proofs.Derivations.{last}
 use Rattle.theory.proofs.Depths.{depth-unique}
 use Rattle.theory.proofs.Labels.{supporting-unique, in-occurs}
-use Rattle.theory.proofs.Questions.{held-below, first-no-yes, first-no-here}
+use Rattle.theory.proofs.Questions.{held-below, first-no-yes, first-no-here, passed-bounded}
 use Rattle.table.specs.declared.Atom.{Atom}
 use Rattle.table.specs.declared.Label.{Label}
 use Rattle.table.specs.declared.Table.{Table}
@@ -41,7 +41,6 @@ use Rattle.calls.specs.declared.ListAnswer.the-variants as listed
 use Rattle.calls.specs.declared.Refusal.the-variants.{Buffer}
 use Rattle.calls.specs.Contracts.{ReasonEnds, short, accepted}
 use Rattle.calls.proofs.Asking.{Passes, passes-low}
-use Rattle.sound.proofs.Soundness.{bounded-of}
 use Rattle.gathering.specs.Kept.{KeptIn, slotAt, positivesAt, EntriesOf, Slotted, KeptEntry}
 use Rattle.gathering.specs.Gathering.{Leads, Falling, Gathers}
 use Rattle.gathering.specs.Gathering as gathering
@@ -137,7 +136,7 @@ module _ (t : Table) (long : length (t .labels) ≡ document .atoms) (sound : So
   in-below : (x : ℕ) → M x ≡ true → x < document .atoms
   in-below x u =
       let w = in-occurs P M founded x u in
-      bounded-of document P (sound .labels .passes) (w .slot) (w .rule) (w .held) x (w .there)
+      passed-bounded document P (sound .labels .passes) (w .slot) (w .rule) (w .held) x (w .there)
 
   state-below : (x : ℕ) → 2 ≤ at x .state → x < document .atoms
   state-below x l = ⊎-elim

@@ -3,20 +3,18 @@ use Prim.Native.Nat.{ℕ, _≤_, _<_}
 use native.Mathlib.Omega.{arith}
 use mathlib.Core.Path.{_≡_, refl, sym, _∙_, ap, subst}
 use mathlib.Core.Logic.{⊎-elim}
-use mathlib.Core.Bool.{Bool, true, false}
-use mathlib.Core.List.{List, _∷_, List·Memᴰ·head, List·Memᴰ·cases-cons}
-use mathlib.Core.Option.{Option, none, some, Option·none-ne-some}
-use lib.Dec.{ltb}
+use mathlib.Core.Bool.{true}
+use mathlib.Core.List.{List·Memᴰ·head}
+use mathlib.Core.Option.{none, some, Option·none-ne-some}
 use lib.ListN.{length, getD, length-map, List·getD-eq-default}
-use Rattle.theory.specs.Lists.{_∈_, every}
-use Rattle.theory.specs.Rules.{Rule, Program, Held, Occurs, Bounded, Ascending, entries, same}
+use Rattle.theory.specs.Rules.{Rule, Program, Held, Occurs, Bounded, Ascending, same}
 use Rattle.theory.specs.Dependencies.{NegativeCycle}
 use Rattle.theory.specs.Labels.{Label, absent, out, in-at, Labelled, is-absent}
-use Rattle.theory.specs.Limits.{Limits}
-use Rattle.theory.specs.Questions.{Question, first-no, rule-questions, is-in-label}
+use Rattle.theory.specs.Questions.{first-no, rule-questions, is-in-label}
 use Rattle.theory.specs.Limits.{document}
 use Rattle.theory.specs.Certificate.{kept-in, kept-depth, kept-slot, depth-in, slot-in}
-use Rattle.theory.proofs.Lists.{test, ltb-lt, every-at, le-or-lt}
+use Rattle.theory.proofs.Lists.{le-or-lt}
+use Rattle.theory.proofs.Questions.{passed-bounded}
 use Rattle.theory.proofs.Sameness.{ascending-same}
 use Rattle.theory.proofs.Certificate.{Certified, certified-admissible, certified-labels, labels-certified}
 use Rattle.table.specs.declared.Table.{Table}
@@ -28,31 +26,6 @@ use Rattle.slots.specs.Slots.{Single}
 use Rattle.certificate.specs.Certificate.{Confirmed}
 use Rattle.sound.specs.Occurrence.{OccurrenceKept}
 use Rattle.table.proofs.Programs.{program-at}
-
--- Where no question is answered no, the first is answered yes, and none of the rest is answered no.
-all-yes : (q : Question) (qs : List Question) → first-no (q ∷ qs) ≡ none → (q .yes? ≡ true) × (first-no qs ≡ none)
-unfolding first-no
-all-yes q qs e = ⊎-elim
-    (λ (t : q .yes? ≡ true). (t, sym (ap answer t) ∙ e))
-    (λ (t : q .yes? ≡ false). absurd (Option·none-ne-some (q .number) (sym e ∙ ap answer t)))
-    (test (q .yes?))
-  where
-    answer : Bool → Option ℕ
-    answer b = elim b [ true ↦ first-no qs | false ↦ some (q .number) ]
-
--- Rules that pass questions 1 and 3 name only atoms below the limit.
-pub bounded-of :
-    (limits : Limits) (P : Program)
-    → ((s : ℕ) (r : Rule) → Held P s r → first-no (rule-questions limits r) ≡ none) → Bounded P (limits .atoms)
-bounded-of limits P f s r h x m =
-    let one = all-yes _ _ (f s r h) in
-    let two = all-yes _ _ (one .1) in
-    let three = all-yes _ _ (two .1) in
-    ⊎-elim
-    (λ (e : x ≡ r .head). (let l = ltb-lt (r .head) (limits .atoms) (one .0) in omega arith))
-    (λ (i : x ∈ entries r). ltb-lt x (limits .atoms)
-    (every-at (λ y. ltb y (limits .atoms)) (entries r) (three .0) x i))
-    (List·Memᴰ·cases-cons m)
 
 -- The local conditions, slot by slot and atom by atom.
 module _ (P : Program) (label : ℕ → Label) where
@@ -146,7 +119,7 @@ module _ (t : Table) (slots : length (t .rules) ≡ document .slots) (atoms : le
       U s u r (h ∙ ap some e) g
 
   pub well-formed-bounded : WellFormedSlots → Bounded P (document .atoms)
-  well-formed-bounded W = bounded-of document P (well-formed-passes W)
+  well-formed-bounded W = passed-bounded document P (well-formed-passes W)
 
   -- What a sound table has.
   module _ (S : Sound t) where
@@ -169,7 +142,7 @@ module _ (t : Table) (slots : length (t .rules) ≡ document .slots) (atoms : le
         let e : label a ≡ absent = ap labelOf (List·getD-eq-default (t .labels) absentLabel (omega arith)) in
         subst (λ (z : Label). Labelled P (S .labels .model) a z) (sym e)
         (is-absent (λ o. (
-        let k = bounded-of document P (S .labels .passes) (o .slot) (o .rule) (o .held) a (o .there) in
+        let k = passed-bounded document P (S .labels .passes) (o .slot) (o .rule) (o .held) a (o .there) in
         omega arith)))))
         (λ (l : a < document .atoms). S .labels .labels a l)
         (le-or-lt (document .atoms) a)

@@ -12,7 +12,7 @@ use lib.ListN.{getD, length, length-set, set, List·getD-map}
 use Rattle.theory.specs.Lists.{_∈_}
 use Rattle.theory.specs.Rules.{entries, Held, kept, Occurs, Program, Rule}
 use Rattle.theory.specs.Models.{Admissible, AtomSet, next, Ordered, start, valid}
-use Rattle.theory.specs.Dependencies.{DependencyPath, here, negative, NegativeCycle, Negatively, positive}
+use Rattle.theory.specs.Dependencies.{DependencyPath, Depends, here, negative, NegativeCycle, Negatively, positive}
 use Rattle.theory.specs.Dependencies.{Positively}
 use Rattle.theory.specs.Derivations.{also, by, Depth, Derivation, Derivations, leaf}
 use Rattle.theory.specs.Labels.{is-absent, is-in, is-out, Label, Labelled, Supports}
@@ -80,32 +80,29 @@ SameRules P Q = (s : ℕ) (r : Rule) → Held P s r → (q : Rule) × Held Q s q
 
 -- What Q has then of what P has.
 module _ (P Q : Program) (there : SameRules P Q) where
-  depends-positively : {a x : ℕ} → Positively P a x → Positively Q a x
-  depends-positively {a} {x} d =
+  depends-too :
+      (list : Rule → List ℕ) → ((q r : Rule) → SameAtoms q r → (x : ℕ) → x ∈ list q → x ∈ list r) → (a x : ℕ)
+      → Depends P list a x → Depends Q list a x
+  depends-too list same-list a x d =
       let w = there (d .slot) (d .rule) (d .held) in
       record {
         slot = d .slot;
         rule = w .0;
         held = w .1;
         heads = sym (w .2 .heads) ∙ d .heads;
-        entry = w .2 .positives x .0 (d .entry);
+        entry = same-list (d .rule) (w .0) (w .2) x (d .entry);
       }
 
-  depends-negatively : {a x : ℕ} → Negatively P a x → Negatively Q a x
-  depends-negatively {a} {x} d =
-      let w = there (d .slot) (d .rule) (d .held) in
-      record {
-        slot = d .slot;
-        rule = w .0;
-        held = w .1;
-        heads = sym (w .2 .heads) ∙ d .heads;
-        entry = w .2 .negatives x .0 (d .entry);
-      }
+  positively-too : (a x : ℕ) → Positively P a x → Positively Q a x
+  positively-too = depends-too (λ r. r .positives) (λ q r s x. s .positives x .0)
+
+  negatively-too : (a x : ℕ) → Negatively P a x → Negatively Q a x
+  negatively-too = depends-too (λ r. r .negatives) (λ q r s x. s .negatives x .0)
 
   path-too : {a c k : ℕ} → DependencyPath P a c k → DependencyPath Q a c k
   path-too (here e) = here e
-  path-too (positive d w) = positive (depends-positively d) (path-too w)
-  path-too (negative d w) = negative (depends-negatively d) (path-too w)
+  path-too (positive d w) = positive (positively-too _ _ d) (path-too w)
+  path-too (negative d w) = negative (negatively-too _ _ d) (path-too w)
 
   cycle-too : NegativeCycle P → NegativeCycle Q
   cycle-too c = record { atom = c .atom; further = c .further; cycle = path-too (c .cycle) }
@@ -155,10 +152,10 @@ alike-sym P Q A = record { there = A .back; back = A .there }
 
 -- Their dependencies, paths and loops through a negation agree.
 pub alike-positively : (P Q : Program) → Alike P Q → (a x : ℕ) → Positively P a x ↔ Positively Q a x
-alike-positively P Q A a x = (depends-positively P Q (A .there), depends-positively Q P (A .back))
+alike-positively P Q A a x = (positively-too P Q (A .there) a x, positively-too Q P (A .back) a x)
 
 pub alike-negatively : (P Q : Program) → Alike P Q → (a x : ℕ) → Negatively P a x ↔ Negatively Q a x
-alike-negatively P Q A a x = (depends-negatively P Q (A .there), depends-negatively Q P (A .back))
+alike-negatively P Q A a x = (negatively-too P Q (A .there) a x, negatively-too Q P (A .back) a x)
 
 pub alike-cycle : (P Q : Program) → Alike P Q → NegativeCycle P ↔ NegativeCycle Q
 alike-cycle P Q A = (cycle-too P Q (A .there), cycle-too Q P (A .back))
