@@ -1,10 +1,11 @@
 /*
- * Yeqontur: the rule table behind status labels. docs/GUIDE.md is the guide, bindings/c/guide.c a whole program.
+ * Yeqontur: the rule table behind status labels. docs/GUIDE.md is the guide, bindings/c/guide.c a whole program, and
+ * bindings/c/restart.c one that keeps its table in a file.
  *
- * Every call takes any numbers, lists, lengths and bytes of a table, and answers a result or one numbered refusal. A
- * refused call hands the table back as it came and writes no buffer entry. A list or buffer has the entries that its
- * length says; of length 0 it may be NULL. A list that makes a rule too long (refusal 2) is not read, whatever its
- * length says.
+ * Every call takes any numbers, lists, lengths and bytes of a table or a file, and answers a result or one numbered
+ * refusal. A refused call hands the table back as it came, or the empty one where it takes none, and writes no buffer
+ * entry. A list or buffer has the entries that its length says; of length 0 it may be NULL. A list that makes a rule
+ * too long (refusal 2) is not read, whatever its length says, nor is a file whose length is wrong (refusal 16).
  *
  * Nothing is allocated or kept, so any number of threads may call at once; a thread with 128 KB of stack can make any
  * call.
@@ -24,6 +25,9 @@ extern "C" {
 #define YEQONTUR_SLOTS 256
 #define YEQONTUR_ATOMS 256
 #define YEQONTUR_ENTRIES 8
+
+/* The most bytes that a saved table has: 256 rules, 22 to a block, are 12 blocks of 512 bytes. */
+#define YEQONTUR_FILE_BYTES 6144
 
 /* A slot: free (state 0) or with one rule (state 1): the head is in if every positive entry is in and no negative one
  * is. The entries are the positive list, then the negative list, each ascending, in whatever order an addition named
@@ -63,9 +67,15 @@ typedef struct {
  *    8  the slot number is not below 256
  *    9  the slot holds no rule
  *   10  the atom number is not below 256
- *   11  the buffer is too short (`count` says how many entries are needed)
+ *   11  the buffer is too short (`count` says how many entries, or bytes of a file, are needed)
  *   12  the atom is not in
  *   15  the table handed in is not sound
+ *   16  the file's length is not 512 bytes times 1 to 12
+ *   17  a block's checksum is wrong: one of its two, which are the A and B of the format; one changed byte, anywhere in
+ *       a saved file, is always told so
+ *   18  a block's index, block count or record count is wrong
+ *   19  unused bytes are not 0, slots do not ascend below 256, or the records are not the rules of a table: one fails 1
+ *       to 5 or 7, or has a list that does not ascend
  */
 
 typedef struct {
@@ -91,8 +101,13 @@ typedef struct {
 /* To be read by its fields: 4 bytes between these two are padding. */
 typedef struct {
     uint32_t refused;
-    size_t count; /* how many entries were written, from the start of the buffer; later ones stay */
+    size_t count; /* how many entries or bytes were written, from the start of the buffer; later ones stay */
 } yeqontur_list_answer;
+
+typedef struct {
+    uint32_t refused;
+    yeqontur_table table; /* the one that was saved; where the file was refused, the empty one */
+} yeqontur_loaded;
 
 /* The table in which every slot is free. */
 yeqontur_table yeqontur_empty(void);
@@ -126,6 +141,17 @@ yeqontur_list_answer yeqontur_repercussions(yeqontur_table table, uint32_t atom,
 /* Why an atom is in: the supporting slots of all atoms that it rests on, by depth and then by atom number, so that
  * facts come first and its own slot last. Asks 15, 10, 12, 11. */
 yeqontur_list_answer yeqontur_reason(yeqontur_table table, uint32_t atom, uint32_t *buffer, size_t length);
+
+/* Saves the table: writes its file, which has the rules with their slots, one block of 512 bytes for each 22 rules
+ * begun, at least one. Labels are not in it. Equal tables have equal files. The bytes go to the start of the buffer and
+ * `count` is how many; later ones stay. Refused, no byte is written. YEQONTUR_FILE_BYTES are never too short. Asks 15,
+ * 11. */
+yeqontur_list_answer yeqontur_save(yeqontur_table table, uint8_t *bytes, size_t length);
+
+/* The table of a file, of any bytes and any length: each rule stands in its slot again, and all labels are found anew.
+ * What save wrote gives the saved table, byte for byte; and a file that is accepted is the one that save writes of its
+ * table. Asks 16, 17, 18, 19, each of the whole file before the next. */
+yeqontur_loaded yeqontur_load(const uint8_t *bytes, size_t length);
 
 #ifdef __cplusplus
 }

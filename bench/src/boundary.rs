@@ -21,7 +21,14 @@ pub struct Replayed {
 extern "C" {
     fn probe_sound(table: Table) -> u32;
     fn probe_labels(table: Table) -> Labelled;
-    fn probe_replay(words: *const u32, count: usize, answers: *mut u32, room: usize) -> Replayed;
+    fn probe_replay(
+        words: *const u32,
+        words_len: usize,
+        files: *const u8,
+        files_len: usize,
+        answers: *mut u32,
+        answers_len: usize,
+    ) -> Replayed;
 }
 
 /// Question 15, answered by the proved engine.
@@ -36,14 +43,17 @@ pub fn labels(table: &Table) -> Labelled {
     unsafe { probe_labels(*table) }
 }
 
-/// The calls of a list of numbers, made from the empty table by the proved engine; their answers as numbers.
-pub fn replay(words: &[u32], answers: &mut [u32]) -> Replayed {
-    // SAFETY: each pointer has as many numbers behind it as the length beside it says, and the buffer is lent to this
-    // call alone.
+/// The calls of a list of numbers, made from the empty table by the proved engine; their answers as numbers. The files
+/// that they load lie in the bytes beside the list.
+pub fn replay(words: &[u32], files: &[u8], answers: &mut [u32]) -> Replayed {
+    // SAFETY: each pointer has as many numbers or bytes behind it as the length beside it says, and the buffer is lent
+    // to this call alone.
     unsafe {
         probe_replay(
             words.as_ptr(),
             words.len(),
+            files.as_ptr(),
+            files.len(),
             answers.as_mut_ptr(),
             answers.len(),
         )

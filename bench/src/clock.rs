@@ -36,4 +36,10 @@ impl Pair {
     pub fn shown(self) -> String {
         format!("{:9.1}{:7.2}", self.proved, self.proved / self.plain)
     }
+
+    /// The same, with the time of the plain side between them.
+    pub fn shown_beside(self) -> String {
+        let Pair { proved, plain } = self;
+        format!("{proved:9.1}{plain:9.1}{:7.2}", proved / plain)
+    }
 }

@@ -1,6 +1,7 @@
 //! The proved engine beside plain Rust of the same algorithm and clingo, and against the slow engine.
 //!
 //!     bench                     tables of times and ratios, all measured in this run
+//!     bench files               the table of saving and loading alone
 //!     bench sheet PROGRAM       lines per second of the sheet program, beside plain Rust's and the slow engine's
 //!     bench plain-sheet         plain Rust's sheet program
 //!     bench slow-sheet          the slow engine's
@@ -13,6 +14,7 @@ mod churn;
 mod clingo;
 mod clock;
 mod compare;
+mod files;
 mod phases;
 mod plain;
 mod replay;
@@ -22,8 +24,8 @@ mod sheet;
 use std::io;
 use std::process::ExitCode;
 
-const USAGE: &str = "bench | bench sheet PROGRAM | bench plain-sheet | bench slow-sheet
-    | bench compare SEED COUNT | bench replay SEED COUNT";
+const USAGE: &str = "bench | bench files | bench sheet PROGRAM | bench plain-sheet
+    | bench slow-sheet | bench compare SEED COUNT | bench replay SEED COUNT";
 
 fn code(good: bool) -> ExitCode {
     ExitCode::from(u8::from(!good))
@@ -43,6 +45,12 @@ fn main() -> ExitCode {
             calls::bench();
             println!();
             phases::bench();
+            println!();
+            files::bench();
+            ExitCode::SUCCESS
+        }
+        ["files"] => {
+            files::bench();
             ExitCode::SUCCESS
         }
         ["sheet", program] => done(sheet::bench(program)),

@@ -1,8 +1,9 @@
-//! Lists of calls written as numbers: what the proved `replay` answers and leaves, against the slow engine's book.
+//! Lists of calls written as numbers, with the files that they load: what the proved `replay` answers and leaves,
+//! against the slow engine's book.
 
 use crate::boundary::{self, from_slow};
 use oracle::generate::table_of;
-use oracle::generate::words::{words, ENDINGS};
+use oracle::generate::words::{list, List, ENDINGS};
 use oracle::random::Random;
 use oracle::replay;
 
@@ -10,10 +11,10 @@ use oracle::replay;
 const UNWRITTEN: u32 = 1_000_000;
 
 /// One list with room for so many answers: how many calls were made, or what differs.
-fn made(list: &[u32], room: usize) -> Result<usize, &'static str> {
-    let (expected, book) = replay::replay(list, room);
+fn made(list: &List, room: usize) -> Result<usize, &'static str> {
+    let (expected, book) = replay::replay(&list.words, &list.files, room);
     let mut answers = vec![UNWRITTEN; room];
-    let told = boundary::replay(list, &mut answers);
+    let told = boundary::replay(&list.words, &list.files, &mut answers);
     if told.count != expected.len() {
         return Err("another count of calls");
     }
@@ -32,7 +33,7 @@ pub fn compare(seed: u64, count: usize) -> bool {
     let mut random = Random::seeded(seed);
     let (mut failed, mut calls) = (0, 0);
     for (number, &ending) in (0..count).zip(ENDINGS.iter().cycle()) {
-        let list = words(&mut random, ending);
+        let list = list(&mut random, ending);
         let room = *random.pick(&[0, 1, 10, 50, 400, 400, 400, 400]);
         match made(&list, room) {
             Ok(made) => calls += made,

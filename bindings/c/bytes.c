@@ -46,6 +46,10 @@ SIZE(yeqontur_list_answer, 16);
 AT(yeqontur_list_answer, refused, 0);
 AT(yeqontur_list_answer, count, 8);
 
+SIZE(yeqontur_loaded, 7172);
+AT(yeqontur_loaded, refused, 0);
+AT(yeqontur_loaded, table, 4);
+
 /* A rule of the tables below: at most one entry in each list, -1 for none. */
 typedef struct {
     uint32_t head;

@@ -65,6 +65,37 @@ static void no_buffer(void) {
     expect(none.refused == 0 && none.count == 0, "an atom that occurs and has no rule");
 }
 
+/* A file of such a length is refused 16 with the empty table. Behind the pointer stands one byte, or nothing: it is not
+ * read. */
+static void wrong_length(const uint8_t *bytes, size_t length) {
+    const yeqontur_table empty = yeqontur_empty();
+    const yeqontur_loaded loaded = yeqontur_load(bytes, length);
+    expect(loaded.refused == 16, "a file of a wrong length is refused 16");
+    expect(memcmp(&loaded.table, &empty, sizeof empty) == 0, "and the empty table is handed back");
+}
+
+/* Lengths that are no number of blocks, and numbers of blocks that wrap or are too many. */
+static void file_lengths(void) {
+    const size_t lengths[] = {1, 511, 513, 6143, 6145, 13 * 512, 512 * 65536, WRAPS, WRAPS - 511, WRAPS / 2 + 1};
+    const uint8_t one = 1;
+    wrong_length(NULL, 0);
+    wrong_length(&one, 0);
+    for (size_t i = 0; i < sizeof lengths / sizeof lengths[0]; i++) {
+        wrong_length(&one, lengths[i]);
+        wrong_length(NULL, lengths[i]);
+    }
+}
+
+/* Saving asks 15 before it looks at the buffer, and a buffer of length 0 may be NULL. */
+static void no_room_to_save(void) {
+    yeqontur_table table = yeqontur_empty();
+    yeqontur_list_answer answer = yeqontur_save(table, NULL, 0);
+    expect(answer.refused == 11 && answer.count == 512, "a NULL buffer of length 0 is too short, by its count");
+    memset(&table, 0xA5, sizeof table);
+    answer = yeqontur_save(table, NULL, 0);
+    expect(answer.refused == 15 && answer.count == 0, "a table that is not sound");
+}
+
 /* Numbers of 2^32 - 1, and of 2^16 and 2^8 more than a good one, wrap nowhere. */
 static void numbers(void) {
     const uint32_t most[] = {256, 257, 65536, 65537, 0xFFFFFFFF};
@@ -90,5 +121,7 @@ int main(void) {
     asked_before();
     no_buffer();
     numbers();
+    file_lengths();
+    no_room_to_save();
     return counted("the worst arguments from C");
 }

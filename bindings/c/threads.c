@@ -11,10 +11,11 @@
 #define STACK (128 * 1024)
 #define LENGTH 256
 
-/* What a thread works on: a table of its own, a buffer, and whether all answers were right. */
+/* What a thread works on: a table of its own, a buffer, a file, and whether all answers were right. */
 typedef struct {
     yeqontur_table table;
     uint32_t buffer[256];
+    uint8_t file[YEQONTUR_FILE_BYTES];
     uint32_t number;
     int right;
 } work;
@@ -63,6 +64,14 @@ static void spoiler(work *w) {
     w->right &= answer.refused == 0 && answer.spoiled == (w->number % 2 == 1 ? 2 : 0);
 }
 
+/* Saves the table and loads it again. What comes back lies on the stack, as a caller would have it. */
+static void file(work *w) {
+    const yeqontur_list_answer saved = yeqontur_save(w->table, w->file, sizeof w->file);
+    w->right &= saved.refused == 0 && saved.count == sizeof w->file;
+    const yeqontur_loaded loaded = yeqontur_load(w->file, saved.count);
+    w->right &= loaded.refused == 0 && memcmp(&loaded.table, &w->table, sizeof w->table) == 0;
+}
+
 static void removal(work *w) {
     yeqontur_change change = yeqontur_remove(w->table, w->number + 10);
     w->right &= change.refused == 0 && change.slot == w->number + 10;
@@ -84,6 +93,7 @@ static void *run(void *given) {
     list(w, yeqontur_consequences, 7, 1, 8);
     list(w, yeqontur_repercussions, 0, LENGTH - 1, 1);
     list(w, yeqontur_reason, LENGTH - 2, negations ? 1 : LENGTH - 1, negations ? LENGTH - 2 : 0);
+    file(w);
     removal(w);
     return NULL;
 }

@@ -1,5 +1,6 @@
-//! Reads and writes that fail: the program ends, what it answered before stays, and a write that failed is told in one
-//! line on standard error. A failed read is the input's end; nothing is said of it. No exit status is promised.
+//! Reads and writes that fail, on programs that answer a sheet line by line: the program ends, what it answered before
+//! stays, and a write that failed is told in one line on standard error. A failed read is the input's end; nothing is
+//! said of it. No exit status is promised.
 
 use crate::program::write_pieces;
 use std::fs::{File, OpenOptions};
@@ -15,17 +16,17 @@ use std::time::{Duration, Instant};
 const PATIENCE: Duration = Duration::from_secs(20);
 
 /// The signal of a write to a pipe that nobody reads.
-const BROKEN_PIPE: i32 = 13;
+pub const BROKEN_PIPE: i32 = 13;
 
 /// Two lines, the last without its newline, and what is answered.
 const SHEET: &[u8] = b"A 1 :\nL";
 const ANSWERS: &[u8] = b"slot 0\n1 in 1 0\n";
 
 /// What a program left behind: its output and its errors, where these are pipes, and the signal that ended it.
-struct Left {
-    printed: Vec<u8>,
-    said: Vec<u8>,
-    signal: Option<i32>,
+pub struct Left {
+    pub printed: Vec<u8>,
+    pub said: Vec<u8>,
+    pub signal: Option<i32>,
 }
 
 impl Left {
@@ -33,7 +34,7 @@ impl Left {
         self.said.iter().filter(|&&byte| byte == b'\n').count() == 1 && self.said.ends_with(b"\n")
     }
 
-    fn just_printed(&self, expected: &[u8]) -> bool {
+    pub fn just_printed(&self, expected: &[u8]) -> bool {
         self.printed == expected && self.said.is_empty() && self.signal.is_none()
     }
 }
@@ -45,7 +46,7 @@ fn bytes(from: Option<impl Read>) -> Vec<u8> {
 }
 
 /// Waits for the end of a program that prints little; `None` if it does not end, and then it is killed.
-fn ended(mut child: Child) -> Option<Left> {
+pub fn ended(mut child: Child) -> Option<Left> {
     let start = Instant::now();
     while start.elapsed() < PATIENCE {
         if let Some(status) = child.try_wait().expect("a program") {
@@ -63,13 +64,13 @@ fn ended(mut child: Child) -> Option<Left> {
 }
 
 /// The program as a shell starts it, after these words: to close a descriptor or to ignore a signal.
-fn shell(program: &str, words: &str) -> Command {
+pub fn shell(program: &str, words: &str) -> Command {
     let mut command = Command::new("sh");
     command.arg("-c").arg(words).arg(program);
     command
 }
 
-fn start(command: &mut Command, input: Stdio, output: Stdio, errors: Stdio) -> Child {
+pub fn start(command: &mut Command, input: Stdio, output: Stdio, errors: Stdio) -> Child {
     let command = command.stdin(input).stdout(output).stderr(errors);
     command.spawn().expect("a program")
 }
@@ -87,13 +88,13 @@ fn with_lines(command: &mut Command, output: Stdio, errors: Stdio) -> Option<Lef
     left
 }
 
-fn full_device() -> Stdio {
+pub fn full_device() -> Stdio {
     let device = OpenOptions::new().write(true).open("/dev/full");
     device.expect("a device that is full").into()
 }
 
 /// The writing end of a pipe that nobody reads.
-fn closed_pipe() -> Stdio {
+pub fn closed_pipe() -> Stdio {
     let (reader, writer) = std::io::pipe().expect("a pipe");
     drop(reader);
     writer.into()

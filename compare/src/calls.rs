@@ -1,13 +1,14 @@
 //! Random sequences of all calls, with random buffers and damaged tables. Lists come in any order, and rules of the
-//! table again in another one.
+//! table again in another one. A load goes on with what it hands back: the table of a file, or refused the empty one.
 
-use oracle::calls::{Answer, Call, Validity};
+use crate::boundary::{self, to_raw};
+use oracle::calls::{Answer, Call, Lent, Validity};
 use oracle::generate::{self, calls::Calls};
 use oracle::labels::Label;
 use oracle::questions::Refusal;
 use oracle::random::Random;
 use oracle::relations::{Side, Spoiler};
-use oracle::table::{RawLabel, RawRule, RawTable};
+use oracle::table::RawTable;
 use yeqontur::raw;
 
 /// How many differences are shown; the rest are counted.
@@ -18,25 +19,6 @@ const SHOWN: usize = 10;
 enum Told {
     Refused { number: u32, needed: usize },
     Values(Vec<u32>),
-}
-
-fn to_raw(table: &RawTable) -> raw::Table {
-    let rule = |r: &RawRule| raw::Rule {
-        state: r.state,
-        head: r.head,
-        positives: r.positives,
-        negatives: r.negatives,
-        entries: r.entries,
-    };
-    let label = |l: &RawLabel| raw::Label {
-        state: l.state,
-        depth: l.depth,
-        slot: l.slot,
-    };
-    raw::Table {
-        rules: std::array::from_fn(|slot| rule(&table.rules[slot])),
-        labels: std::array::from_fn(|atom| label(&table.labels[atom])),
-    }
 }
 
 /// What the slow engine told.
@@ -85,24 +67,38 @@ fn told(refused: u32, values: Vec<u32>) -> Told {
     }
 }
 
-/// The same call on the proved library.
-fn proved(call: &Call, table: &mut raw::Table, buffer: &mut [u32]) -> Told {
-    let mut list = |which, atom| {
-        let answer = raw::list(which, table, atom, buffer);
-        match answer.refused {
-            0 => Told::Values(vec![answer.count as u32]),
-            number => Told::Refused {
-                number,
-                needed: answer.count,
-            },
+/// What a call tells that writes into a lent buffer: how much it wrote, or with a refusal how much it needs.
+fn counted(refused: u32, count: usize) -> Told {
+    match refused {
+        0 => Told::Values(vec![count as u32]),
+        number => Told::Refused {
+            number,
+            needed: count,
+        },
+    }
+}
+
+/// A call that writes into a lent buffer, on the proved library; `None` for the others.
+fn proved_writing(call: &Call, table: &raw::Table, lent: &mut Lent) -> Option<Told> {
+    let (which, atom) = match call {
+        Call::Justifications { atom } => (raw::List::Justifications, *atom),
+        Call::Consequences { atom } => (raw::List::Consequences, *atom),
+        Call::Repercussions { atom } => (raw::List::Repercussions, *atom),
+        Call::Reason { atom } => (raw::List::Reason, *atom),
+        Call::Save => {
+            let written = boundary::save(table, &mut lent.bytes);
+            return Some(counted(written.refused, written.count));
         }
+        _ => return None,
     };
-    match call {
-        Call::Justifications { atom } => return list(raw::List::Justifications, *atom),
-        Call::Consequences { atom } => return list(raw::List::Consequences, *atom),
-        Call::Repercussions { atom } => return list(raw::List::Repercussions, *atom),
-        Call::Reason { atom } => return list(raw::List::Reason, *atom),
-        _ => {}
+    let answer = raw::list(which, table, atom, &mut lent.numbers);
+    Some(counted(answer.refused, answer.count))
+}
+
+/// The same call on the proved library.
+fn proved(call: &Call, table: &mut raw::Table, lent: &mut Lent) -> Told {
+    if let Some(told) = proved_writing(call, table, lent) {
+        return told;
     }
     match call {
         Call::Add {
@@ -128,20 +124,29 @@ fn proved(call: &Call, table: &mut raw::Table, buffer: &mut [u32]) -> Told {
             let values = vec![spoiler.spoiled, spoiler.atom, spoiler.place];
             told(spoiler.refused, values)
         }
-        _ => unreachable!("lists are answered above"),
+        Call::Load { bytes } => {
+            let loaded = boundary::load(bytes);
+            *table = loaded.table;
+            told(loaded.refused, vec![])
+        }
+        _ => unreachable!("calls that write are answered above"),
     }
 }
 
-/// A buffer of any length, filled with numbers that no call writes.
-fn buffer(random: &mut Random) -> Vec<u32> {
-    let length = *random.pick(&[0, 1, 2, 3, 5, 8, 20, 100, 255, 256, 257, 300]);
-    (0..length).map(|i| 1_000_000 + i as u32).collect()
+/// Buffers of any length, filled with numbers that no call writes, and with random bytes.
+fn buffers(random: &mut Random) -> Lent {
+    let numbers = *random.pick(&[0, 1, 2, 3, 5, 8, 20, 100, 255, 256, 257, 300]);
+    let bytes = *random.pick(&[0, 1, 511, 512, 513, 1_024, 6_143, 6_144, 7_000]);
+    Lent {
+        numbers: (0..numbers).map(|i| 1_000_000 + i).collect(),
+        bytes: (0..bytes).map(|_| random.word() as u8).collect(),
+    }
 }
 
 /// One call on both sides: what differs, if anything does.
 fn differs(call: &Call, table: &mut RawTable, random: &mut Random) -> Option<String> {
     let mut mine = to_raw(table);
-    let mut lent = buffer(random);
+    let mut lent = buffers(random);
     let mut also = lent.clone();
     let expected = slow(call.make(table, &mut lent));
     let answered = proved(call, &mut mine, &mut also);

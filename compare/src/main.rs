@@ -1,23 +1,31 @@
 //! What is proved against the slow engine.
 //!
-//!     compare calls SEED COUNT              COUNT random calls on the library
-//!     compare sheets PROGRAM SEED COUNT     COUNT random sheets through the sheet program
-//!     compare stream PROGRAM                `L` lines over a full table, and the memory that it takes
-//!     compare cut SEED COUNT PROGRAM..      sheets longer than a program reads, COUNT through each
-//!     compare broken PROGRAM..              reads and writes that fail, on each program that reads a sheet
+//!     compare calls SEED COUNT                COUNT random calls on the library
+//!     compare files SEED COUNT                COUNT random files loaded, COUNT random tables saved by the library
+//!     compare sheets PROGRAM SEED COUNT       COUNT random sheets through the sheet program
+//!     compare programs SEED COUNT SAVE LOAD   COUNT sheets through the saving, COUNT files through the loading program
+//!     compare stream PROGRAM                  `L` lines over a full table, and the memory that it takes
+//!     compare cut SEED COUNT PROGRAM..        sheets longer than a program reads, COUNT through each
+//!     compare broken PROGRAM..                reads and writes that fail, on each program that answers a sheet
+//!     compare broken-files SAVE LOAD          reads and writes that fail, on the programs that save and load
 
+mod boundary;
 mod broken;
+mod broken_files;
 mod calls;
 mod cut;
+mod files;
 mod program;
+mod programs;
 mod sheets;
 mod stream;
 
 use std::process::ExitCode;
 
 const USAGE: &str =
-    "compare calls SEED COUNT | compare sheets PROGRAM SEED COUNT | compare stream PROGRAM
-    | compare cut SEED COUNT PROGRAM.. | compare broken PROGRAM..";
+    "compare calls SEED COUNT | compare files SEED COUNT | compare sheets PROGRAM SEED COUNT
+    | compare programs SEED COUNT SAVE LOAD | compare stream PROGRAM | compare cut SEED COUNT PROGRAM..
+    | compare broken PROGRAM.. | compare broken-files SAVE LOAD";
 
 /// Runs what the words name and answers how many comparisons failed; `None` if they name nothing.
 fn obey(words: &[&str]) -> Option<usize> {
@@ -28,6 +36,13 @@ fn obey(words: &[&str]) -> Option<usize> {
             seed.parse().ok()?,
             count.parse().ok()?,
         )),
+        ["files", seed, count] => Some(files::compare(seed.parse().ok()?, count.parse().ok()?)),
+        ["programs", seed, count, save, load] => Some(programs::compare(
+            seed.parse().ok()?,
+            count.parse().ok()?,
+            save,
+            load,
+        )),
         ["stream", program] => Some(stream::compare(program)),
         ["cut", seed, count, programs @ ..] => Some(cut::compare(
             seed.parse().ok()?,
@@ -35,6 +50,7 @@ fn obey(words: &[&str]) -> Option<usize> {
             programs,
         )),
         ["broken", programs @ ..] if !programs.is_empty() => Some(broken::compare(programs)),
+        ["broken-files", save, load] => Some(broken_files::compare(save, load)),
         _ => None,
     }
 }

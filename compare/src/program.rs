@@ -1,8 +1,34 @@
 //! A program run on bytes that come in pieces.
 
+use oracle::random::Random;
+use std::fs;
 use std::io::{ErrorKind, Read, Write};
 use std::process::{Child, ChildStdin, Command, Stdio};
 use std::thread;
+
+/// Lengths of the pieces in which an input comes: all at once, or cut in the midst of lines and records.
+const PIECES: [&[usize]; 5] = [
+    &[usize::MAX],
+    &[65536],
+    &[4096, 1],
+    &[119, 120, 121, 122],
+    &[1, 2, 3, 7, 1000],
+];
+
+/// Short inputs may come byte by byte; long ones would take too long.
+pub fn pieces(random: &mut Random, length: usize) -> &'static [usize] {
+    if length > 20_000 {
+        return PIECES[random.below(3)];
+    }
+    PIECES[random.below(5)]
+}
+
+/// Keeps an input as a file of that name, and answers where.
+pub fn keep(name: &str, input: &[u8]) -> String {
+    let kept = std::env::temp_dir().join(name);
+    fs::write(&kept, input).expect("a file for the input");
+    kept.display().to_string()
+}
 
 /// Starts the program with both ends of it in hand. Its standard error goes to ours, so that a word there is seen.
 pub fn start(program: &str) -> Child {

@@ -1,27 +1,9 @@
 //! Random sheets of every flavour through the sheet program, byte for byte.
 
-use crate::program::run;
+use crate::program::{keep, pieces, run};
 use oracle::generate::sheets;
 use oracle::random::Random;
 use oracle::sheet;
-use std::fs;
-
-/// Lengths of the pieces in which a sheet comes: all at once, or cut in the midst of lines.
-const PIECES: [&[usize]; 5] = [
-    &[usize::MAX],
-    &[65536],
-    &[4096, 1],
-    &[119, 120, 121, 122],
-    &[1, 2, 3, 7, 1000],
-];
-
-/// Short sheets may come byte by byte; long ones would take too long.
-fn pieces(random: &mut Random, length: usize) -> &'static [usize] {
-    if length > 20_000 {
-        return PIECES[random.below(3)];
-    }
-    PIECES[random.below(5)]
-}
 
 /// Runs `count` sheets through the program. One whose output differs is kept as a file. Answers how many differ.
 pub fn compare(program: &str, seed: u64, count: usize) -> usize {
@@ -32,9 +14,8 @@ pub fn compare(program: &str, seed: u64, count: usize) -> usize {
         let lengths = pieces(&mut random, input.len());
         let (printed, said) = run(program, &input, lengths);
         if printed != sheet::run(&input) || !said.is_empty() {
-            let kept = std::env::temp_dir().join(format!("sheet-{seed}-{number}"));
-            fs::write(&kept, &input).expect("a file for the sheet");
-            println!("sheet {number} of seed {seed} differs: {}", kept.display());
+            let kept = keep(&format!("sheet-{seed}-{number}"), &input);
+            println!("sheet {number} of seed {seed} differs: {kept}");
             failed += 1;
         }
     }

@@ -1,8 +1,9 @@
 //! The plain book: pages of rules, fed the calls' arguments as they came.
 //!
-//! It asks its questions in its own words and shares with the calls only what a rule and a
-//! loop through a negation are, so that a list of calls can be held against it.
+//! It asks its questions in its own words and shares with the calls only what a rule, a loop
+//! through a negation and a file are, so that a list of calls can be held against it.
 
+use crate::file;
 use crate::limits::{ATOMS, ENTRIES, SLOTS};
 use crate::loops::has_loop_through_negation;
 use crate::rules::{Program, Rule};
@@ -103,5 +104,13 @@ impl Book {
                 Ok(())
             }
         }
+    }
+    /// Puts the rule of each record on the page of its slot, all other pages being free, and
+    /// answers that it was accepted; or answers the number of the first "no", and every page
+    /// is free. What the pages held before plays no part.
+    pub fn load(&mut self, bytes: &[u8]) -> Result<(), u32> {
+        *self = Book::empty();
+        self.pages = file::read(bytes)?;
+        Ok(())
     }
 }

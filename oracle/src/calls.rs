@@ -1,5 +1,7 @@
-//! The calls over a raw table. A refused call leaves the table and the lent buffer as they are.
+//! The calls over a raw table. A refused call leaves the table and the lent buffer as they are; loading takes no table,
+//! and refused it hands back the empty one.
 
+use crate::file;
 use crate::labels::{Label, Labelled};
 use crate::limits::{ATOMS, SLOTS};
 use crate::loops::has_loop_through_negation;
@@ -40,7 +42,7 @@ fn ask_atom(table: &RawTable, atom: u32) -> Result<Labelled, Refusal> {
 }
 
 /// Question 11; then the list is written from the start of the buffer and its count answered.
-fn lend(list: &[u32], buffer: &mut [u32]) -> Result<u32, Refusal> {
+fn lend<T: Copy>(list: &[T], buffer: &mut [T]) -> Result<u32, Refusal> {
     let count = list.len() as u32;
     let room = buffer
         .get_mut(..list.len())
@@ -121,6 +123,20 @@ pub fn reason(table: &RawTable, atom: u32, buffer: &mut [u32]) -> Result<u32, Re
     lend(&slots, buffer)
 }
 
+/// Writes the file of the table's rules and answers how many bytes it has.
+pub fn save(table: &RawTable, buffer: &mut [u8]) -> Result<u32, Refusal> {
+    lend(&file::write(&ask_sound(table)?.program), buffer)
+}
+
+/// The answer, that the file was accepted, and the table that keeps its rules; or the refusal and
+/// the empty table.
+pub fn load(bytes: &[u8]) -> (Result<(), Refusal>, RawTable) {
+    match file::read(bytes) {
+        Ok(program) => (Ok(()), RawTable::keeping(&Labelled::of(program))),
+        Err(number) => (Err(Refusal::of_file(number)), RawTable::empty()),
+    }
+}
+
 /// Any call with its arguments, for lists of calls.
 #[derive(Clone, PartialEq, Eq, Debug)]
 pub enum Call {
@@ -150,6 +166,17 @@ pub enum Call {
     Reason {
         atom: u32,
     },
+    Save,
+    Load {
+        bytes: Vec<u8>,
+    },
+}
+
+/// What is lent to a call: a buffer of numbers, and one of bytes for a file.
+#[derive(Clone, PartialEq, Eq, Default, Debug)]
+pub struct Lent {
+    pub numbers: Vec<u32>,
+    pub bytes: Vec<u8>,
 }
 
 /// What an accepted call answers.
@@ -163,8 +190,10 @@ pub enum Answer {
 }
 
 impl Call {
-    /// Makes the call; those that lend no buffer leave it alone.
-    pub fn make(&self, table: &mut RawTable, buffer: &mut [u32]) -> Result<Answer, Refusal> {
+    /// Makes the call. It leaves a buffer alone that it doesn't ask for. The table is the one
+    /// that is handed back, where one is.
+    pub fn make(&self, table: &mut RawTable, lent: &mut Lent) -> Result<Answer, Refusal> {
+        let buffer = &mut lent.numbers;
         match self {
             Call::Add {
                 head,
@@ -180,6 +209,12 @@ impl Call {
             Call::Consequences { atom } => consequences(table, *atom, buffer).map(Answer::Count),
             Call::Repercussions { atom } => repercussions(table, *atom, buffer).map(Answer::Count),
             Call::Reason { atom } => reason(table, *atom, buffer).map(Answer::Count),
+            Call::Save => save(table, &mut lent.bytes).map(Answer::Count),
+            Call::Load { bytes } => {
+                let (answer, handed_back) = load(bytes);
+                *table = handed_back;
+                answer.map(|()| Answer::Accepted)
+            }
         }
     }
 }

@@ -1,4 +1,4 @@
-//! A separate slow engine: what document 01 defines, computed from its sentences.
+//! A separate slow engine: what document 01 and the change requests define, computed from their sentences.
 //!
 //! It is written to be held against the verified engine and shares nothing with it.
 
@@ -9,6 +9,7 @@ pub mod calls;
 pub mod command;
 pub mod depth;
 mod encoding;
+pub mod file;
 pub mod generate;
 pub mod labels;
 pub mod limits;
@@ -19,6 +20,7 @@ pub mod random;
 pub mod relations;
 pub mod replay;
 pub mod rules;
+pub mod saving;
 pub mod sheet;
 pub mod sound;
 pub mod table;

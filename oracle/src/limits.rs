@@ -15,3 +15,12 @@ pub const LINE_BYTES: usize = 120;
 /// How many bytes of its input a program reads at most, as if the input ended there. crates/sheets/specs/Sheets.antt
 /// says the same: `MOST`, and `cut`, the part of an input that is read.
 pub const INPUT_BYTES: usize = 1_048_576;
+
+/// How many bytes a block of a file has.
+pub const BLOCK_BYTES: usize = 512;
+
+/// How many records a block holds at most.
+pub const BLOCK_RECORDS: usize = 22;
+
+/// How many blocks a file has at most.
+pub const BLOCKS: usize = 12;

@@ -4,6 +4,7 @@ use oracle::generate::{mixed_table, sheets};
 use oracle::labels::Labelled;
 use oracle::limits::INPUT_BYTES;
 use oracle::random::Random;
+use oracle::saving;
 use oracle::sheet;
 use oracle::sound::{sound, sound_rules};
 use oracle::table::RawTable;
@@ -16,6 +17,8 @@ usage: oracle sheet < SHEET             print what the sheet program must print
        oracle sheets SEED COUNT DIR     write COUNT sheets and what each must print
        oracle tables SEED COUNT         write COUNT encoded tables, sound and damaged
        oracle labels < TABLES           print for each table whether it is sound, and its labels
+       oracle save < SHEET              print the blocks that the saving program must print
+       oracle load < BLOCKS             print what the loading program must print
 ";
 
 fn main() -> ExitCode {
@@ -37,7 +40,9 @@ fn main() -> ExitCode {
 /// Runs the command that the words name; `None` if they name none.
 fn obey(words: &[&str]) -> Option<io::Result<()>> {
     match words {
-        ["sheet"] => Some(print_sheet()),
+        ["sheet"] => Some(print_of_input(sheet::run)),
+        ["save"] => Some(print_of_input(saving::save)),
+        ["load"] => Some(print_of_input(saving::load)),
         ["sheets", seed, count, directory] => Some(write_sheets(
             seed.parse().ok()?,
             count.parse().ok()?,
@@ -49,14 +54,15 @@ fn obey(words: &[&str]) -> Option<io::Result<()>> {
     }
 }
 
-fn print_sheet() -> io::Result<()> {
+/// What that program prints for the input.
+fn print_of_input(program: fn(&[u8]) -> Vec<u8>) -> io::Result<()> {
     let mut input = Vec::new();
     // A failed read ends the input; what was read before it is kept.
     let _ended = io::stdin()
         .lock()
         .take(INPUT_BYTES as u64)
         .read_to_end(&mut input);
-    io::stdout().lock().write_all(&sheet::run(&input))
+    io::stdout().lock().write_all(&program(&input))
 }
 
 fn write_sheets(seed: u64, count: usize, directory: &Path) -> io::Result<()> {

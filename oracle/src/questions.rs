@@ -19,10 +19,14 @@ pub enum Refusal {
     BufferTooShort { needed: u32 },
     AtomNotIn,
     TableUnsound,
+    FileLength,
+    FileSums,
+    FileCounts,
+    FileRecords,
 }
 
 impl Refusal {
-    /// The number of the question in document 01.
+    /// The number of the question in document 01, or in the request that brought it.
     pub fn number(self) -> u32 {
         match self {
             Refusal::HeadTooLarge => 1,
@@ -38,6 +42,21 @@ impl Refusal {
             Refusal::BufferTooShort { .. } => 11,
             Refusal::AtomNotIn => 12,
             Refusal::TableUnsound => 15,
+            Refusal::FileLength => 16,
+            Refusal::FileSums => 17,
+            Refusal::FileCounts => 18,
+            Refusal::FileRecords => 19,
+        }
+    }
+
+    /// The refusal of a file, by its number.
+    pub fn of_file(number: u32) -> Refusal {
+        match number {
+            16 => Refusal::FileLength,
+            17 => Refusal::FileSums,
+            18 => Refusal::FileCounts,
+            19 => Refusal::FileRecords,
+            _ => unreachable!("a file meets 16 to 19, not {number}"),
         }
     }
 }

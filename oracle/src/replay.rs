@@ -1,26 +1,32 @@
 //! A list of calls written as numbers, made on the plain book; the answers are numbers too.
 //!
-//! 0 and a slot is a removal. 1, a head, how many positives, how many negatives, then these: an addition. Any other
-//! number ends the list, and so does a call that is cut short, or one for whose answer there is no room.
+//! 0 and a slot is a removal. 1, a head, how many positives, how many negatives, then these: an addition. 2 and two
+//! numbers: a file is loaded, the bytes from the first number on and below the second, of the bytes that come beside
+//! the list. Any other number ends the list, and so does a call that is cut short, one whose file does not lie within
+//! those bytes, or one for whose answer there is no room.
 
 use crate::book::Book;
 
-/// The answer of an accepted removal. A refusal's is this and its number; an addition's is its slot, which is smaller.
+/// The answer of an accepted removal or load. A refusal's is this and its number; an addition's is its slot, which is
+/// smaller.
 const ACCEPTED: u32 = 65_536;
 
-/// What is left of a list of numbers.
-struct Rest<'a>(&'a [u32]);
+/// What is left of a list of numbers, and the bytes beside it.
+struct Rest<'a> {
+    words: &'a [u32],
+    files: &'a [u8],
+}
 
 impl<'a> Rest<'a> {
     fn number(&mut self) -> Option<u32> {
-        let (&first, rest) = self.0.split_first()?;
-        self.0 = rest;
+        let (&first, rest) = self.words.split_first()?;
+        self.words = rest;
         Some(first)
     }
 
     fn list(&mut self, count: u32) -> Option<&'a [u32]> {
-        let (list, rest) = self.0.split_at_checked(count as usize)?;
-        self.0 = rest;
+        let (list, rest) = self.words.split_at_checked(count as usize)?;
+        self.words = rest;
         Some(list)
     }
 
@@ -36,6 +42,11 @@ impl<'a> Rest<'a> {
                 let (positives, negatives) = (self.list(positives)?, self.list(negatives)?);
                 book.add(head, positives, negatives)
             }
+            2 => {
+                let (from, to) = (self.number()?, self.number()?);
+                let file = self.files.get(from as usize..to as usize)?;
+                book.load(file).map(|()| ACCEPTED)
+            }
             _ => return None,
         };
         Some(answer.unwrap_or_else(|refusal| ACCEPTED + refusal))
@@ -43,9 +54,10 @@ impl<'a> Rest<'a> {
 }
 
 /// The answers of the list's calls, made one after another on the empty book, at most `room` of them; and the book.
-pub fn replay(words: &[u32], room: usize) -> (Vec<u32>, Book) {
+/// `files` are the bytes beside the list.
+pub fn replay(words: &[u32], files: &[u8], room: usize) -> (Vec<u32>, Book) {
     let mut book = Book::empty();
-    let mut rest = Rest(words);
+    let mut rest = Rest { words, files };
     let mut answers = Vec::new();
     while answers.len() < room {
         let Some(answer) = rest.call(&mut book) else {

@@ -8,6 +8,7 @@ use crate::command::{read_line, Command, Line};
 use crate::labels::{Label, Labelled};
 use crate::limits::{ATOMS, INPUT_BYTES};
 use crate::relations::reason;
+use crate::rules::Program;
 
 /// A sheet under way: the book, and what has been printed.
 struct Sheet {
@@ -19,17 +20,12 @@ struct Sheet {
 
 /// The whole of what the sheet program prints for this input.
 pub fn run(input: &[u8]) -> Vec<u8> {
-    let mut sheet = Sheet {
-        book: Book::empty(),
-        labelled: None,
-        printed: String::new(),
-    };
-    for (line, number) in lines(input).into_iter().zip(1..) {
-        if let Err(refusal) = sheet.obey(read_line(line)) {
-            sheet.print(&format!("line {number} refused {refusal}"));
-        }
-    }
-    sheet.printed.into_bytes()
+    Sheet::after(input).printed.into_bytes()
+}
+
+/// The rules that a sheet leaves in its table, which was empty at the start.
+pub fn left(input: &[u8]) -> Program {
+    Sheet::after(input).book.pages().clone()
 }
 
 /// The lines without their newlines. What follows the last newline is a line only if it has
@@ -52,7 +48,30 @@ pub fn shown(atom: u32, label: Label) -> String {
     }
 }
 
+/// What `L` prints: a line for each atom that occurs, ascending.
+pub fn listing(labelled: &Labelled) -> String {
+    let occurring = labelled.occurring();
+    occurring
+        .map(|(atom, label)| shown(atom, label) + "\n")
+        .collect()
+}
+
 impl Sheet {
+    /// The sheet when all lines of the input have been obeyed or refused.
+    fn after(input: &[u8]) -> Sheet {
+        let mut sheet = Sheet {
+            book: Book::empty(),
+            labelled: None,
+            printed: String::new(),
+        };
+        for (line, number) in lines(input).into_iter().zip(1..) {
+            if let Err(refusal) = sheet.obey(read_line(line)) {
+                sheet.print(&format!("line {number} refused {refusal}"));
+            }
+        }
+        sheet
+    }
+
     fn print(&mut self, line: &str) {
         self.printed.push_str(line);
         self.printed.push('\n');
@@ -108,11 +127,7 @@ impl Sheet {
     }
 
     fn print_labels(&mut self) {
-        let lines: Vec<String> = self
-            .labelled()
-            .occurring()
-            .map(|(atom, label)| shown(atom, label))
-            .collect();
-        lines.iter().for_each(|line| self.print(line));
+        let lines = listing(self.labelled());
+        self.printed.push_str(&lines);
     }
 }

@@ -1,16 +1,21 @@
-//! The engine's algorithm and the sheet program in plain Rust, for the ratio: the same passes over the same arrays, no
-//! proof.
+//! The engine's algorithm, the calls that save and load, and the sheet program in plain Rust, for the ratio: the same
+//! passes over the same arrays, no proof.
 
+mod blocks;
 mod calls;
 mod labels;
 mod lines;
+mod load;
 mod reason;
 mod replies;
+mod save;
 pub mod sheet;
 mod sound;
 
 pub use calls::{add, label, remove};
 pub use labels::labels;
+pub use load::load;
+pub use save::save;
 pub use sound::sound;
 
 use yeqontur::raw::{Rule, ATOMS, ENTRIES};

@@ -9,7 +9,7 @@ fn ascends(list: &[u16]) -> bool {
 }
 
 /// Clean, and where the slot holds a rule, questions 1 to 4 and ascending lists. A list that ascends has no repeat.
-fn well_formed(rule: &Rule) -> bool {
+pub fn well_formed(rule: &Rule) -> bool {
     let end = rule.positives as usize + rule.negatives as usize;
     if rule.state > 1 || end > ENTRIES || rule.entries[end..].iter().any(|&x| x != 0) {
         return false;
@@ -36,7 +36,7 @@ fn key(rule: &Rule) -> usize {
 }
 
 /// Only rules of one key are compared: they are linked by the slot before.
-fn no_two_equal(rules: &[Rule; SLOTS]) -> bool {
+pub fn no_two_equal(rules: &[Rule; SLOTS]) -> bool {
     let mut last = [0; 256];
     let mut before = [0; SLOTS];
     for (i, rule) in rules.iter().enumerate().filter(|(_, rule)| rule.state != 0) {

@@ -1,6 +1,8 @@
 //! The rule table behind status labels, safe to use from Rust: every call takes any numbers and lists, and answers a
 //! result or one numbered refusal. The work is done by the proved library; this crate hands it on, lets a program walk
-//! over rules and labels, and puts the library's answers together as a tree that says why an atom has its label.
+//! over rules and labels, puts the library's answers together as a tree that says why an atom has its label, and keeps
+//! a saved table in a file that a program which is ended does not leave half written. What holds after a power failure
+//! is said at [`Table::save_to`].
 //!
 //! ```
 //! use yeqontur::{Label, Table};
@@ -12,6 +14,7 @@
 //! # Ok::<(), yeqontur::Refusal>(())
 //! ```
 
+mod disk;
 mod label;
 mod layout;
 pub mod raw;
@@ -20,6 +23,7 @@ mod rule;
 mod table;
 mod why;
 
+pub use disk::LoadError;
 pub use label::Label;
 pub use raw::List;
 pub use refusal::Refusal;

@@ -1,7 +1,7 @@
 //! The boundary: the functions of `include/yeqontur.h`, and safe functions over them. The only unsafe code.
 //!
-//! Every function takes any numbers, lists, buffers and bytes of a table, keeps nothing and writes at most the lent
-//! buffer. A slice crosses as a pointer and the length that it really has, so that each call below is safe.
+//! Every function takes any numbers, lists, buffers and bytes of a table or a file, keeps nothing and writes at most
+//! the lent buffer. A slice crosses as a pointer and the length that it really has, so that each call below is safe.
 //!
 //! A table crosses by value, a copy of some kilobytes. The safe functions are not inlined, so that this copy is never
 //! part of a caller's frame: one that calls itself, as the telling of a tree does, would run out of stack.
@@ -9,6 +9,9 @@
 pub const SLOTS: usize = 256;
 pub const ATOMS: usize = 256;
 pub const ENTRIES: usize = 8;
+
+/// The most bytes that a saved table has: 256 rules, 22 to a block, are 12 blocks of 512 bytes.
+pub const FILE_BYTES: usize = 6144;
 
 /// A slot: free (state 0) or with one rule (state 1); positives first among the entries. In a sound table each list
 /// ascends.
@@ -85,12 +88,19 @@ pub struct SpoilerAnswer {
     pub place: u32,
 }
 
-/// `count` is how many entries were written, or with refusal 11 how many are needed.
+/// `count` is how many entries or bytes were written, or with refusal 11 how many are needed.
 #[repr(C)]
 #[derive(Clone, Copy)]
 pub struct ListAnswer {
     pub refused: u32,
     pub count: usize,
+}
+
+/// `refused` is 0, or the refusal's number and the table the empty one.
+#[repr(C)]
+pub struct Loaded {
+    pub refused: u32,
+    pub table: Table,
 }
 
 extern "C" {
@@ -125,6 +135,8 @@ extern "C" {
         length: usize,
     ) -> ListAnswer;
     fn yeqontur_reason(table: Table, atom: u32, buffer: *mut u32, length: usize) -> ListAnswer;
+    fn yeqontur_save(table: Table, bytes: *mut u8, length: usize) -> ListAnswer;
+    fn yeqontur_load(bytes: *const u8, length: usize) -> Loaded;
 }
 
 #[inline(never)]
@@ -185,4 +197,16 @@ pub fn list(which: List, table: &Table, atom: u32, buffer: &mut [u32]) -> ListAn
     };
     // SAFETY: the buffer has as many entries as the length says, and is lent to this call alone.
     unsafe { call(*table, atom, buffer.as_mut_ptr(), buffer.len()) }
+}
+
+#[inline(never)]
+pub fn save(table: &Table, bytes: &mut [u8]) -> ListAnswer {
+    // SAFETY: as many bytes may be written as the length says, and they are lent to this call alone.
+    unsafe { yeqontur_save(*table, bytes.as_mut_ptr(), bytes.len()) }
+}
+
+#[inline(never)]
+pub fn load(bytes: &[u8]) -> Loaded {
+    // SAFETY: the pointer has as many bytes behind it as the length says.
+    unsafe { yeqontur_load(bytes.as_ptr(), bytes.len()) }
 }

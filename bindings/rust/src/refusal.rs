@@ -23,11 +23,21 @@ pub enum Refusal {
     AtomNotIn,
     /// Also of a table in which a rule's list does not ascend.
     TableUnsound,
+    /// Of a file, as the next three are: it is not 1 to 12 blocks long.
+    WrongLength,
+    /// A block's checksum is not that of its bytes. Any one changed byte of a saved file is told so.
+    WrongChecksum,
+    /// Every checksum is right, but a block's index, block count or record count is not one of its place in a file of
+    /// this length. Likely blocks are missing, or are those of other files.
+    WrongBlock,
+    /// Every checksum, index and count is right, but the records are not the rules of a table by ascending slots, or a
+    /// byte that is not used is not 0. Likely another version or another program wrote the file.
+    WrongRecord,
 }
 
 impl Refusal {
     /// Every refusal by number; of 11 the one that needs no entry stands for all.
-    pub const ALL: [Refusal; 13] = [
+    pub const ALL: [Refusal; 17] = [
         Refusal::HeadTooLarge,
         Refusal::TooManyEntries,
         Refusal::EntryTooLarge,
@@ -41,6 +51,10 @@ impl Refusal {
         Refusal::BufferTooShort { needed: 0 },
         Refusal::AtomNotIn,
         Refusal::TableUnsound,
+        Refusal::WrongLength,
+        Refusal::WrongChecksum,
+        Refusal::WrongBlock,
+        Refusal::WrongRecord,
     ];
 
     /// The refusal of a number, which 0 is not. `needed` goes with 11.
@@ -125,7 +139,7 @@ impl Refusal {
             Refusal::BufferTooShort { .. } => (
                 11,
                 "the buffer is too short",
-                "lend a buffer of the count that is answered; 256 entries always do",
+                "lend a buffer of the count that is answered; 256 entries, or 6144 bytes of a file, always do",
             ),
             Refusal::AtomNotIn => (
                 12,
@@ -136,6 +150,26 @@ impl Refusal {
                 15,
                 "the table handed in is not sound",
                 "start from the empty table and add the rules again: this library does not write such bytes",
+            ),
+            Refusal::WrongLength => (
+                16,
+                "the file's length is not 512 bytes times 1 to 12",
+                "it was cut short, or is no saved table: keep it aside, and load a copy or add the rules again",
+            ),
+            Refusal::WrongChecksum => (
+                17,
+                "a block's checksum is wrong",
+                "it was damaged, or is no saved table: keep it aside, and load a copy or add the rules again",
+            ),
+            Refusal::WrongBlock => (
+                18,
+                "a block's index, block count or record count is wrong",
+                "likely blocks are missing or of other files: keep it aside, and load a copy or add the rules again",
+            ),
+            Refusal::WrongRecord => (
+                19,
+                "unused bytes are not 0, slots do not ascend below 256, or the records are not the rules of a table",
+                "likely another version or program wrote it: keep it aside, and load it with the one that did",
             ),
         }
     }

@@ -3,8 +3,8 @@
 use crate::raw::{self, List};
 use crate::{Label, Refusal, Validity};
 
-/// A table of rules with the labels of their atoms. It is always sound: it starts empty, calls keep it sound, and raw
-/// fields become one only if they are sound. It is a few kilobytes, so a copy is asked for by name.
+/// A table of rules with the labels of their atoms. It is always sound: it starts empty or as it was saved, calls keep
+/// it sound, and raw fields become one only if they are sound. It is a few kilobytes, so a copy is asked for by name.
 #[derive(Clone, PartialEq, Eq, Hash, Debug)]
 pub struct Table(raw::Table);
 
@@ -109,6 +109,33 @@ impl Table {
     pub fn list_into(&self, which: List, atom: u32, buffer: &mut [u32]) -> Result<usize, Refusal> {
         let told = raw::list(which, &self.0, atom, buffer);
         answered(told.refused, told.count, told.count)
+    }
+
+    /// The table as the bytes of a file: the rules with their slots, one block of 512 bytes for each 22 rules begun, at
+    /// least one. Labels are not in it. Equal tables have equal files. To keep it on disk, see [`Table::save_to`].
+    ///
+    /// ```
+    /// # use yeqontur::{Refusal, Table};
+    /// let mut table = Table::new();
+    /// table.add(1, &[2], &[3])?;
+    /// let file = table.save();
+    /// assert_eq!(Table::load(&file), Ok(table));
+    /// assert_eq!(Table::load(&file[1..]), Err(Refusal::WrongLength));
+    /// # Ok::<(), Refusal>(())
+    /// ```
+    pub fn save(&self) -> Vec<u8> {
+        let mut bytes = vec![0; raw::FILE_BYTES];
+        let told = raw::save(&self.0, &mut bytes);
+        let count = answered(told.refused, told.count, told.count);
+        bytes.truncate(count.expect("a sound table, and room for any"));
+        bytes
+    }
+
+    /// The table that was saved as these bytes: each rule stands in its slot again, and all labels are found anew. Any
+    /// bytes may come: those that `save` does not write of some table are refused (16 to 19).
+    pub fn load(bytes: &[u8]) -> Result<Table, Refusal> {
+        let told = raw::load(bytes);
+        answered(told.refused, 0, Table(told.table))
     }
 
     /// No list is longer than there are slots or atoms.

@@ -49,6 +49,9 @@ fn refused_alike(fields: &raw::Table, random: &mut Random) -> bool {
         refusals.push(raw::list(which, fields, number, &mut buffer).refused);
         assert!(!unsound || buffer == [7; 300]);
     }
+    let mut file = [7; raw::FILE_BYTES];
+    refusals.push(raw::save(fields, &mut file).refused);
+    assert!(!unsound || file == [7; raw::FILE_BYTES]);
     assert!(
         refusals.iter().all(|&r| (r == 15) == unsound),
         "{refusals:?}"

@@ -23,32 +23,38 @@ fn blocks(kind: &str) -> Vec<String> {
 
 #[test]
 fn the_programs_of_the_guide_are_the_files() {
-    assert_eq!(blocks("rust"), [file("bindings/rust/examples/guide.rs")]);
-    assert_eq!(blocks("c"), [file("bindings/c/guide.c")]);
+    let rust = ["guide", "restart"].map(|name| file(&format!("bindings/rust/examples/{name}.rs")));
+    assert_eq!(blocks("rust"), rust);
+    let c = ["guide", "restart"].map(|name| file(&format!("bindings/c/{name}.c")));
+    assert_eq!(blocks("c"), c);
 }
 
-/// The first command makes the library, which the tests are linked with already.
+/// The first command makes the library, which the tests are linked with already. Each program is then run in Rust and
+/// in C, and both print what is shown once.
 #[test]
 fn the_commands_of_the_guide_print_what_it_says() {
     let shown = blocks("text");
     let commands = blocks("sh");
-    assert_eq!((shown.len(), commands.len()), (1, 3));
+    assert_eq!((shown.len(), commands.len()), (2, 5));
     assert_eq!(commands[0], "rt staticlib yeqontur\n");
-    for command in &commands[1..] {
+    for (i, command) in commands[1..].iter().enumerate() {
         let mut shell = Command::new("sh");
         let ran = shell.arg("-c").arg(command).current_dir(root()).output();
         let ran = ran.expect("a shell");
         let errors = String::from_utf8_lossy(&ran.stderr);
         assert!(ran.status.success(), "{command}{errors}");
-        assert_eq!(String::from_utf8_lossy(&ran.stdout), shown[0], "{command}");
+        let printed = String::from_utf8_lossy(&ran.stdout);
+        assert_eq!(printed, shown[i / 2], "{command}");
     }
 }
 
+/// The program with a file has those of a file.
 #[test]
-fn guide_header_and_c_program_have_the_words_of_each_refusal() {
+fn guide_header_and_c_programs_have_the_words_of_each_refusal() {
     let guide = file("docs/GUIDE.md");
     let header = file("include/yeqontur.h");
     let program = file("bindings/c/guide.c");
+    let with_a_file = file("bindings/c/restart.c");
     for refusal in Refusal::ALL {
         let (number, words, advice) = (refusal.number(), refusal.words(), refusal.advice());
         assert!(guide.contains(&format!("\n| {number} | {words} | {advice} |\n")));
@@ -56,14 +62,17 @@ fn guide_header_and_c_program_have_the_words_of_each_refusal() {
             header.contains(&format!("\n *   {number:2}  {words}")),
             "{number}"
         );
-        assert!(program.contains(&format!("    \"{words}\",\n")), "{number}");
+        let line = format!("    \"{words}\",\n");
+        assert!(program.contains(&line), "{number}");
+        assert_eq!(with_a_file.contains(&line), number >= 16, "{number}");
     }
 }
 
 #[test]
 fn a_refusal_prints_its_number_its_words_and_what_to_do() {
     let numbers = Refusal::ALL.map(Refusal::number);
-    assert_eq!(numbers, [1, 2, 3, 4, 5, 6, 7, 8, 9, 10, 11, 12, 15]);
+    let calls = [1, 2, 3, 4, 5, 6, 7, 8, 9, 10, 11, 12, 15, 16, 17, 18, 19];
+    assert_eq!(numbers, calls);
     assert_eq!(
         Refusal::TableFull.to_string(),
         "refused 6: no slot is free; remove a rule that is no longer needed, or open a second table"

@@ -38,10 +38,14 @@ use Rattle.calls.specs.declared.SpoilerAnswer.{SpoilerAnswer}
 use Rattle.calls.specs.declared.SpoilerAnswer.the-variants as spoilt
 use Rattle.calls.specs.declared.ListAnswer.{ListAnswer}
 use Rattle.calls.specs.declared.ListAnswer.the-variants as listed
+use Rattle.calls.specs.declared.LoadAnswer.{LoadAnswer}
+use Rattle.calls.specs.declared.LoadAnswer.the-variants as loaded
+use Rattle.blocks.specs.Questions.{file-questions}
 use Rattle.calls.specs.Answers.{numberOf, tellLabel, tellSpoiler}
 use Rattle.calls.specs.Contracts as contract
 use Rattle.calls.specs.Contracts.{held, Sized, AddEnds, RemoveEnds, LabelEnds, SpoilerEnds, ListEnds}
 use Rattle.calls.specs.Contracts.{JustificationsEnd, ConsequencesEnd, RepercussionsEnd, ReasonEnds}
+use Rattle.calls.specs.Contracts.{SaveEnds, LoadEnds}
 use Rattle.calls.proofs.OneTable.{table-unique, same-label}
 use Rattle.calls.proofs.Refusals.{refusalOf, refusal-number}
 
@@ -195,3 +199,19 @@ unfolding every
 reason-determined t a =
     list-determined (reason-questions document a (labelAt (t .labels) a)) refl _
     (λ M xs ys X Y. reason-unique (held t) M a xs ys X Y) t
+
+pub save-determined :
+    (t : Table) (b : List ℕ) (x y : ListAnswer) (c d : List ℕ) → SaveEnds t b x c → SaveEnds t b y d
+    → (x ≡ y) × (c ≡ d)
+unfolding every
+save-determined t = list-determined [] refl _ (λ M xs ys X Y. X ∙ sym Y) t
+
+pub load-determined :
+    (bytes : List ℕ) (x y : LoadAnswer) (u v : Table) → LoadEnds bytes x u → LoadEnds bytes y v → (x ≡ y) × (u ≡ v)
+unfolding every
+load-determined bytes x y u v (contract.refused f d) (contract.refused g e) =
+    (ap loaded.Refused (refusal-unique (file-questions document bytes) refl f g d e), refl)
+load-determined bytes x y u v (contract.refused f d) (contract.accepted w e Z h U) = absurd (both _ _ d e)
+load-determined bytes x y u v (contract.accepted w d Z h U) (contract.refused g e) = absurd (both _ _ e d)
+load-determined bytes x y u v (contract.accepted w d Z h U) (contract.accepted z e Y i W) =
+    (refl, table-unique w z Z Y U W (h ∙ sym i))

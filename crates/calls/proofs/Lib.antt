@@ -3,3 +3,4 @@ pub mod OneTable
 pub mod Refusals
 pub mod Asking
 pub mod Determined
+pub mod Sizes

@@ -6,13 +6,14 @@ use lib.ListN.{getD}
 use Rattle.calls.specs.declared.Refusal.{Refusal}
 use Rattle.calls.specs.declared.Refusal.the-variants.{Head, Entries, Entry, Repeated, Same, Full, NegativeCycle}
 use Rattle.calls.specs.declared.Refusal.the-variants.{SlotNumber, Free, AtomNumber, Buffer, NotIn, Unsound}
+use Rattle.calls.specs.declared.Refusal.the-variants.{FileLength, Sums, BlockNumbers, Record}
 use Rattle.calls.specs.Answers.{numberOf}
 
--- The refusals in the order of their numbers; 0, 11 and those past 12 have none of their own here.
+-- The refusals in the order of their numbers; 0, 11, 13, 14 and those past 19 have none of their own here.
 abbrev by-number : List Refusal
 by-number =
     Unsound ∷ Head ∷ Entries ∷ Entry ∷ Repeated ∷ Same ∷ Full ∷ NegativeCycle ∷ SlotNumber ∷ Free ∷ AtomNumber
-    ∷ Unsound ∷ NotIn ∷ []
+    ∷ Unsound ∷ NotIn ∷ Unsound ∷ Unsound ∷ Unsound ∷ FileLength ∷ Sums ∷ BlockNumbers ∷ Record ∷ []
 
 abbrev pub refusalOf : ℕ → Refusal
 refusalOf k = getD by-number k Unsound
@@ -31,3 +32,7 @@ refusal-number AtomNumber n = refl
 refusal-number (Buffer needed) n = absurd (n refl)
 refusal-number NotIn n = refl
 refusal-number Unsound n = refl
+refusal-number FileLength n = refl
+refusal-number Sums n = refl
+refusal-number BlockNumbers n = refl
+refusal-number Record n = refl

@@ -7,6 +7,7 @@ use Rattle.theory.specs.Book as book
 use Rattle.calls.specs.declared.Refusal.{Refusal}
 use Rattle.calls.specs.declared.Refusal.the-variants.{Head, Entries, Entry, Repeated, Same, Full, NegativeCycle}
 use Rattle.calls.specs.declared.Refusal.the-variants.{SlotNumber, Free, AtomNumber, Buffer, NotIn, Unsound}
+use Rattle.calls.specs.declared.Refusal.the-variants.{FileLength, Sums, BlockNumbers, Record}
 use Rattle.calls.specs.declared.AddAnswer.{AddAnswer}
 use Rattle.calls.specs.declared.AddAnswer.the-variants as added
 use Rattle.calls.specs.declared.RemoveAnswer.{RemoveAnswer}
@@ -15,8 +16,10 @@ use Rattle.calls.specs.declared.LabelAnswer.{LabelAnswer}
 use Rattle.calls.specs.declared.LabelAnswer.the-variants as labelled
 use Rattle.calls.specs.declared.SpoilerAnswer.{SpoilerAnswer}
 use Rattle.calls.specs.declared.SpoilerAnswer.the-variants as spoilt
+use Rattle.calls.specs.declared.LoadAnswer.{LoadAnswer}
+use Rattle.calls.specs.declared.LoadAnswer.the-variants as loaded
 
--- Document 01's number of each refusal.
+-- Document 01's number of each refusal, and request #103's.
 abbrev pub numberOf : Refusal → ℕ
 numberOf Head = 1
 numberOf Entries = 2
@@ -31,6 +34,10 @@ numberOf AtomNumber = 10
 numberOf (Buffer needed) = 11
 numberOf NotIn = 12
 numberOf Unsound = 15
+numberOf FileLength = 16
+numberOf Sums = 17
+numberOf BlockNumbers = 18
+numberOf Record = 19
 
 -- The plain book's word for an answer.
 abbrev pub bookAdd : AddAnswer → book.Answer
@@ -40,6 +47,10 @@ bookAdd (added.Refused f) = book.refused (numberOf f)
 abbrev pub bookRemove : RemoveAnswer → book.Answer
 bookRemove removed.Removed = book.accepted
 bookRemove (removed.Refused f) = book.refused (numberOf f)
+
+abbrev pub bookLoad : LoadAnswer → book.Answer
+bookLoad loaded.Loaded = book.accepted
+bookLoad (loaded.Refused f) = book.refused (numberOf f)
 
 -- The answer that tells a label.
 abbrev pub tellLabel : theory.Label → LabelAnswer

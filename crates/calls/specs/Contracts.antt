@@ -2,7 +2,7 @@
 -- the answer, the table and every entry of the buffer. Assumes nothing.
 use Prim.Native.Nat.{ℕ, _≤_, _<_}
 use mathlib.Core.Path.{_≡_}
-use mathlib.Core.List.{List, _++_}
+use mathlib.Core.List.{List, [], _++_}
 use mathlib.Core.Option.{none, some}
 use lib.ListN.{length, getD, drop, set}
 use Rattle.theory.specs.Lists.{Lists}
@@ -19,7 +19,10 @@ use Rattle.table.specs.declared.Slot.{Slot}
 use Rattle.table.specs.declared.Table.{Table}
 use Rattle.table.specs.Rules.{programOf, pastRule}
 use Rattle.table.specs.Labels.{labelAt}
+use Rattle.table.specs.Clean.{emptyTable}
 use Rattle.table.specs.Sound.{Sound}
+use Rattle.blocks.specs.Files.{fileOf}
+use Rattle.blocks.specs.Questions.{file-questions, pagesOf}
 use Rattle.calls.specs.declared.Refusal.{Refusal}
 use Rattle.calls.specs.declared.Refusal.the-variants.{Buffer, Unsound}
 use Rattle.calls.specs.declared.AddAnswer.{AddAnswer}
@@ -32,6 +35,8 @@ use Rattle.calls.specs.declared.SpoilerAnswer.{SpoilerAnswer}
 use Rattle.calls.specs.declared.SpoilerAnswer.the-variants as spoilt
 use Rattle.calls.specs.declared.ListAnswer.{ListAnswer}
 use Rattle.calls.specs.declared.ListAnswer.the-variants as listed
+use Rattle.calls.specs.declared.LoadAnswer.{LoadAnswer}
+use Rattle.calls.specs.declared.LoadAnswer.the-variants as loaded
 use Rattle.calls.specs.Answers.{numberOf, tellLabel, tellSpoiler}
 
 -- The rules that a table holds.
@@ -116,3 +121,18 @@ RepercussionsEnd t a = ListEnds (atom-questions document a) (λ M xs. Lists xs (
 abbrev pub ReasonEnds : Table → ℕ → List ℕ → ListAnswer → List ℕ → Type 0
 ReasonEnds t a =
     ListEnds (reason-questions document a (labelAt (t .labels) a)) (λ M xs. Reason (held t) M a xs) t
+
+-- Save: 15, then 11. The file of the table stands from the start of the lent buffer, its length is answered, and later
+-- bytes stay.
+abbrev pub SaveEnds : Table → List ℕ → ListAnswer → List ℕ → Type 0
+SaveEnds t = ListEnds [] (λ M bs. bs ≡ fileOf (held t)) t
+
+-- Load: 16, 17, 18, 19. It takes no table, and a refusal hands back the empty one. The records of a file that is
+-- accepted are the rules of the table.
+pub data LoadEnds (bytes : List ℕ) : LoadAnswer → Table → Type 0 where
+  refused :
+      (f : Refusal) → first-no (file-questions document bytes) ≡ some (numberOf f)
+      → LoadEnds bytes (loaded.Refused f) emptyTable
+  accepted :
+      (u : Table) → first-no (file-questions document bytes) ≡ none → Sized u → held u ≡ pagesOf document bytes
+      → Sound u → LoadEnds bytes loaded.Loaded u

@@ -26,6 +26,10 @@ pub enum Refusal {
     Buffer(usize),
     NotIn,
     Unsound,
+    FileLength,
+    Sums,
+    BlockNumbers,
+    Record,
 }
 
 // The slot that an addition took.
@@ -69,6 +73,17 @@ pub enum SpoilerAnswer {
 pub enum ListAnswer {
     Count(usize),
     Refused(Refusal),
+}
+
+// That a file was loaded.
+pub enum LoadAnswer {
+    Loaded,
+    Refused(Refusal),
+}
+
+pub struct Loading {
+    pub answer: LoadAnswer,
+    pub table: Table,
 }
 
 // What questions 15 and 10 answer: the atom asked about, or the refusal.
@@ -115,5 +130,9 @@ pub fn refusal_number(f: Refusal) -> u32
         Refusal::Buffer(needed) => 11,
         Refusal::NotIn => 12,
         Refusal::Unsound => 15,
+        Refusal::FileLength => 16,
+        Refusal::Sums => 17,
+        Refusal::BlockNumbers => 18,
+        Refusal::Record => 19,
     }
 }

@@ -9,10 +9,13 @@ use Rattle.table.specs.declared.Table.{Table}
 use Rattle.calls.specs.declared.Refusal.{Refusal}
 use Rattle.calls.specs.declared.Refusal.the-variants.{Head, Entries, Entry, Repeated, Same, Full, NegativeCycle}
 use Rattle.calls.specs.declared.Refusal.the-variants.{SlotNumber, Free, AtomNumber, Buffer, NotIn, Unsound}
+use Rattle.calls.specs.declared.Refusal.the-variants.{FileLength, Sums, BlockNumbers, Record}
 use Rattle.calls.specs.declared.AddAnswer.{AddAnswer}
 use Rattle.calls.specs.declared.AddAnswer.the-variants as added
 use Rattle.calls.specs.declared.RemoveAnswer.{RemoveAnswer}
 use Rattle.calls.specs.declared.RemoveAnswer.the-variants as removed
+use Rattle.calls.specs.declared.LoadAnswer.{LoadAnswer}
+use Rattle.calls.specs.declared.LoadAnswer.the-variants as loaded
 use Rattle.calls.specs.declared.LabelAnswer.{LabelAnswer}
 use Rattle.calls.specs.declared.LabelAnswer.the-variants as label
 use Rattle.calls.specs.declared.SpoilerAnswer.{SpoilerAnswer}
@@ -25,7 +28,9 @@ use Rattle.crossing.specs.declared.Change.{Change}
 use Rattle.crossing.specs.declared.AtomLabel.{AtomLabel}
 use Rattle.crossing.specs.declared.RuleSpoiler.{RuleSpoiler}
 use Rattle.crossing.specs.declared.Written.{Written}
-use Rattle.crossing.specs.Numbers.{crossedAdd, crossedRemove, crossedLabel, crossedSpoiler, crossedList, neededBy}
+use Rattle.crossing.specs.declared.Loaded.{Loaded}
+use Rattle.crossing.specs.Numbers.{crossedAdd, crossedRemove, crossedLabel, crossedSpoiler, crossedList}
+use Rattle.crossing.specs.Numbers.{crossedLoad, neededBy}
 
 -- A change: the slot k of an accepted call, or the number n of a refusal.
 abbrev change : ℕ → ℕ → Table → Change
@@ -47,6 +52,18 @@ pub remove-refused :
     → change n 0 u ≡ crossedRemove k x u
 remove-refused k x f u n e d =
     ap (λ (j : ℕ). change j 0 u) d ∙ ap (λ (y : RemoveAnswer). crossedRemove k y u) (sym e)
+
+-- A loaded table: the number n of a refusal, or 0.
+abbrev handed : ℕ → Table → Loaded
+handed n u = record { refused = n; table = u }
+
+pub load-accepted : (x : LoadAnswer) (u : Table) → x ≡ loaded.Loaded → handed 0 u ≡ crossedLoad x u
+load-accepted x u e = ap (λ (y : LoadAnswer). crossedLoad y u) (sym e)
+
+pub load-refused :
+    (x : LoadAnswer) (f : Refusal) (u : Table) (n : ℕ) → x ≡ loaded.Refused f → n ≡ numberOf f
+    → handed n u ≡ crossedLoad x u
+load-refused x f u n e d = ap (λ (k : ℕ). handed k u) d ∙ ap (λ (y : LoadAnswer). crossedLoad y u) (sym e)
 
 -- A label, a spoiler, a list: any case but a refusal by its equation, a refusal by its number too.
 
@@ -77,10 +94,13 @@ pub list-refused :
 list-refused x f n m e d b =
     ap₂ (λ (j k : ℕ). record { refused = j; count = k }) d b ∙ list-told x (listed.Refused f) e
 
+pub buffer-needed : (f : Refusal) (n : ℕ) → f ≡ Buffer n → n ≡ neededBy f
+buffer-needed f n e = ap neededBy (sym e)
+
 -- Every refusal but 11, whose place in the enum is 10, needs no entries.
 
 abbrev pub others : List ℕ
-others = 0 ∷ 1 ∷ 2 ∷ 3 ∷ 4 ∷ 5 ∷ 6 ∷ 7 ∷ 8 ∷ 9 ∷ 11 ∷ 12 ∷ []
+others = 0 ∷ 1 ∷ 2 ∷ 3 ∷ 4 ∷ 5 ∷ 6 ∷ 7 ∷ 8 ∷ 9 ∷ 11 ∷ 12 ∷ 13 ∷ 14 ∷ 15 ∷ 16 ∷ []
 
 pub none-needed : (f : Refusal) → OneOf others (tagOf the-type f) → 0 ≡ neededBy f
 none-needed Head h = refl
@@ -96,3 +116,7 @@ none-needed AtomNumber h = refl
 none-needed (Buffer n) h = absurd (miss others 10 tt h)
 none-needed NotIn h = refl
 none-needed Unsound h = refl
+none-needed FileLength h = refl
+none-needed Sums h = refl
+none-needed BlockNumbers h = refl
+none-needed Record h = refl

@@ -4,6 +4,7 @@ use Rattle.table.specs.declared.Table.{Table}
 use Rattle.calls.specs.declared.Refusal.{Refusal}
 use Rattle.calls.specs.declared.Refusal.the-variants.{Head, Entries, Entry, Repeated, Same, Full, NegativeCycle}
 use Rattle.calls.specs.declared.Refusal.the-variants.{SlotNumber, Free, AtomNumber, Buffer, NotIn, Unsound}
+use Rattle.calls.specs.declared.Refusal.the-variants.{FileLength, Sums, BlockNumbers, Record}
 use Rattle.calls.specs.declared.AddAnswer.{AddAnswer}
 use Rattle.calls.specs.declared.AddAnswer.the-variants as added
 use Rattle.calls.specs.declared.RemoveAnswer.{RemoveAnswer}
@@ -14,11 +15,14 @@ use Rattle.calls.specs.declared.SpoilerAnswer.{SpoilerAnswer}
 use Rattle.calls.specs.declared.SpoilerAnswer.the-variants as spoilt
 use Rattle.calls.specs.declared.ListAnswer.{ListAnswer}
 use Rattle.calls.specs.declared.ListAnswer.the-variants as listed
+use Rattle.calls.specs.declared.LoadAnswer.{LoadAnswer}
+use Rattle.calls.specs.declared.LoadAnswer.the-variants as loaded
 use Rattle.calls.specs.Answers.{numberOf}
 use Rattle.crossing.specs.declared.Change.{Change}
 use Rattle.crossing.specs.declared.AtomLabel.{AtomLabel}
 use Rattle.crossing.specs.declared.RuleSpoiler.{RuleSpoiler}
 use Rattle.crossing.specs.declared.Written.{Written}
+use Rattle.crossing.specs.declared.Loaded.{Loaded}
 
 abbrev pub crossedAdd : AddAnswer → Table → Change
 crossedAdd (added.Taken s) u = record { refused = 0; slot = s .0; table = u }
@@ -57,7 +61,15 @@ neededBy AtomNumber = 0
 neededBy (Buffer needed) = needed
 neededBy NotIn = 0
 neededBy Unsound = 0
+neededBy FileLength = 0
+neededBy Sums = 0
+neededBy BlockNumbers = 0
+neededBy Record = 0
 
 abbrev pub crossedList : ListAnswer → Written
 crossedList (listed.Count n) = record { refused = 0; count = n }
 crossedList (listed.Refused f) = record { refused = numberOf f; count = neededBy f }
+
+abbrev pub crossedLoad : LoadAnswer → Table → Loaded
+crossedLoad loaded.Loaded u = record { refused = 0; table = u }
+crossedLoad (loaded.Refused f) u = record { refused = numberOf f; table = u }

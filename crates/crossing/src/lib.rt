@@ -2,6 +2,7 @@
 use calls::AddAnswer;
 use calls::LabelAnswer;
 use calls::ListAnswer;
+use calls::LoadAnswer;
 use calls::Refusal;
 use calls::RemoveAnswer;
 use calls::SpoilerAnswer;
@@ -9,7 +10,7 @@ use calls::refusal_number;
 use table::Table;
 ghost use mathlib.Core.Path.{_≡_};
 ghost use Rattle.crossing.specs.Numbers.{crossedAdd, crossedRemove, crossedLabel, crossedSpoiler, crossedList};
-ghost use Rattle.crossing.specs.Numbers.{neededBy};
+ghost use Rattle.crossing.specs.Numbers.{crossedLoad, neededBy};
 
 // What a call that changes a table answers: the slot that an addition took, and the table handed back.
 #[repr(C)]
@@ -44,6 +45,13 @@ pub struct RuleSpoiler {
 pub struct Written {
     pub refused: u32,
     pub count: usize,
+}
+
+// What loading answers, and the table handed back: the empty one where it is refused.
+#[repr(C)]
+pub struct Loaded {
+    pub refused: u32,
+    pub table: Table,
 }
 
 // How many entries a refusal says are needed: with 11 alone.
@@ -162,6 +170,21 @@ pub fn crossed_spoiler(answer: SpoilerAnswer) -> RuleSpoiler
             spoiled: 0,
             place: 0,
             atom: 0,
+        },
+    }
+}
+
+pub fn crossed_load(answer: LoadAnswer, after: Table) -> Loaded
+    ensures { λ r. ⌜ r ≡ crossedLoad answer after ⌝ }
+{
+    match answer {
+        LoadAnswer::Loaded => Loaded {
+            refused: 0,
+            table: after,
+        },
+        LoadAnswer::Refused(f) => Loaded {
+            refused: refusal_number(f),
+            table: after,
         },
     }
 }

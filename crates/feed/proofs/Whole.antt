@@ -1,7 +1,7 @@
 -- Pieces don't matter: a sheet that is fed piece by piece prints what the whole sheet prints. Assumes nothing.
 use Prim.Native.Nat.{ℕ, _+_, _-_, _^_, _≤_, _<_}
 use native.Mathlib.Omega.{arith}
-use mathlib.Core.Path.{_≡_, sym, ap}
+use mathlib.Core.Path.{_≡_, refl, sym, ap}
 use mathlib.Core.List.{List, _++_, append-assoc}
 use lib.ListN.{length, take, length-append}
 use lib.Seq.{length-take-le}
@@ -38,24 +38,32 @@ pieces-read s f (piece {input = input} {bytes = bytes} {r = r} feeds rest) small
     let two = pieces-read (one .state) (one .stands) rest (omega (arith, small, long, first, lines-at-most read)) in
     record { state = two .state; reads = reads-then read (two .reads); stands = two .stands }
 
--- The bytes printed piece by piece, and then the reply to the last line, are all that the sheet prints. No line number
--- passes 32 bits: a sheet that a program reads is too short for that.
+-- The bytes printed piece by piece, and then the reply to the last line, are all that the sheet prints, and that reply's
+-- table is the one after the sheet. No line number passes 32 bits: a sheet that a program reads is too short for that.
+pub pieces-end :
+    {c d : Sheet} {input out before after : List ℕ} {last : Reply} → StandsFor start c → Pieces c input out d
+    → length input ≤ MOST → ROOM ≤ length before → RepliesAt d before 0 after last
+    → (p : SheetPrints input (out ++ take (last .next) after)) × (p .after ≡ last .table)
+pieces-end {out = out} {last = last} f pieces few room replies =
+    let end = pieces-read start f pieces (omega arith) in
+    let reply = replies .replies (omega arith) (end .state) (end .stands) in (
+      record {
+        printed = out;
+        last = reply .printed;
+        before-last = end .state;
+        after = last .table;
+        reads = end .reads;
+        prints = reply .prints;
+        whole = ap (λ (bs : List ℕ). out ++ bs) (wrote-start (reply .wrote));
+      },
+      refl,
+    )
+
 pub pieces-print :
     {c d : Sheet} {input out before after : List ℕ} {last : Reply} → StandsFor start c → Pieces c input out d
     → length input ≤ MOST → ROOM ≤ length before → RepliesAt d before 0 after last
     → SheetPrints input (out ++ take (last .next) after)
-pieces-print {out = out} {last = last} f pieces few room replies =
-    let end = pieces-read start f pieces (omega arith) in
-    let reply = replies .replies (omega arith) (end .state) (end .stands) in
-    record {
-      printed = out;
-      last = reply .printed;
-      before-last = end .state;
-      after = last .table;
-      reads = end .reads;
-      prints = reply .prints;
-      whole = ap (λ (bs : List ℕ). out ++ bs) (wrote-start (reply .wrote));
-    }
+pieces-print f pieces few room replies = pieces-end f pieces few room replies .0
 
 -- Pieces behind pieces.
 pub pieces-then :

@@ -1,4 +1,4 @@
--- Demand 2: after an accepted addition or removal an atom is in if and only if it is in the admissible model of the
+-- Demand 2: after an addition, a removal or a load an atom is in if and only if it is in the admissible model of the
 -- rules now held; a rule that closes a loop through a negation is refused by 7, and no other is. Request #102, of the
 -- calls. Assumes nothing.
 use Prim.Native.Nat.{ℕ, _<_}
@@ -6,7 +6,7 @@ use native.Mathlib.Omega.{arith}
 use mathlib.Core.Path.{_≡_, refl, sym, _∙_, ap, subst}
 use mathlib.Core.Logic.{⊎-elim}
 use mathlib.Core.Bool.{true, false, not, _||_}
-use mathlib.Core.List.{[], List·Memᴰ·head}
+use mathlib.Core.List.{List, [], List·Memᴰ·head}
 use mathlib.Core.Option.{none, some, Option·some-injective, Option·none-ne-some}
 use lib.Dec.{eqb}
 use lib.ListN.{take}
@@ -27,16 +27,19 @@ use Rattle.theory.proofs.Questions.{first-no-here, first-no-take, first-no-at, 
 use Rattle.theory.proofs.Labels.{in-occurs}
 use Rattle.table.specs.declared.Table.{Table}
 use Rattle.table.specs.Labels.{labelAt}
+use Rattle.table.specs.Clean.{emptyTable}
 use Rattle.table.specs.Sound.{Sound}
+use Rattle.table.proofs.Empty.{empty-sound}
 use Rattle.calls.specs.declared.AddAnswer.{AddAnswer}
 use Rattle.calls.specs.declared.AddAnswer.the-variants as added
 use Rattle.calls.specs.declared.RemoveAnswer.{RemoveAnswer}
 use Rattle.calls.specs.declared.RemoveAnswer.the-variants as removed
+use Rattle.calls.specs.declared.LoadAnswer.{LoadAnswer}
 use Rattle.calls.specs.declared.Refusal.{Refusal}
 use Rattle.calls.specs.declared.Refusal.the-variants as refusal
 use Rattle.calls.specs.Answers.{numberOf}
 use Rattle.calls.specs.Contracts as contract
-use Rattle.calls.specs.Contracts.{held, AddEnds, RemoveEnds}
+use Rattle.calls.specs.Contracts.{held, AddEnds, RemoveEnds, LoadEnds}
 use Rattle.calls.proofs.Refusals.{refusalOf, refusal-number}
 use Rattle.history.specs.Claim.{InModel}
 use Rattle.history.proofs.Sequence.{sound-model}
@@ -57,7 +60,8 @@ sound-in-model u S = record {
       ((λ t. sym e ∙ t), (λ t. e ∙ t)));
 }
 
--- Demand 2, of an addition that was accepted and of a removal.
+-- Demand 2, of an addition and of a removal, on a sound table; of a load, which takes none: a refusal hands back the
+-- empty table.
 pub demand-2-add : (t u : Table) (r : Rule) (x : AddAnswer) → AddEnds t r x u → Sound t → InModel u
 demand-2-add t u r x (contract.unsound n) S = absurd (n S)
 demand-2-add t u r x (contract.refused f T e) S = sound-in-model t S
@@ -67,6 +71,10 @@ pub demand-2-remove : (t u : Table) (s : ℕ) (x : RemoveAnswer) → RemoveEnds 
 demand-2-remove t u s x (contract.unsound n) S = absurd (n S)
 demand-2-remove t u s x (contract.refused f T e) S = sound-in-model t S
 demand-2-remove t u s x (contract.accepted w T e Z h U) S = sound-in-model w U
+
+pub demand-2-load : (bytes : List ℕ) (u : Table) (x : LoadAnswer) → LoadEnds bytes x u → InModel u
+demand-2-load bytes u x (contract.refused f e) = sound-in-model emptyTable empty-sound
+demand-2-load bytes u x (contract.accepted w e Z h U) = sound-in-model w U
 
 -- The table with the rule, as it is kept.
 abbrev with-rule : Table → Rule → Program

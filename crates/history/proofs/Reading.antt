@@ -2,31 +2,37 @@
 use Prim.Native.Nat.{ℕ, zero, suc, _+_, _-_, _≤_, _<_}
 use native.Mathlib.Omega.{arith}
 use mathlib.Core.Path.{_≡_, refl, sym, _∙_, ap, ap₂, subst}
-use mathlib.Core.Bool.{Bool, true, false, true≢false}
+use mathlib.Core.Bool.{Bool, true, false, true≢false, _&&_}
 use mathlib.Core.List.{List}
 use mathlib.Core.Option.{none, some}
 use lib.Dec.{leb}
 use lib.ListN.{length, getD, take, drop}
 use Rattle.theory.specs.Book.{add, remove}
-use Rattle.theory.proofs.Lists.{unless, leb-le, le-leb}
+use Rattle.theory.proofs.Lists.{unless, leb-le, le-leb, and-l, and-r, and-of}
 use Rattle.calls.specs.declared.Refusal.{Refusal}
 use Rattle.calls.specs.declared.Refusal.the-variants.{Head, Entries, Entry, Repeated, Same, Full, NegativeCycle}
 use Rattle.calls.specs.declared.Refusal.the-variants.{SlotNumber, Free, AtomNumber, Buffer, NotIn, Unsound}
+use Rattle.calls.specs.declared.Refusal.the-variants.{FileLength, Sums, BlockNumbers, Record}
 use Rattle.calls.specs.declared.AddAnswer.{AddAnswer}
 use Rattle.calls.specs.declared.AddAnswer.the-variants as added
 use Rattle.calls.specs.declared.RemoveAnswer.{RemoveAnswer}
 use Rattle.calls.specs.declared.RemoveAnswer.the-variants as removed
-use Rattle.calls.specs.Answers.{numberOf, bookAdd, bookRemove}
+use Rattle.calls.specs.declared.LoadAnswer.{LoadAnswer}
+use Rattle.calls.specs.declared.LoadAnswer.the-variants as loaded
+use Rattle.calls.specs.Answers.{numberOf, bookAdd, bookRemove, bookLoad}
 use Rattle.history.specs.declared.Next.{Next}
 use Rattle.history.specs.declared.Next.the-variants as next
-use Rattle.history.specs.Encoding.{addition-at, when, placed-kind, placed, encode}
+use Rattle.history.specs.declared.Stepped.{Stepped}
+use Rattle.history.specs.Calls.{change, load}
+use Rattle.history.specs.Encoding.{addition-at, between, load-at, when, in-files, encode}
+use Rattle.history.specs.Encoding.{placed-load, placed-kind, placed}
 use Rattle.table.specs.declared.Table.{Table}
 use Rattle.calls.specs.Contracts.{AddEnds, RemoveEnds}
-use Rattle.history.specs.Claim.{adds, removes}
-use Rattle.history.specs.Steps.{between, callOf, InOrder, NextOf, StepOf}
+use Rattle.history.specs.Claim.{adds, removes, loads}
+use Rattle.history.specs.Steps.{callOf, InOrder, NextLoad, NextOf, LoadMade, StepOf}
 
 -- A refusal's number is small.
-number-small : (f : Refusal) → numberOf f ≤ 15
+number-small : (f : Refusal) → numberOf f ≤ 19
 number-small Head = omega arith
 number-small Entries = omega arith
 number-small Entry = omega arith
@@ -40,8 +46,12 @@ number-small AtomNumber = omega arith
 number-small (Buffer needed) = omega arith
 number-small NotIn = omega arith
 number-small Unsound = omega arith
+number-small FileLength = omega arith
+number-small Sums = omega arith
+number-small BlockNumbers = omega arith
+number-small Record = omega arith
 
-pub small : (f : Refusal) (n : ℕ) → n ≡ numberOf f → n ≤ 15
+pub small : (f : Refusal) (n : ℕ) → n ≡ numberOf f → n ≤ 19
 small f n e = omega (arith, number-small f)
 
 pub added-refused :
@@ -55,55 +65,114 @@ pub removed-refused :
 removed-refused x f n e d =
     ap (λ (k : ℕ). 65536 + k) d ∙ ap (λ (y : RemoveAnswer). encode (bookRemove y)) (sym e)
 
-module _ (ws : List ℕ) (at : ℕ) where
-  pub short : length ws < at + 2 → placed ws at ≡ none
+pub loaded-refused :
+    (x : LoadAnswer) (f : Refusal) (n : ℕ) → x ≡ loaded.Refused f → n ≡ numberOf f → 65536 + n ≡ encode (bookLoad x)
+loaded-refused x f n e d =
+    ap (λ (k : ℕ). 65536 + k) d ∙ ap (λ (y : LoadAnswer). encode (bookLoad y)) (sym e)
+
+module _ (ws files : List ℕ) (at : ℕ) where
+  pub short : length ws < at + 2 → placed ws files at ≡ none
   unfolding placed
   short l =
-      ap (λ (t : Bool). when t (placed-kind ws at (getD ws at 0)))
+      ap (λ (t : Bool). when t (placed-kind ws files at (getD ws at 0)))
       (unless (leb (at + 2) (length ws)) (λ t. omega (arith, leb-le (at + 2) (length ws) t)))
 
-  pub by-kind : at + 2 ≤ length ws → (k : ℕ) → getD ws at 0 ≡ k → placed ws at ≡ placed-kind ws at k
+  pub by-kind : at + 2 ≤ length ws → (k : ℕ) → getD ws at 0 ≡ k → placed ws files at ≡ placed-kind ws files at k
   unfolding placed
   by-kind l k e =
-      ap (λ (t : Bool). when t (placed-kind ws at (getD ws at 0))) (le-leb (at + 2) (length ws) l)
-      ∙ ap (placed-kind ws at) e
+      ap (λ (t : Bool). when t (placed-kind ws files at (getD ws at 0))) (le-leb (at + 2) (length ws) l)
+      ∙ ap (placed-kind ws files at) e
 
   -- what an addition's counts say of the list's length
   pub counts :
       (t : Bool) → leb (addition-at ws at .behind) (length ws) ≡ t → at + 2 ≤ length ws → getD ws at 0 ≡ 1
-      → placed ws at ≡ when t (some (addition-at ws at))
+      → placed ws files at ≡ when t (some (addition-at ws at))
   counts t u l e = by-kind l 1 e ∙ ap (λ (b : Bool). when b (some (addition-at ws at))) u
+
+  -- what a load's places say
+  abbrev fits : Bool
+  fits = leb (at + 3) (length ws) && in-files files (getD ws (at + 1) 0) (getD ws (at + 2) 0)
+
+  pub load-fits :
+      at + 3 ≤ length ws → getD ws (at + 1) 0 ≤ getD ws (at + 2) 0 → getD ws (at + 2) 0 ≤ length files
+      → placed-load ws files at ≡ some (load-at ws files at)
+  unfolding placed-load
+  load-fits l o i =
+      ap (λ (t : Bool). when t (some (load-at ws files at)))
+      (and-of _ _ (le-leb _ _ l) (and-of _ _ (le-leb _ _ o) (le-leb _ _ i)))
+
+  no-load : (fits ≡ true → ⊥) → placed-load ws files at ≡ none
+  unfolding placed-load
+  no-load f = ap (λ (t : Bool). when t (some (load-at ws files at))) (unless fits f)
 
   -- Nothing is read.
 
-  pub end-short : length ws < at + 2 → NextOf ws at next.End
+  pub end-short : length ws < at + 2 → NextOf ws files at next.End
   end-short l = record { read = sym (short l); order = tt }
 
-  pub end-other : at + 2 ≤ length ws → (getD ws at 0 ≡ 0 → ⊥) → (getD ws at 0 ≡ 1 → ⊥) → NextOf ws at next.End
-  end-other l f g = record { read = sym (other (getD ws at 0) refl); order = tt }
+  pub end-other :
+      at + 2 ≤ length ws → (getD ws at 0 ≡ 0 → ⊥) → (getD ws at 0 ≡ 1 → ⊥) → (getD ws at 0 ≡ 2 → ⊥)
+      → NextOf ws files at next.End
+  end-other l f g h = record { read = sym (other (getD ws at 0) refl); order = tt }
     where
-      other : (k : ℕ) → getD ws at 0 ≡ k → placed ws at ≡ none
+      other : (k : ℕ) → getD ws at 0 ≡ k → placed ws files at ≡ none
       other zero e = absurd (f e)
       other (suc zero) e = absurd (g e)
-      other (suc (suc k)) e = by-kind l (suc (suc k)) e
+      other (suc (suc zero)) e = absurd (h e)
+      other (suc (suc (suc k))) e = by-kind l (suc (suc (suc k))) e
 
   pub end-cut :
       at + 2 ≤ length ws → getD ws at 0 ≡ 1 → length ws < at + 4 + getD ws (at + 2) 0 + getD ws (at + 3) 0
-      → NextOf ws at next.End
+      → NextOf ws files at next.End
   end-cut l e s = record {
     read = sym (counts false (unless (leb (addition-at ws at .behind) (length ws))
         (λ t. omega (arith, leb-le (addition-at ws at .behind) (length ws) t))) l e);
     order = tt;
   }
 
-  -- A removal, an addition.
+  pub load-short : length ws < at + 3 → NextLoad ws files at next.End
+  load-short l = record {
+    read = sym (no-load (λ t. omega (arith, leb-le (at + 3) (length ws) (and-l _ _ t))));
+    order = tt;
+  }
 
-  pub reads-removal : at + 2 ≤ length ws → getD ws at 0 ≡ 0 → NextOf ws at (next.Remove (getD ws (at + 1) 0) (at + 2))
+  pub load-backward : getD ws (at + 2) 0 < getD ws (at + 1) 0 → NextLoad ws files at next.End
+  load-backward l = record {
+    read = sym (no-load (λ t. omega (
+      arith,
+      leb-le (getD ws (at + 1) 0) (getD ws (at + 2) 0) (and-l _ _ (and-r (leb (at + 3) (length ws)) _ t)),
+    )));
+    order = tt;
+  }
+
+  pub load-past : length files < getD ws (at + 2) 0 → NextLoad ws files at next.End
+  load-past l = record {
+    read = sym (no-load (λ t. omega (
+      arith,
+      leb-le (getD ws (at + 2) 0) (length files)
+          (and-r (leb (getD ws (at + 1) 0) (getD ws (at + 2) 0)) _ (and-r (leb (at + 3) (length ws)) _ t)),
+    )));
+    order = tt;
+  }
+
+  -- A removal, a load, an addition.
+
+  pub reads-removal :
+      at + 2 ≤ length ws → getD ws at 0 ≡ 0 → NextOf ws files at (next.Remove (getD ws (at + 1) 0) (at + 2))
   reads-removal l e = record { read = sym (by-kind l 0 e); order = l }
+
+  pub reads-load :
+      at + 3 ≤ length ws → getD ws (at + 1) 0 ≤ getD ws (at + 2) 0 → getD ws (at + 2) 0 ≤ length files
+      → NextLoad ws files at (next.Load (getD ws (at + 1) 0) (getD ws (at + 2) 0) (at + 3))
+  reads-load l o i = record { read = sym (load-fits l o i); order = (o, i) }
+
+  pub reads-other :
+      (r : Next) → at + 2 ≤ length ws → getD ws at 0 ≡ 2 → NextLoad ws files at r → NextOf ws files at r
+  reads-other r l e N = record { read = N .read ∙ sym (by-kind l 2 e); order = N .order }
 
   pub reads-addition :
       at + 4 + getD ws (at + 2) 0 + getD ws (at + 3) 0 ≤ length ws → getD ws at 0 ≡ 1
-      → NextOf ws at (next.Add (getD ws (at + 1) 0) (at + 4) (at + 4 + getD ws (at + 2) 0)
+      → NextOf ws files at (next.Add (getD ws (at + 1) 0) (at + 4) (at + 4 + getD ws (at + 2) 0)
       (at + 4 + getD ws (at + 2) 0 + getD ws (at + 3) 0))
   reads-addition l e = record {
     read =
@@ -113,39 +182,43 @@ module _ (ws : List ℕ) (at : ℕ) where
         let v : at + 4 + p + n - (at + 4 + p) ≡ n = omega arith in
         _∙_ {b = some (addition-at ws at)}
         (ap₂ (λ (j k : ℕ). some (record {
-          call = add (record {
+          call = change (add (record {
             head = getD ws (at + 1) 0;
             positives = take j (drop (at + 4) ws);
             negatives = take k (drop (at + 4 + p) ws);
-          });
+          }));
           behind = at + 4 + p + n;
         })) u v)
         (sym (counts true (le-leb _ _ l) (omega arith) e));
     order = (omega arith, omega arith, l);
   }
 
--- The parts of an addition's lists lie in the list.
+-- The parts of an addition's lists lie in the list, the file of a load in the files.
 pub add-order :
-    (n : ℕ) (x : Next) (h f m e : ℕ) → x ≡ next.Add h f m e → InOrder n x → (f ≤ m) × (m ≤ e) × (e ≤ n)
-add-order n x h f m e q o = subst (InOrder n) q o
+    (n k : ℕ) (x : Next) (h f m e : ℕ) → x ≡ next.Add h f m e → InOrder n k x → (f ≤ m) × (m ≤ e) × (e ≤ n)
+add-order n k x h f m e q o = subst (InOrder n k) q o
+
+pub load-order :
+    (n k : ℕ) (x : Next) (f e b : ℕ) → x ≡ next.Load f e b → InOrder n k x → (f ≤ e) × (e ≤ k)
+load-order n k x f e b q o = subst (InOrder n k) q o
 
 -- One step, by the call that was read.
-module _ (ws : List ℕ) (at : ℕ) (t : Table) (x : Next) (N : NextOf ws at x) where
-  pub step-end : x ≡ next.End → StepOf ws at t (record { more = false; answer = 0; at = at; table = t })
+module _ (ws files : List ℕ) (at : ℕ) (t : Table) (x : Next) (N : NextOf ws files at x) where
+  pub step-end : x ≡ next.End → StepOf ws files at t (record { more = false; answer = 0; at = at; table = t })
   step-end e = record {
-    over = λ q. sym (N .read) ∙ ap (callOf ws) e;
+    over = λ q. sym (N .read) ∙ ap (callOf ws files) e;
     made = λ q. absurd (true≢false (sym q));
   }
 
   pub step-removal :
       (s b n : ℕ) (y : RemoveAnswer) (u : Table) → x ≡ next.Remove s b → RemoveEnds t s y u
-      → n ≡ encode (bookRemove y) → StepOf ws at t (record { more = true; answer = n; at = b; table = u })
+      → n ≡ encode (bookRemove y) → StepOf ws files at t (record { more = true; answer = n; at = b; table = u })
   step-removal s b n y u e E d = record {
     over = λ q. absurd (true≢false q);
     made = λ q. record {
-      call = remove s;
+      call = change (remove s);
       told = bookRemove y;
-      stands = sym (N .read) ∙ ap (callOf ws) e;
+      stands = sym (N .read) ∙ ap (callOf ws files) e;
       step = removes E;
       number = d;
     };
@@ -154,14 +227,28 @@ module _ (ws : List ℕ) (at : ℕ) (t : Table) (x : Next) (N : NextOf ws at x) 
   pub step-addition :
       (h f m b n : ℕ) (y : AddAnswer) (u : Table) → x ≡ next.Add h f m b
       → AddEnds t (record { head = h; positives = between ws f m; negatives = between ws m b }) y u
-      → n ≡ encode (bookAdd y) → StepOf ws at t (record { more = true; answer = n; at = b; table = u })
+      → n ≡ encode (bookAdd y) → StepOf ws files at t (record { more = true; answer = n; at = b; table = u })
   step-addition h f m b n y u e E d = record {
     over = λ q. absurd (true≢false q);
     made = λ q. record {
-      call = add (record { head = h; positives = between ws f m; negatives = between ws m b });
+      call = change (add (record { head = h; positives = between ws f m; negatives = between ws m b }));
       told = bookAdd y;
-      stands = sym (N .read) ∙ ap (callOf ws) e;
+      stands = sym (N .read) ∙ ap (callOf ws files) e;
       step = adds E;
       number = d;
+    };
+  }
+
+  pub step-loading :
+      (f e b : ℕ) (r : Stepped) → x ≡ next.Load f e b → LoadMade (between files f e) b r → StepOf ws files at t r
+  step-loading f e b r q L = record {
+    over = λ z. absurd (true≢false (sym (L .more) ∙ z));
+    made = λ z. record {
+      call = load (between files f e);
+      told = bookLoad (L .told);
+      stands = sym (N .read) ∙ ap (callOf ws files) q
+          ∙ ap (λ (k : ℕ). some (record { call = load (between files f e); behind = k })) (sym (L .at));
+      step = loads (L .ends);
+      number = L .number;
     };
   }

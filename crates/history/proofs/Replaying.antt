@@ -7,9 +7,10 @@ use mathlib.Core.List.{List, [], _∷_, _++_, map, append-assoc, append-nil, map
 use mathlib.Core.Option.{none, some}
 use lib.ListN.{length, getD, set, drop, length-append, length-map}
 use lib.Seq.{drop-cons, set-at}
-use Rattle.theory.specs.Book.{Call, Answer}
+use Rattle.theory.specs.Book.{Answer}
 use Rattle.table.specs.declared.Table.{Table}
 use Rattle.table.specs.Clean.{emptyTable}
+use Rattle.history.specs.Calls.{Call}
 use Rattle.history.specs.Claim.{Step, Trace, stop, call, History}
 use Rattle.history.specs.Encoding.{Placed, placed, decode, encode}
 use Rattle.history.specs.Replays.{Replays, calls-in}
@@ -23,40 +24,43 @@ trace-more :
 trace-more stop s = call s stop
 trace-more (call w rest) s = call w (trace-more rest s)
 
-pub decode-over : (most : ℕ) (ws : List ℕ) (at : ℕ) → placed ws at ≡ none → decode most ws at ≡ []
-decode-over zero ws at e = unfold decode in refl
-decode-over (suc most) ws at e = unfold decode in (rw (e, decode))
+pub decode-over :
+    (most : ℕ) (ws files : List ℕ) (at : ℕ) → placed ws files at ≡ none → decode most ws files at ≡ []
+decode-over zero ws files at e = unfold decode in refl
+decode-over (suc most) ws files at e = unfold decode in (rw (e, decode))
 
 pub decode-next :
-    (most : ℕ) (ws : List ℕ) (at : ℕ) (c : Placed) → placed ws at ≡ some c
-    → decode (suc most) ws at ≡ c .call ∷ decode most ws (c .behind)
+    (most : ℕ) (ws files : List ℕ) (at : ℕ) (c : Placed) → placed ws files at ≡ some c
+    → decode (suc most) ws files at ≡ c .call ∷ decode most ws files (c .behind)
 unfolding decode
-decode-next most ws at c e = rw (e, decode)
+decode-next most ws files at c e = rw (e, decode)
 
 -- After count calls, at a place of the list: these were made, and the rest of the list is still to be read.
-pub record Going (ws before : List ℕ) (at count : ℕ) (t : Table) (now : List ℕ) : Type 0 where
+pub record Going (ws files before : List ℕ) (at count : ℕ) (t : Table) (now : List ℕ) : Type 0 where
   pub done : List Call
   pub told : List Answer
   pub trace : Trace emptyTable done told t
   pub calls : length done ≡ count
   pub answers : length told ≡ count
   pub room : count ≤ length before
-  pub left : calls-in ws before ≡ done ++ decode (length before - count) ws at
+  pub left : calls-in ws files before ≡ done ++ decode (length before - count) ws files at
   pub buffer : now ≡ map encode told ++ drop count before
 
-pub going-start : (ws before : List ℕ) (t : Table) → t ≡ emptyTable → Going ws before 0 0 t before
-going-start ws before t e = record {
+pub going-start : (ws files before : List ℕ) (t : Table) → t ≡ emptyTable → Going ws files before 0 0 t before
+going-start ws files before t e = record {
   done = [];
   told = [];
   trace = subst (λ (u : Table). Trace emptyTable [] [] u) (sym e) stop;
   calls = refl;
   answers = refl;
   room = omega arith;
-  left = (let z : length before ≡ length before - 0 = omega arith in ap (λ (k : ℕ). decode k ws 0) z);
+  left = (let z : length before ≡ length before - 0 = omega arith in ap (λ (k : ℕ). decode k ws files 0) z);
   buffer = refl;
 }
 
-module _ (ws before : List ℕ) (at count : ℕ) (t : Table) (now : List ℕ) (G : Going ws before at count t now) where
+module _
+    (ws files before : List ℕ) (at count : ℕ) (t : Table) (now : List ℕ)
+    (G : Going ws files before at count t now) where
   pub going-length : length now ≡ length before
   going-length =
       ap length (G .buffer) ∙ length-append (map encode (G .told)) (drop count before)
@@ -66,8 +70,8 @@ module _ (ws before : List ℕ) (at count : ℕ) (t : Table) (now : List ℕ) (G
       length-dropped = lib.ListN.length-drop count before
 
   pub going-next :
-      (answer behind : ℕ) (u : Table) → count < length before → CallMade ws at t answer behind u
-      → Going ws before behind (count + 1) u (set now count answer)
+      (answer behind : ℕ) (u : Table) → count < length before → CallMade ws files at t answer behind u
+      → Going ws files before behind (count + 1) u (set now count answer)
   going-next answer behind u l m = record {
     done = G .done ++ (m .call ∷ []);
     told = G .told ++ (m .told ∷ []);
@@ -79,8 +83,8 @@ module _ (ws before : List ℕ) (at count : ℕ) (t : Table) (now : List ℕ) (G
         let q : length before - count ≡ suc (length before - (count + 1)) = omega arith in
         G .left
         ∙ ap (λ (zs : List Call). G .done ++ zs)
-        (ap (λ (k : ℕ). decode k ws at) q ∙ decode-next (length before - (count + 1)) ws at _ (m .stands))
-        ∙ sym (append-assoc (G .done) (m .call ∷ []) (decode (length before - (count + 1)) ws behind));
+        (ap (λ (k : ℕ). decode k ws files at) q ∙ decode-next (length before - (count + 1)) ws files at _ (m .stands))
+        ∙ sym (append-assoc (G .done) (m .call ∷ []) (decode (length before - (count + 1)) ws files behind));
     buffer =
         let d : drop count before ≡ getD before count 0 ∷ drop (count + 1) before =
         drop-cons before count 0 l ∙ ap (λ (k : ℕ). getD before count 0 ∷ drop k before) (sym (add-one count)) in
@@ -93,9 +97,11 @@ module _ (ws before : List ℕ) (at count : ℕ) (t : Table) (now : List ℕ) (G
   }
 
   -- Where no call is left, the whole was made.
-  finished : decode (length before - count) ws at ≡ [] → Replays ws before (record { count = count; table = t }) now
+  finished :
+      decode (length before - count) ws files at ≡ []
+      → Replays ws files before (record { count = count; table = t }) now
   finished e =
-      let whole : calls-in ws before ≡ G .done = G .left ∙ ap
+      let whole : calls-in ws files before ≡ G .done = G .left ∙ ap
       (λ (zs : List Call). G .done ++ zs) e ∙ append-nil (G .done) in
       record {
         told = G .told;
@@ -105,10 +111,10 @@ module _ (ws before : List ℕ) (at count : ℕ) (t : Table) (now : List ℕ) (G
         written = G .buffer;
       }
 
-  pub going-over : placed ws at ≡ none → Replays ws before (record { count = count; table = t }) now
-  going-over e = finished (decode-over (length before - count) ws at e)
+  pub going-over : placed ws files at ≡ none → Replays ws files before (record { count = count; table = t }) now
+  going-over e = finished (decode-over (length before - count) ws files at e)
 
-  pub going-full : length before ≤ count → Replays ws before (record { count = count; table = t }) now
+  pub going-full : length before ≤ count → Replays ws files before (record { count = count; table = t }) now
   going-full l =
       let z : length before - count ≡ 0 = omega arith in
-      finished (ap (λ (k : ℕ). decode k ws at) z ∙ (unfold decode in refl))
+      finished (ap (λ (k : ℕ). decode k ws files at) z ∙ (unfold decode in refl))

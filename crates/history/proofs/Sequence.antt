@@ -5,7 +5,7 @@ use native.Mathlib.Omega.{arith}
 use mathlib.Core.Path.{_≡_, refl, sym, _∙_, ap, ap₂, subst}
 use mathlib.Core.Logic.{⊎-elim}
 use mathlib.Core.Bool.{true, false}
-use mathlib.Core.List.{List, [], _∷_}
+use mathlib.Core.List.{List, [], _∷_, map}
 use mathlib.Core.Option.{Option, none, some}
 use lib.Dec.{ltb}
 use lib.ListN.{length, getD, replicate}
@@ -17,8 +17,8 @@ use Rattle.theory.specs.Labels.{Label, out, in-at, Labelled, is-out, is-in}
 use Rattle.theory.specs.Labels.{Spoiler, spoiler, Spoils}
 use Rattle.theory.specs.Questions.{first-no, slot-questions, atom-questions, put-in}
 use Rattle.theory.specs.Questions.{asks, is-some}
-use Rattle.theory.specs.Book.{Call, add, remove, Answer, refused, slot, accepted, empty, answer, after, answers}
-use Rattle.theory.specs.Book.{after-all}
+use Rattle.theory.specs.Book as book
+use Rattle.theory.specs.Book.{add, remove, Answer, refused, accepted, empty, answer, after, answers, after-all}
 use Rattle.theory.specs.Book.{refusal, granted, changed, slot-answer}
 use Rattle.theory.specs.Limits.{document}
 use Rattle.theory.proofs.Lists.{test, clash, lt-ltb}
@@ -33,14 +33,17 @@ use Rattle.table.specs.Rules.{programOf}
 use Rattle.table.specs.Labels.{labelAt}
 use Rattle.table.specs.Clean.{emptyTable, freeRule}
 use Rattle.table.specs.Sound.{Sound}
-use Rattle.table.proofs.Empty.{empty-sound}
+use Rattle.table.proofs.Empty.{empty-sound, free-program}
+use Rattle.blocks.specs.Questions.{file-questions, pagesOf}
+use Rattle.blocks.specs.Book.{loadAnswer, loadPages}
 use Rattle.calls.specs.declared.LabelAnswer.{LabelAnswer}
 use Rattle.calls.specs.declared.SpoilerAnswer.{SpoilerAnswer}
 use Rattle.calls.specs.Answers.{tellLabel, tellSpoiler}
 use Rattle.calls.specs.Contracts as contract
 use Rattle.calls.specs.Contracts.{held, LabelEnds, SpoilerEnds}
 use Rattle.calls.proofs.Determined.{label-determined, spoiler-determined}
-use Rattle.history.specs.Claim.{Step, adds, removes, Trace, stop, call, bookAnswers, bookAfter, Supported}
+use Rattle.history.specs.Calls.{Call, change, callAnswer, callAfter, callsAnswers, callsAfter}
+use Rattle.history.specs.Claim.{Step, adds, removes, loads, Trace, stop, call, bookAnswers, bookAfter, Supported}
 use Rattle.history.specs.Claim.{History}
 
 -- The rules of a sound table have one admissible model, and its atoms are below the limit.
@@ -59,25 +62,54 @@ sound-below t S x u =
 
 -- What a call on a sound table answers and leaves is what the book does, and the table stays sound.
 pub record Follows (P : Program) (c : Call) (x : Answer) (u : Table) : Type 0 where
-  pub said : x ≡ answer document P c
-  pub holds : held u ≡ after document P c
+  pub said : x ≡ callAnswer document P c
+  pub holds : held u ≡ callAfter document P c
   pub still : Sound u
 
-answer-no : (P : Program) (c : Call) (k : ℕ) → refusal document P c ≡ some k → answer document P c ≡ refused k
+answer-no : (P : Program) (c : book.Call) (k : ℕ) → refusal document P c ≡ some k → answer document P c ≡ refused k
 unfolding answer
 answer-no P c k e = rw (e, answer)
 
-answer-yes : (P : Program) (c : Call) → refusal document P c ≡ none → answer document P c ≡ granted document P c
+answer-yes : (P : Program) (c : book.Call) → refusal document P c ≡ none → answer document P c ≡ granted document P c
 unfolding answer
 answer-yes P c e = rw (e, answer)
 
-after-no : (P : Program) (c : Call) (k : ℕ) → refusal document P c ≡ some k → after document P c ≡ P
+after-no : (P : Program) (c : book.Call) (k : ℕ) → refusal document P c ≡ some k → after document P c ≡ P
 unfolding after
 after-no P c k e = rw (e, after)
 
-after-yes : (P : Program) (c : Call) → refusal document P c ≡ none → after document P c ≡ changed document P c
+after-yes : (P : Program) (c : book.Call) → refusal document P c ≡ none → after document P c ≡ changed document P c
 unfolding after
 after-yes P c e = rw (e, after)
+
+-- The rules of the empty table are the empty book.
+pub empty-held : held emptyTable ≡ empty document
+empty-held = free-program (document .slots)
+
+-- The same of a load, which asks its questions of the bytes alone.
+
+load-answer-no :
+    (bytes : List ℕ) (k : ℕ) → first-no (file-questions document bytes) ≡ some k
+    → loadAnswer document bytes ≡ refused k
+unfolding loadAnswer
+load-answer-no bytes k e = rw (e, loadAnswer)
+
+load-answer-yes :
+    (bytes : List ℕ) → first-no (file-questions document bytes) ≡ none → loadAnswer document bytes ≡ accepted
+unfolding loadAnswer
+load-answer-yes bytes e = rw (e, loadAnswer)
+
+load-pages-no :
+    (bytes : List ℕ) (k : ℕ) → first-no (file-questions document bytes) ≡ some k
+    → loadPages document bytes ≡ empty document
+unfolding loadPages
+load-pages-no bytes k e = rw (e, loadPages)
+
+load-pages-yes :
+    (bytes : List ℕ) → first-no (file-questions document bytes) ≡ none
+    → loadPages document bytes ≡ pagesOf document bytes
+unfolding loadPages
+load-pages-yes bytes e = rw (e, loadPages)
 
 pub step-follows : {t u : Table} {c : Call} {x : Answer} → Sound t → Step t c x u → Follows (held t) c x u
 step-follows {t} S (adds (contract.unsound n)) = absurd (n S)
@@ -102,23 +134,33 @@ step-follows {t} S (removes {s} (contract.accepted u T e Z h U)) = record {
   holds = h ∙ sym (after-yes (held t) (remove s) e);
   still = U;
 }
+step-follows {t} S (loads {bytes} (contract.refused f e)) = record {
+  said = sym (load-answer-no bytes _ e);
+  holds = empty-held ∙ sym (load-pages-no bytes _ e);
+  still = empty-sound;
+}
+step-follows {t} S (loads {bytes} (contract.accepted u e Z h U)) = record {
+  said = sym (load-answer-yes bytes e);
+  holds = h ∙ sym (load-pages-yes bytes e);
+  still = U;
+}
 
 -- The same of a list of calls, by induction on the list.
 pub record Agrees (P : Program) (cs : List Call) (xs : List Answer) (v : Table) : Type 0 where
-  pub told : xs ≡ answers document P cs
-  pub kept : held v ≡ after-all document P cs
+  pub told : xs ≡ callsAnswers document P cs
+  pub kept : held v ≡ callsAfter document P cs
   pub sound : Sound v
 
 pub trace-agrees :
     {t v : Table} {cs : List Call} {xs : List Answer} → Sound t → Trace t cs xs v → Agrees (held t) cs xs v
-unfolding answers after-all
+unfolding callsAnswers callsAfter
 trace-agrees S stop = record { told = refl; kept = refl; sound = S }
 trace-agrees S (call {cs = cs} step rest) =
     let w = step-follows S step in
     let z = trace-agrees (w .still) rest in
     record {
-      told = ap₂ _∷_ (w .said) (z .told ∙ ap (λ (P : Program). answers document P cs) (w .holds));
-      kept = z .kept ∙ ap (λ (P : Program). after-all document P cs) (w .holds);
+      told = ap₂ _∷_ (w .said) (z .told ∙ ap (λ (P : Program). callsAnswers document P cs) (w .holds));
+      kept = z .kept ∙ ap (λ (P : Program). callsAfter document P cs) (w .holds);
       sound = z .sound;
     }
 
@@ -150,11 +192,6 @@ out-spoiled P M A a s r (is-out o n) h e = ⊎-elim
     (λ (t : valid M r ≡ true). absurd (clash (ap M (sym e) ∙ A .closed s r h t) n))
     (λ (t : valid M r ≡ false). (let w = spoiler-exists M r t in (w .0, w .1, spoils M r (w .0) (w .1))))
     (test (valid M r))
-
--- The rules of the empty table are the empty book.
-free-slots : (n : ℕ) → programOf (replicate n freeRule) ≡ replicate n none
-free-slots zero = refl
-free-slots (suc n) = ap (λ (P : Program). none ∷ P) (free-slots n)
 
 -- The questions of Label and Spoiler are answered yes below the limits and where a rule is held.
 
@@ -232,12 +269,23 @@ module _ (cs : List Call) (xs : List Answer) (t : Table) (e : held t ≡ bookAft
         (subst (Labelled (bookAfter cs) M a) q (kept a l)) h i;
   }
 
-pub empty-held : held emptyTable ≡ empty document
-empty-held = free-slots (document .slots)
-
 -- Demand 3.
 pub history : (cs : List Call) (xs : List Answer) (t : Table) → Trace emptyTable cs xs t → History cs xs t
 history cs xs t T =
     let w = trace-agrees empty-sound T in
-    claim cs xs t (w .kept ∙ ap (λ (Q : Program). after-all document Q cs) empty-held) (w .sound)
-    (w .told ∙ ap (λ (Q : Program). answers document Q cs) empty-held)
+    claim cs xs t (w .kept ∙ ap (λ (Q : Program). callsAfter document Q cs) empty-held) (w .sound)
+    (w .told ∙ ap (λ (Q : Program). callsAnswers document Q cs) empty-held)
+
+-- A list of additions and removals alone is answered, and leaves pages, as theory's book says.
+
+pub changes-answered :
+    (P : Program) (cs : List book.Call) → callsAnswers document P (map change cs) ≡ answers document P cs
+unfolding callsAnswers answers
+changes-answered P [] = refl
+changes-answered P (c ∷ cs) = ap (λ (xs : List Answer). answer document P c ∷ xs) (changes-answered _ cs)
+
+pub changes-after :
+    (P : Program) (cs : List book.Call) → callsAfter document P (map change cs) ≡ after-all document P cs
+unfolding callsAfter after-all
+changes-after P [] = refl
+changes-after P (c ∷ cs) = changes-after _ cs

@@ -1,35 +1,41 @@
--- Every list of calls has words that `replay` reads as this list; each has 32 bits where the calls' numbers and the
--- lengths of their lists have. Assumes nothing.
-use Prim.Native.Nat.{ℕ, zero, suc, _+_, _^_, _≤_, _<_}
+-- Every list of calls has words and files that `replay` reads as this list; each word has 32 bits where the calls'
+-- numbers, the lengths of their lists and that of all files have. Assumes nothing.
+use Prim.Native.Nat.{ℕ, zero, suc, _+_, _-_, _^_, _≤_, _<_}
 use native.Mathlib.Omega.{arith}
-use mathlib.Core.Path.{_≡_, refl, sym, _∙_, ap, subst}
+use mathlib.Core.Path.{_≡_, refl, sym, _∙_, ap, ap₂, subst}
 use mathlib.Core.Logic.{⊎-elim}
 use mathlib.Core.Bool.{true}
 use mathlib.Core.List.{List, [], _∷_, _++_, map, append-assoc, append-nil, List·Memᴰ, List·Memᴰ·head, List·Memᴰ·tail}
-use mathlib.Core.List.{List·Memᴰ·cases-cons, List·Memᴰ·not-nil}
+use mathlib.Core.List.{List·Memᴰ·cases-cons, List·Memᴰ·append-cases, List·Memᴰ·not-nil}
 use mathlib.Core.Option.{some}
 use lib.ListN.{length, getD, take, drop, length-append}
 use lib.Seq.{getD-append-seam, getD-append-add, take-append-seam, drop-append-seam, drop-append-add, drop-drop}
 use Rattle.theory.specs.Lists.{_∈_}
 use Rattle.theory.specs.Rules.{Rule}
-use Rattle.theory.specs.Book.{Call, add, remove, Answer}
+use Rattle.theory.specs.Book as book
+use Rattle.theory.specs.Book.{add, remove, Answer}
 use Rattle.theory.proofs.Lists.{le-leb}
 use Rattle.history.specs.declared.Replayed.{Replayed}
+use Rattle.history.specs.Calls.{Call, change, load}
 use Rattle.history.specs.Claim.{bookAnswers, History}
-use Rattle.history.specs.Encoding.{Placed, rule-at, addition-at, placed, decode, call-words, written, encode}
-use Rattle.history.specs.Encoding.{Words, CallFits}
+use Rattle.history.specs.Encoding.{Placed, rule-at, addition-at, between, load-at, placed, decode, encode}
+use Rattle.history.specs.Encoding.{call-file, files-of, call-words, written-from, written}
+use Rattle.history.specs.Encoding.{Below, Words, Bytes, CallFits}
 use Rattle.history.specs.Replays.{Replays, ReplaysCalls, calls-in}
-use Rattle.history.proofs.Reading.{short, by-kind, counts}
+use Rattle.history.proofs.Reading.{short, by-kind, counts, load-fits}
 use Rattle.history.proofs.Replaying.{decode-over, decode-next}
 
 -- A call that stands behind other words is read.
-module _ (xs rest : List ℕ) where
+module _ (files xs rest : List ℕ) where
   placed-removal :
-      (s : ℕ) → placed (xs ++ (0 ∷ s ∷ rest)) (length xs) ≡ some (record { call = remove s; behind = length xs + 2 })
+      (s : ℕ)
+      → placed (xs ++ (0 ∷ s ∷ rest)) files (length xs)
+      ≡ some (record { call = change (remove s); behind = length xs + 2 })
   placed-removal s =
       let ws = xs ++ (0 ∷ s ∷ rest) in
-      by-kind ws (length xs) (omega (arith, length-append xs (0 ∷ s ∷ rest))) 0 (getD-append-seam xs 0 (s ∷ rest) 0)
-      ∙ ap (λ (k : ℕ). some (record { call = remove k; behind = length xs + 2 }))
+      by-kind ws files (length xs) (omega (arith, length-append xs (0 ∷ s ∷ rest))) 0
+      (getD-append-seam xs 0 (s ∷ rest) 0)
+      ∙ ap (λ (k : ℕ). some (record { call = change (remove k); behind = length xs + 2 }))
       (getD-append-add xs (0 ∷ s ∷ rest) 1 0)
 
   module _ (h : ℕ) (ps ns : List ℕ) where
@@ -60,15 +66,15 @@ module _ (xs rest : List ℕ) where
     addition-read :
         addition-at ws (length xs)
         ≡ record {
-          call = add (record { head = h; positives = ps; negatives = ns });
+          call = change (add (record { head = h; positives = ps; negatives = ns }));
           behind = length xs + 4 + length ps + length ns;
         }
     addition-read =
         (λ i. record {
-          call = add (rule-at ws (word 1 i) from (word 2 i) (word 3 i));
+          call = change (add (rule-at ws (word 1 i) from (word 2 i) (word 3 i)));
           behind = length xs + 4 + word 2 i + word 3 i;
         })
-        ∙ ap (λ (r : Rule). record { call = add r; behind = length xs + 4 + length ps + length ns }) rule-read
+        ∙ ap (λ (r : Rule). record { call = change (add r); behind = length xs + 4 + length ps + length ns }) rule-read
 
     long : length ws ≡ length xs + 4 + length ps + length ns + length rest
     long = omega (
@@ -79,70 +85,141 @@ module _ (xs rest : List ℕ) where
     )
 
     placed-addition :
-        placed ws (length xs)
+        placed ws files (length xs)
         ≡ some (record {
-          call = add (record { head = h; positives = ps; negatives = ns });
+          call = change (add (record { head = h; positives = ps; negatives = ns }));
           behind = length xs + 4 + length ps + length ns;
         })
     placed-addition =
         let room : addition-at ws (length xs) .behind ≤ length ws =
         omega (arith, long, ap (λ (p : Placed). p .behind) addition-read) in
-        counts ws (length xs) true (le-leb _ _ room) (omega (arith, long))
+        counts ws files (length xs) true (le-leb _ _ room) (omega (arith, long))
         (getD-append-seam xs 1 (h ∷ length ps ∷ length ns ∷ (ps ++ (ns ++ rest))) 0)
         ∙ ap some addition-read
 
-  placed-call :
-      (c : Call)
-      → placed (xs ++ (call-words c ++ rest)) (length xs)
-      ≡ some (record { call = c; behind = length (xs ++ call-words c) })
-  placed-call (remove s) =
+  placed-change :
+      (passed : ℕ) (c : book.Call)
+      → placed (xs ++ (call-words passed (change c) ++ rest)) files (length xs)
+      ≡ some (record { call = change c; behind = length (xs ++ call-words passed (change c)) })
+  placed-change passed (remove s) =
       placed-removal s
-      ∙ ap (λ (k : ℕ). some (record { call = remove s; behind = k })) (sym (length-append xs (0 ∷ s ∷ [])))
-  placed-call (add r) =
-      let end : length xs + 4 + length (r .positives) + length (r .negatives) ≡ length (xs ++ call-words (add r)) =
+      ∙ ap (λ (k : ℕ). some (record { call = change (remove s); behind = k })) (sym (length-append xs (0 ∷ s ∷ [])))
+  placed-change passed (add r) =
+      let end : length xs + 4 + length (r .positives) + length (r .negatives)
+      ≡ length (xs ++ call-words passed (change (add r))) =
       omega (
         arith,
-        length-append xs (call-words (add r)),
+        length-append xs (call-words passed (change (add r))),
         length-append (r .positives) (r .negatives),
       ) in
       ap (λ (zs : List ℕ).
-      placed (xs ++ (1 ∷ r .head ∷ length (r .positives) ∷ length (r .negatives) ∷ zs)) (length xs))
+      placed (xs ++ (1 ∷ r .head ∷ length (r .positives) ∷ length (r .negatives) ∷ zs)) files (length xs))
       (append-assoc (r .positives) (r .negatives) rest)
       ∙ placed-addition (r .head) (r .positives) (r .negatives)
-      ∙ ap (λ (k : ℕ). some (record { call = add r; behind = k })) end
+      ∙ ap (λ (k : ℕ). some (record { call = change (add r); behind = k })) end
 
--- A list of calls that stands behind other words is read.
+-- A load whose file stands behind other bytes.
+module _ (before file more xs rest : List ℕ) where
+  abbrev loading : List ℕ
+  loading = 2 ∷ length before ∷ (length before + length file) ∷ rest
 
-nothing-behind : (xs : List ℕ) → xs ++ written [] ≡ xs
-unfolding written
-nothing-behind xs = append-nil xs
+  abbrev all-words : List ℕ
+  all-words = xs ++ loading
 
-call-behind : (xs : List ℕ) (c : Call) (cs : List Call) → xs ++ written (c ∷ cs) ≡ xs ++ (call-words c ++ written cs)
-unfolding written
-call-behind xs c cs = refl
+  abbrev all-files : List ℕ
+  all-files = before ++ (file ++ more)
+
+  from-read : getD all-words (length xs + 1) 0 ≡ length before
+  from-read = getD-append-add xs loading 1 0
+
+  to-read : getD all-words (length xs + 2) 0 ≡ length before + length file
+  to-read = getD-append-add xs loading 2 0
+
+  file-read : between all-files (length before) (length before + length file) ≡ file
+  file-read =
+      let n : length before + length file - length before ≡ length file = omega arith in
+      ap (λ (k : ℕ). take k (drop (length before) all-files)) n
+      ∙ ap (take (length file)) (drop-append-seam before (file ++ more)) ∙ take-append-seam file more
+
+  load-read : load-at all-words all-files (length xs) ≡ record { call = load file; behind = length xs + 3 }
+  load-read =
+      (λ i. record { call = load (between all-files (from-read i) (to-read i)); behind = length xs + 3 })
+      ∙ ap (λ (bs : List ℕ). record { call = load bs; behind = length xs + 3 }) file-read
+
+  placed-loading :
+      placed all-words all-files (length xs)
+      ≡ some (record {
+        call = load file;
+        behind = length (xs ++ (2 ∷ length before ∷ (length before + length file) ∷ []));
+      })
+  placed-loading =
+      let words : length all-words ≡ length xs + 3 + length rest = omega (arith, length-append xs loading) in
+      let bytes : length all-files ≡ length before + length file + length more =
+      omega (arith, length-append before (file ++ more), length-append file more) in
+      let end : length xs + 3 ≡ length (xs ++ (2 ∷ length before ∷ (length before + length file) ∷ [])) =
+      omega (arith, length-append xs (2 ∷ length before ∷ (length before + length file) ∷ [])) in
+      by-kind all-words all-files (length xs) (omega arith) 2
+      (getD-append-seam xs 2 (length before ∷ (length before + length file) ∷ rest) 0)
+      ∙ load-fits all-words all-files (length xs) (omega arith) (omega (arith, from-read, to-read))
+      (omega (arith, to-read))
+      ∙ ap some load-read
+      ∙ ap (λ (k : ℕ). some (record { call = load file; behind = k })) end
+
+placed-call :
+    (before more xs rest : List ℕ) (c : Call)
+    → placed (xs ++ (call-words (length before) c ++ rest)) (before ++ (call-file c ++ more)) (length xs)
+    ≡ some (record { call = c; behind = length (xs ++ call-words (length before) c) })
+placed-call before more xs rest (change c) = placed-change (before ++ more) xs rest (length before) c
+placed-call before more xs rest (load file) = placed-loading before file more xs rest
+
+-- A list of calls that stands behind other words, and its files behind other bytes, is read.
+
+nothing-behind : (n : ℕ) (xs : List ℕ) → xs ++ written-from n [] ≡ xs
+unfolding written-from
+nothing-behind n xs = append-nil xs
+
+words-behind :
+    (n : ℕ) (xs : List ℕ) (c : Call) (cs : List Call)
+    → xs ++ written-from n (c ∷ cs) ≡ xs ++ (call-words n c ++ written-from (n + length (call-file c)) cs)
+unfolding written-from
+words-behind n xs c cs = refl
+
+files-behind : (ys : List ℕ) (c : Call) (cs : List Call) → ys ++ files-of (c ∷ cs) ≡ ys ++ (call-file c ++ files-of cs)
+unfolding files-of
+files-behind ys c cs = refl
 
 decode-behind :
-    (cs : List Call) (most : ℕ) (xs : List ℕ) → length cs ≤ most → decode most (xs ++ written cs) (length xs) ≡ cs
-decode-behind [] most xs l =
-    let e : length (xs ++ written []) ≡ length xs = ap length (nothing-behind xs) in
-    decode-over most (xs ++ written []) (length xs) (short (xs ++ written []) (length xs) (omega (arith, e)))
-decode-behind (c ∷ cs) zero xs l = absurd (omega arith)
-decode-behind (c ∷ cs) (suc most) xs l =
-    ap (λ (ws : List ℕ). decode (suc most) ws (length xs)) (call-behind xs c cs)
-    ∙ decode-next most (xs ++ (call-words c ++ written cs)) (length xs) _ (placed-call xs (written cs) c)
+    (cs : List Call) (most : ℕ) (xs ys : List ℕ) → length cs ≤ most
+    → decode most (xs ++ written-from (length ys) cs) (ys ++ files-of cs) (length xs) ≡ cs
+decode-behind [] most xs ys l =
+    let ws = xs ++ written-from (length ys) [] in
+    let e : length ws ≡ length xs = ap length (nothing-behind (length ys) xs) in
+    decode-over most ws (ys ++ files-of []) (length xs) (short ws (ys ++ files-of []) (length xs) (omega (arith, e)))
+decode-behind (c ∷ cs) zero xs ys l = absurd (omega arith)
+decode-behind (c ∷ cs) (suc most) xs ys l =
+    let n = length ys in
+    let m = n + length (call-file c) in
+    let fs = ys ++ (call-file c ++ files-of cs) in
+    let word : m ≡ length (ys ++ call-file c) = sym (length-append ys (call-file c)) in
+    ap₂ (λ (ws bs : List ℕ). decode (suc most) ws bs (length xs)) (words-behind n xs c cs) (files-behind ys c cs)
+    ∙ decode-next most (xs ++ (call-words n c ++ written-from m cs)) fs (length xs) _
+    (placed-call ys (files-of cs) xs (written-from m cs) c)
     ∙ ap (λ (ds : List Call). c ∷ ds)
-    (ap (λ (ws : List ℕ). decode most ws (length (xs ++ call-words c)))
-    (sym (append-assoc xs (call-words c) (written cs)))
-    ∙ decode-behind cs most (xs ++ call-words c) (omega arith))
+    (ap₂ (λ (ws bs : List ℕ). decode most ws bs (length (xs ++ call-words n c)))
+    (sym (append-assoc xs (call-words n c) (written-from m cs))
+    ∙ ap (λ (k : ℕ). (xs ++ call-words n c) ++ written-from k cs) word)
+    (sym (append-assoc ys (call-file c) (files-of cs)))
+    ∙ decode-behind cs most (xs ++ call-words n c) (ys ++ call-file c) (omega arith))
 
 -- Written and read back, a list of calls is the same, given room for its answers.
-pub decode-written : (cs : List Call) (before : List ℕ) → length cs ≤ length before → calls-in (written cs) before ≡ cs
-decode-written cs before l = decode-behind cs (length before) [] l
+pub decode-written :
+    (cs : List Call) (before : List ℕ) → length cs ≤ length before → calls-in (written cs) (files-of cs) before ≡ cs
+decode-written cs before l = decode-behind cs (length before) [] [] l
 
 -- So `replay` can be asked for any list of calls.
 pub replay-written :
     (cs : List Call) {before after : List ℕ} {r : Replayed} → length cs ≤ length before
-    → Replays (written cs) before r after → ReplaysCalls cs before r after
+    → Replays (written cs) (files-of cs) before r after → ReplaysCalls cs before r after
 replay-written cs {before} {after} {r} l R =
     let same = decode-written cs before l in
     let claim : History cs (R .told) (r .table) =
@@ -155,31 +232,51 @@ replay-written cs {before} {after} {r} l R =
           ∙ ap (λ (k : ℕ). map encode (bookAnswers cs) ++ drop k before) count;
     }
 
--- Words of 32 bits.
+-- Words of 32 bits, and bytes.
 
-words-cons : {x : ℕ} {xs : List ℕ} → x < 2 ^ 32 → Words xs → Words (x ∷ xs)
-words-cons {x} {xs} l w y m = ⊎-elim
+below-nil : {n : ℕ} → Below n []
+below-nil y m = absurd (List·Memᴰ·not-nil m)
+
+below-append : {n : ℕ} (xs : List ℕ) {ys : List ℕ} → Below n xs → Below n ys → Below n (xs ++ ys)
+below-append xs v w y m = ⊎-elim (v y) (w y) (List·Memᴰ·append-cases xs m)
+
+below-cons : {n x : ℕ} {xs : List ℕ} → x < n → Below n xs → Below n (x ∷ xs)
+below-cons {n} {x} {xs} l w y m = ⊎-elim
     (λ (e : y ≡ x). omega (arith, e, l))
     (λ (i : y ∈ xs). w y i)
     (List·Memᴰ·cases-cons m)
 
-words-nil : Words []
-words-nil y m = absurd (List·Memᴰ·not-nil m)
+change-fits : (n : ℕ) (c : book.Call) → CallFits (change c) → Words (call-words n (change c))
+change-fits n (remove s) f = below-cons (omega arith) (below-cons f below-nil)
+change-fits n (add r) (h, p, k, ps, ns) =
+    below-cons (omega arith) (below-cons h (below-cons p (below-cons k (below-append (r .positives) ps ns))))
 
-words-append : (xs ys : List ℕ) → Words xs → Words ys → Words (xs ++ ys)
-words-append [] ys v w = w
-words-append (x ∷ xs) ys v w =
-    words-cons (v x (List·Memᴰ·head refl)) (words-append xs ys (λ y m. v y (List·Memᴰ·tail m)) w)
+call-fits : (n : ℕ) (c : Call) → CallFits c → n + length (call-file c) < 2 ^ 32 → Words (call-words n c)
+call-fits n (change c) f l = change-fits n c f
+call-fits n (load bytes) f l = below-cons (omega arith) (below-cons (omega arith) (below-cons l below-nil))
 
-call-fits : (c : Call) → CallFits c → Words (call-words c)
-call-fits (remove s) f = words-cons (omega arith) (words-cons f words-nil)
-call-fits (add r) (h, p, n, ps, ns) =
-    words-cons (omega arith)
-    (words-cons h (words-cons p (words-cons n (words-append (r .positives) (r .negatives) ps ns))))
+written-from-fits :
+    (n : ℕ) (cs : List Call) → ((c : Call) → List·Memᴰ c cs → CallFits c) → n + length (files-of cs) < 2 ^ 32
+    → Words (written-from n cs)
+unfolding written-from files-of
+written-from-fits n [] f l = below-nil
+written-from-fits n (c ∷ cs) f l =
+    let e = length-append (call-file c) (files-of cs) in
+    below-append (call-words n c) (call-fits n c (f c (List·Memᴰ·head refl)) (omega (arith, e)))
+    (written-from-fits _ cs (λ d m. f d (List·Memᴰ·tail m)) (omega (arith, e)))
 
-pub written-fits : (cs : List Call) → ((c : Call) → List·Memᴰ c cs → CallFits c) → Words (written cs)
-unfolding written
-written-fits [] f = words-nil
-written-fits (c ∷ cs) f =
-    words-append (call-words c) (written cs) (call-fits c (f c (List·Memᴰ·head refl)))
-    (written-fits cs (λ d m. f d (List·Memᴰ·tail m)))
+pub written-fits :
+    (cs : List Call) → ((c : Call) → List·Memᴰ c cs → CallFits c) → length (files-of cs) < 2 ^ 32
+    → Words (written cs)
+written-fits cs f l = written-from-fits 0 cs f (omega arith)
+
+file-bytes : (c : Call) → CallFits c → Bytes (call-file c)
+file-bytes (change c) f = below-nil
+file-bytes (load bytes) f = f
+
+pub files-fit : (cs : List Call) → ((c : Call) → List·Memᴰ c cs → CallFits c) → Bytes (files-of cs)
+unfolding files-of
+files-fit [] f = below-nil
+files-fit (c ∷ cs) f =
+    below-append (call-file c) (file-bytes c (f c (List·Memᴰ·head refl)))
+    (files-fit cs (λ d m. f d (List·Memᴰ·tail m)))

@@ -13,7 +13,7 @@ use Rattle.theory.specs.Models.{AtomSet, valid, Admissible, OnlyModel}
 use Rattle.theory.specs.Derivations.{Derivation}
 use Rattle.theory.specs.Labels.{Label, out, in-at, Labelled, Shallower, Spoiler, spoiler, Spoils}
 use Rattle.theory.specs.Questions.{is-in-label}
-use Rattle.theory.specs.Book.{Call, add, remove, Answer, empty, answers, after-all}
+use Rattle.theory.specs.Book.{add, remove, Answer, empty}
 use Rattle.theory.specs.Limits.{document}
 use Rattle.table.specs.declared.Table.{Table}
 use Rattle.table.specs.Labels.{labelAt}
@@ -22,13 +22,17 @@ use Rattle.calls.specs.declared.AddAnswer.{AddAnswer}
 use Rattle.calls.specs.declared.RemoveAnswer.{RemoveAnswer}
 use Rattle.calls.specs.declared.LabelAnswer.{LabelAnswer}
 use Rattle.calls.specs.declared.SpoilerAnswer.{SpoilerAnswer}
-use Rattle.calls.specs.Answers.{bookAdd, bookRemove, tellLabel, tellSpoiler}
-use Rattle.calls.specs.Contracts.{held, AddEnds, RemoveEnds, LabelEnds, SpoilerEnds}
+use Rattle.calls.specs.declared.LoadAnswer.{LoadAnswer}
+use Rattle.calls.specs.Answers.{bookAdd, bookRemove, bookLoad, tellLabel, tellSpoiler}
+use Rattle.calls.specs.Contracts.{held, AddEnds, RemoveEnds, LabelEnds, SpoilerEnds, LoadEnds}
+use Rattle.history.specs.Calls.{Call, change, load, callsAnswers, callsAfter}
 
--- A call that meets its contract: on the table t it answers and hands back a table.
+-- A call that meets its contract: on the table t it answers and hands back a table. A load takes no table, so t is
+-- given up.
 pub data Step (t : Table) : Call → Answer → Table → Type 0 where
-  adds : {r : Rule} {x : AddAnswer} {u : Table} → AddEnds t r x u → Step t (add r) (bookAdd x) u
-  removes : {s : ℕ} {x : RemoveAnswer} {u : Table} → RemoveEnds t s x u → Step t (remove s) (bookRemove x) u
+  adds : {r : Rule} {x : AddAnswer} {u : Table} → AddEnds t r x u → Step t (change (add r)) (bookAdd x) u
+  removes : {s : ℕ} {x : RemoveAnswer} {u : Table} → RemoveEnds t s x u → Step t (change (remove s)) (bookRemove x) u
+  loads : {bytes : List ℕ} {x : LoadAnswer} {u : Table} → LoadEnds bytes x u → Step t (load bytes) (bookLoad x) u
 
 -- A list of such calls.
 pub data Trace : Table → List Call → List Answer → Table → Type 0 where
@@ -39,10 +43,10 @@ pub data Trace : Table → List Call → List Answer → Table → Type 0 where
 
 -- The book's answers to a list of calls, and its rules after them.
 abbrev pub bookAnswers : List Call → List Answer
-bookAnswers cs = answers document (empty document) cs
+bookAnswers cs = callsAnswers document (empty document) cs
 
 abbrev pub bookAfter : List Call → Program
-bookAfter cs = after-all document (empty document) cs
+bookAfter cs = callsAfter document (empty document) cs
 
 -- An in atom, as the third demand asks: its supporting rule is valid with all positive entries in and of smaller depth;
 -- some derivation has exactly depth levels and none fewer; depth is at most the number of in atoms, which are listed.

@@ -1,13 +1,14 @@
--- A list of calls written as numbers, and answers written as numbers. Assumes nothing.
-use Prim.Native.Nat.{ℕ, zero, suc, _+_, _^_, _<_}
-use mathlib.Core.Bool.{Bool, true, false}
+-- A list of calls written as numbers, with the files that they load, and answers written as numbers. Assumes nothing.
+use Prim.Native.Nat.{ℕ, zero, suc, _+_, _-_, _^_, _<_}
+use mathlib.Core.Bool.{Bool, true, false, _&&_}
 use mathlib.Core.List.{List, [], _∷_, _++_}
 use mathlib.Core.Option.{Option, none, some}
 use lib.Dec.{leb}
 use lib.ListN.{length, getD, take, drop}
 use Rattle.theory.specs.Lists.{_∈_}
 use Rattle.theory.specs.Rules.{Rule}
-use Rattle.theory.specs.Book.{Call, add, remove, Answer, refused, slot, accepted}
+use Rattle.theory.specs.Book.{add, remove, Answer, refused, slot, accepted}
+use Rattle.history.specs.Calls.{Call, change, load}
 
 -- A call that stands at a place of the list, and the place behind it.
 pub record Placed : Type 0 where
@@ -23,48 +24,91 @@ rule-at ws head from p n =
 abbrev pub addition-at : List ℕ → ℕ → Placed
 addition-at ws at =
     record {
-      call = add (rule-at ws (getD ws (at + 1) 0) (at + 4) (getD ws (at + 2) 0) (getD ws (at + 3) 0));
+      call = change (add (rule-at ws (getD ws (at + 1) 0) (at + 4) (getD ws (at + 2) 0) (getD ws (at + 3) 0)));
       behind = at + 4 + getD ws (at + 2) 0 + getD ws (at + 3) 0;
     }
+
+-- The entries of a list from a place to below another.
+abbrev pub between : List ℕ → ℕ → ℕ → List ℕ
+between xs from to = take (to - from) (drop from xs)
+
+-- A load, of the bytes of the files from the place told after its kind to below the place told next.
+abbrev pub load-at : List ℕ → List ℕ → ℕ → Placed
+load-at ws files at =
+    record { call = load (between files (getD ws (at + 1) 0) (getD ws (at + 2) 0)); behind = at + 3 }
 
 abbrev pub when : Bool → Option Placed → Option Placed
 when true o = o
 when false o = none
 
--- 0 and a slot: a removal. 1, a head, how many positives and how many negatives, then these: an addition. Any other
--- number is no call, and what is cut short is none.
-abbrev pub placed-kind : List ℕ → ℕ → ℕ → Option Placed
-placed-kind ws at zero = some (record { call = remove (getD ws (at + 1) 0); behind = at + 2 })
-placed-kind ws at (suc zero) = when (leb (addition-at ws at .behind) (length ws)) (some (addition-at ws at))
-placed-kind ws at (suc (suc k)) = none
+-- Are these places of a file, the second not before the first?
+abbrev pub in-files : List ℕ → ℕ → ℕ → Bool
+in-files files from to = leb from to && leb to (length files)
 
-unfoldable pub placed : List ℕ → ℕ → Option Placed
-placed ws at = when (leb (at + 2) (length ws)) (placed-kind ws at (getD ws at 0))
+unfoldable pub placed-load : List ℕ → List ℕ → ℕ → Option Placed
+placed-load ws files at =
+    when (leb (at + 3) (length ws) && in-files files (getD ws (at + 1) 0) (getD ws (at + 2) 0))
+    (some (load-at ws files at))
+
+-- 0 and a slot: a removal. 1, a head, how many positives and how many negatives, then these: an addition. 2 and two
+-- places: a load of the bytes of the files from the first to below the second. Any other number is no call; what is cut
+-- short is none, and neither is a load of bytes that the files do not have.
+abbrev pub placed-kind : List ℕ → List ℕ → ℕ → ℕ → Option Placed
+placed-kind ws files at zero = some (record { call = change (remove (getD ws (at + 1) 0)); behind = at + 2 })
+placed-kind ws files at (suc zero) = when (leb (addition-at ws at .behind) (length ws)) (some (addition-at ws at))
+placed-kind ws files at (suc (suc zero)) = placed-load ws files at
+placed-kind ws files at (suc (suc (suc k))) = none
+
+unfoldable pub placed : List ℕ → List ℕ → ℕ → Option Placed
+placed ws files at = when (leb (at + 2) (length ws)) (placed-kind ws files at (getD ws at 0))
 
 -- The calls from a place on, at most so many.
-unfoldable pub decode : ℕ → List ℕ → ℕ → List Call
-decode zero ws at = []
-decode (suc most) ws at = elim (placed ws at) [ none ↦ [] | some c ↦ c .call ∷ decode most ws (c .behind) ]
+unfoldable pub decode : ℕ → List ℕ → List ℕ → ℕ → List Call
+decode zero ws files at = []
+decode (suc most) ws files at =
+    elim (placed ws files at) [ none ↦ [] | some c ↦ c .call ∷ decode most ws files (c .behind) ]
 
--- The words that are read as a list of calls: each call's, one after another.
-abbrev pub call-words : Call → List ℕ
-call-words (remove s) = 0 ∷ s ∷ []
-call-words (add r) =
+-- The file of a call, if it loads one.
+abbrev pub call-file : Call → List ℕ
+call-file (change c) = []
+call-file (load bytes) = bytes
+
+-- The files of a list of calls, one behind another; and the words that are read as this list: each call's, one after
+-- another, where so many bytes of the files stand before those of the first.
+unfoldable pub files-of : List Call → List ℕ
+files-of [] = []
+files-of (c ∷ cs) = call-file c ++ files-of cs
+
+abbrev pub call-words : ℕ → Call → List ℕ
+call-words passed (change (remove s)) = 0 ∷ s ∷ []
+call-words passed (change (add r)) =
     1 ∷ r .head ∷ length (r .positives) ∷ length (r .negatives) ∷ (r .positives ++ r .negatives)
+call-words passed (load bytes) = 2 ∷ passed ∷ (passed + length bytes) ∷ []
 
-unfoldable pub written : List Call → List ℕ
-written [] = []
-written (c ∷ cs) = call-words c ++ written cs
+unfoldable pub written-from : ℕ → List Call → List ℕ
+written-from passed [] = []
+written-from passed (c ∷ cs) = call-words passed c ++ written-from (passed + length (call-file c)) cs
 
--- Numbers of 32 bits; a call whose numbers and whose lists' lengths are such.
+abbrev pub written : List Call → List ℕ
+written cs = written-from 0 cs
+
+-- Numbers below a bound: words of 32 bits, bytes.
+abbrev pub Below : ℕ → List ℕ → Type 0
+Below n xs = (x : ℕ) → x ∈ xs → x < n
+
 abbrev pub Words : List ℕ → Type 0
-Words xs = (x : ℕ) → x ∈ xs → x < 2 ^ 32
+Words = Below (2 ^ 32)
 
+abbrev pub Bytes : List ℕ → Type 0
+Bytes = Below 256
+
+-- A call whose numbers and whose lists' lengths have 32 bits, and whose file is of bytes.
 abbrev pub CallFits : Call → Type 0
-CallFits (remove s) = s < 2 ^ 32
-CallFits (add r) =
+CallFits (change (remove s)) = s < 2 ^ 32
+CallFits (change (add r)) =
     (r .head < 2 ^ 32) × (length (r .positives) < 2 ^ 32) × (length (r .negatives) < 2 ^ 32) × Words (r .positives)
     × Words (r .negatives)
+CallFits (load bytes) = Bytes bytes
 
 -- An answer as a number: the slot taken; 65,536 for accepted; 65,536 and its number for a refusal.
 abbrev pub encode : Answer → ℕ

@@ -1,4 +1,5 @@
 -- The claim over sequences: what a reader believes when told that it holds.
+pub mod Calls
 pub mod Claim
 pub mod Encoding
 pub mod Replays

@@ -1,51 +1,73 @@
 -- Private: what the functions behind `replay` tell each other. No exported contract speaks of it. Assumes nothing.
-use Prim.Native.Nat.{ℕ, _-_, _≤_}
+use Prim.Native.Nat.{ℕ, _≤_}
 use mathlib.Core.Path.{_≡_}
 use mathlib.Core.Bool.{true, false}
 use mathlib.Core.List.{List}
 use mathlib.Core.Option.{Option, none, some}
-use lib.ListN.{length, take, drop}
-use Rattle.theory.specs.Book.{Call, add, remove, Answer}
+use lib.ListN.{length}
+use Rattle.theory.specs.Book.{add, remove, Answer}
 use Rattle.table.specs.declared.Table.{Table}
+use Rattle.calls.specs.declared.LoadAnswer.{LoadAnswer}
+use Rattle.calls.specs.Answers.{bookLoad}
+use Rattle.calls.specs.Contracts.{LoadEnds}
 use Rattle.history.specs.declared.Next.{Next}
 use Rattle.history.specs.declared.Next.the-variants as next
 use Rattle.history.specs.declared.Stepped.{Stepped}
+use Rattle.history.specs.Calls.{Call, change, load}
 use Rattle.history.specs.Claim.{Step}
-use Rattle.history.specs.Encoding.{Placed, placed, encode}
-
--- The words from a place to below another.
-abbrev pub between : List ℕ → ℕ → ℕ → List ℕ
-between ws f t = take (t - f) (drop f ws)
+use Rattle.history.specs.Encoding.{Placed, between, placed-load, placed, encode}
 
 -- The call that is read at a place, and the place behind it.
-abbrev pub callOf : List ℕ → Next → Option Placed
-callOf ws next.End = none
-callOf ws (next.Remove s behind) = some (record { call = remove s; behind = behind })
-callOf ws (next.Add head from middle to) =
+abbrev pub callOf : List ℕ → List ℕ → Next → Option Placed
+callOf ws files next.End = none
+callOf ws files (next.Remove s behind) = some (record { call = change (remove s); behind = behind })
+callOf ws files (next.Add head from middle to) =
     some (record {
-      call = add (record { head = head; positives = between ws from middle; negatives = between ws middle to });
+      call = change (add (record {
+        head = head;
+        positives = between ws from middle;
+        negatives = between ws middle to;
+      }));
       behind = to;
     })
+callOf ws files (next.Load from to behind) = some (record { call = load (between files from to); behind = behind })
 
--- The parts of the lists lie in the list.
-abbrev pub InOrder : ℕ → Next → Type 0
-InOrder n next.End = Unit {0}
-InOrder n (next.Remove s behind) = behind ≤ n
-InOrder n (next.Add head from middle to) = (from ≤ middle) × (middle ≤ to) × (to ≤ n)
+-- The parts of the lists lie in the list, and a file in the files.
+abbrev pub InOrder : ℕ → ℕ → Next → Type 0
+InOrder words bytes next.End = Unit {0}
+InOrder words bytes (next.Remove s behind) = behind ≤ words
+InOrder words bytes (next.Add head from middle to) = (from ≤ middle) × (middle ≤ to) × (to ≤ words)
+InOrder words bytes (next.Load from to behind) = (from ≤ to) × (to ≤ bytes)
 
-pub record NextOf (ws : List ℕ) (at : ℕ) (r : Next) : Type 0 where
-  pub read : callOf ws r ≡ placed ws at
-  pub order : InOrder (length ws) r
+-- What was read is this call, or that there is none.
+pub record ReadAs (ws files : List ℕ) (call : Option Placed) (r : Next) : Type 0 where
+  pub read : callOf ws files r ≡ call
+  pub order : InOrder (length ws) (length files) r
+
+-- The load at a place whose kind says so, and the call at any place.
+abbrev pub NextLoad : List ℕ → List ℕ → ℕ → Next → Type 0
+NextLoad ws files at r = ReadAs ws files (placed-load ws files at) r
+
+abbrev pub NextOf : List ℕ → List ℕ → ℕ → Next → Type 0
+NextOf ws files at r = ReadAs ws files (placed ws files at) r
 
 -- The call that stands at a place was made: it meets its contract on the table t, and its answer is told as a number.
-pub record CallMade (ws : List ℕ) (at : ℕ) (t : Table) (answer behind : ℕ) (u : Table) : Type 0 where
+pub record CallMade (ws files : List ℕ) (at : ℕ) (t : Table) (answer behind : ℕ) (u : Table) : Type 0 where
   pub call : Call
   pub told : Answer
-  pub stands : placed ws at ≡ some (record { call = call; behind = behind })
+  pub stands : placed ws files at ≡ some (record { call = call; behind = behind })
   pub step : Step t call told u
   pub number : answer ≡ encode told
 
 -- One step from a place: no call stands there, or it was made.
-pub record StepOf (ws : List ℕ) (at : ℕ) (t : Table) (r : Stepped) : Type 0 where
-  pub over : r .more ≡ false → placed ws at ≡ none
-  pub made : r .more ≡ true → CallMade ws at t (r .answer) (r .at) (r .table)
+pub record StepOf (ws files : List ℕ) (at : ℕ) (t : Table) (r : Stepped) : Type 0 where
+  pub over : r .more ≡ false → placed ws files at ≡ none
+  pub made : r .more ≡ true → CallMade ws files at t (r .answer) (r .at) (r .table)
+
+-- A load of these bytes was made, and the place behind it is told.
+pub record LoadMade (bytes : List ℕ) (behind : ℕ) (r : Stepped) : Type 0 where
+  pub told : LoadAnswer
+  pub more : r .more ≡ true
+  pub at : r .at ≡ behind
+  pub ends : LoadEnds bytes told (r .table)
+  pub number : r .answer ≡ encode (bookLoad told)

@@ -1,17 +1,19 @@
 // A list of calls, written as numbers, made one after another from the empty table.
 use calls::AddAnswer;
+use calls::LoadAnswer;
 use calls::RemoveAnswer;
 use calls::refusal_number;
 use changes::add;
 use changes::remove;
+use files::load;
 use table::Table;
 ghost use mathlib.Core.Path.{_≡_};
 ghost use Prim.Native.Nat.{_+_, _≤_};
 ghost use lib.ListN.{length};
-ghost use Rattle.calls.specs.Answers.{bookAdd, bookRemove};
+ghost use Rattle.calls.specs.Answers.{bookAdd, bookRemove, bookLoad};
 ghost use Rattle.history.specs.Encoding.{encode};
 ghost use Rattle.history.specs.Replays.{Replays};
-ghost use Rattle.history.specs.Steps.{NextOf, StepOf};
+ghost use Rattle.history.specs.Steps.{NextLoad, NextOf, LoadMade, StepOf};
 
 // How many calls were made, and the table that the last handed back.
 #[repr(C)]
@@ -20,11 +22,13 @@ pub struct Replayed {
     pub table: Table,
 }
 
-// The call at a place: none, a removal and the place behind it, or an addition with the ends of its two lists.
+// The call at a place: none, a removal and the place behind it, an addition with the ends of its two lists, or a load
+// with the ends of its file and the place behind it.
 enum Next {
     End,
     Remove(u32, usize),
     Add(u32, usize, usize, usize),
+    Load(usize, usize, usize),
 }
 
 // One step: was there a call, what did it answer, where does the next stand, and the table.
@@ -55,9 +59,41 @@ fn removed(answer: RemoveAnswer) -> u32
     }
 }
 
+// What a load answered, as a number.
+fn loaded(answer: LoadAnswer) -> u32
+    ensures { λ r. ⌜ r ≡ encode (bookLoad answer) ⌝ }
+{
+    match answer {
+        LoadAnswer::Loaded => 65536,
+        LoadAnswer::Refused(f) => 65536 + refusal_number(f),
+    }
+}
+
+// Reads the load at a place of the list whose kind says that one stands there.
+fn next_load(words: &[u32], files: &[u8], at: usize) -> Next
+    ensures { λ r. ⌜ NextLoad (now (words .entry)) (now (files .entry)) at r ⌝ }
+{
+    let n = words.len();
+    if at > n {
+        return Next::End;
+    }
+    if n - at < 3 {
+        return Next::End;
+    }
+    let from = words[at + 1] as usize;
+    let to = words[at + 2] as usize;
+    if from > to {
+        return Next::End;
+    }
+    if to > files.len() {
+        return Next::End;
+    }
+    Next::Load(from, to, at + 3)
+}
+
 // Reads the call at a place of the list.
-fn next_call(words: &[u32], at: usize) -> Next
-    ensures { λ r. ⌜ NextOf (now (words .entry)) at r ⌝ }
+fn next_call(words: &[u32], files: &[u8], at: usize) -> Next
+    ensures { λ r. ⌜ NextOf (now (words .entry)) (now (files .entry)) at r ⌝ }
 {
     let n = words.len();
     if at > n {
@@ -69,6 +105,9 @@ fn next_call(words: &[u32], at: usize) -> Next
     let kind = words[at];
     if kind == 0 {
         return Next::Remove(words[at + 1], at + 2);
+    }
+    if kind == 2 {
+        return next_load(words, files, at);
     }
     if kind != 1 {
         return Next::End;
@@ -89,11 +128,26 @@ fn next_call(words: &[u32], at: usize) -> Next
     Next::Add(words[at + 1], from, middle, middle + negatives)
 }
 
-// Makes the call at a place of the list, if one stands there.
-fn step(words: &[u32], at: usize, table: Table) -> Stepped
-    ensures { λ r. ⌜ StepOf (now (words .entry)) at table r ⌝ }
+// Loads a file; the next call stands behind.
+fn step_load(file: &[u8], behind: usize) -> Stepped
+    ensures { λ r. ⌜ LoadMade (now (file .entry)) behind r ⌝ }
 {
-    let next = next_call(words, at);
+    let done = load(file);
+    let answer = done.answer;
+    let after = done.table;
+    Stepped {
+        more: true,
+        answer: loaded(answer),
+        at: behind,
+        table: after,
+    }
+}
+
+// Makes the call at a place of the list, if one stands there.
+fn step(words: &[u32], files: &[u8], at: usize, table: Table) -> Stepped
+    ensures { λ r. ⌜ StepOf (now (words .entry)) (now (files .entry)) at table r ⌝ }
+{
+    let next = next_call(words, files, at);
     match next {
         Next::End => Stepped {
             more: false,
@@ -123,18 +177,21 @@ fn step(words: &[u32], at: usize, table: Table) -> Stepped
                 table: after,
             }
         },
+        Next::Load(from, to, behind) => step_load(&files[from..to], behind),
     }
 }
 
-// Makes the calls of the list from the empty table, as many as there are and as there is room for answers.
-pub fn replay(words: &[u32], answers: &mut [u32]) -> Replayed
-    ensures { λ r. ⌜ Replays (now (words .entry)) (now (answers .entry)) r (now (answers .exit)) ⌝ }
+// Makes the calls of the list from the empty table, as many as there are and as there is room for answers. A load is of
+// a part of `files`.
+pub fn replay(words: &[u32], files: &[u8], answers: &mut [u32]) -> Replayed
+    ensures { λ r. ⌜ Replays (now (words .entry)) (now (files .entry)) (now (answers .entry))
+        r (now (answers .exit)) ⌝ }
 {
     let mut table = Table::empty();
     let mut at: usize = 0;
     let mut count: usize = 0;
     while count < answers.len() {
-        let made = step(words, at, table);
+        let made = step(words, files, at, table);
         if !made.more {
             return Replayed {
                 count: count,

@@ -65,10 +65,11 @@ pub extern "C" fn probe_labels(table: Table) -> Relabelled
 }
 
 // The calls of a list of numbers, made one after another from the empty table: how many there were, the table after
-// them, and their answers from the start of the lent buffer.
+// them, and their answers from the start of the lent buffer. A load is of a part of `files`.
 #[no_mangle]
-pub extern "C" fn probe_replay(words: &[u32], answers: &mut [u32]) -> Replayed
-    ensures { λ r. ⌜ Replays (now (words .entry)) (now (answers .entry)) r (now (answers .exit)) ⌝ }
+pub extern "C" fn probe_replay(words: &[u32], files: &[u8], answers: &mut [u32]) -> Replayed
+    ensures { λ r. ⌜ Replays (now (words .entry)) (now (files .entry)) (now (answers .entry))
+        r (now (answers .exit)) ⌝ }
 {
-    replay(words, answers)
+    replay(words, files, answers)
 }

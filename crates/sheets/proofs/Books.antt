@@ -7,13 +7,14 @@ use mathlib.Core.List.{List, [], _∷_, _++_, append-assoc, append-nil}
 use lib.ListN.{length}
 use Rattle.theory.specs.Rules.{Program}
 use Rattle.theory.specs.Limits.{document}
-use Rattle.theory.specs.Book.{Call, Answer, after-all}
+use Rattle.theory.specs.Book.{Answer}
 use Rattle.theory.proofs.Lists.{eqb-not}
 use Rattle.table.specs.declared.Table.{Table}
 use Rattle.table.specs.Clean.{emptyTable}
 use Rattle.table.specs.Sound.{Sound}
 use Rattle.table.proofs.Empty.{empty-sound}
 use Rattle.calls.specs.Contracts.{held}
+use Rattle.history.specs.Calls.{Call, callsAfter}
 use Rattle.history.specs.Claim.{Trace, stop, call, bookAnswers, History}
 use Rattle.history.proofs.Sequence.{history, trace-agrees, empty-held}
 use Rattle.lines.specs.Readings.{Line, is-blank, reading, blank, spaces}
@@ -57,8 +58,8 @@ traces-join (call s q) r = call s (traces-join q r)
 
 after-join :
     (P : Program) (cs ds : List Call)
-    → after-all document P (cs ++ ds) ≡ after-all document (after-all document P cs) ds
-unfolding after-all
+    → callsAfter document P (cs ++ ds) ≡ callsAfter document (callsAfter document P cs) ds
+unfolding callsAfter
 after-join P [] ds = refl
 after-join P (c ∷ cs) ds = after-join _ cs ds
 
@@ -71,9 +72,9 @@ calls-join (l ∷ ls) ms =
 
 lines-join :
     {P : Program} {n : ℕ} {ls ms : List (List ℕ)} {out more : List ℕ} → LinesPrint P n ls out
-    → LinesPrint (after-all document P (linesCalls ls)) (n + length ls) ms more
+    → LinesPrint (callsAfter document P (linesCalls ls)) (n + length ls) ms more
     → LinesPrint P n (ls ++ ms) (out ++ more)
-unfolding linesCalls after-all
+unfolding linesCalls callsAfter
 lines-join {P} {n} {ms = ms} {more = more} no-line q =
     let e : n + 0 ≡ n = omega arith in
     subst (λ (k : ℕ). LinesPrint P k ms more) e q
@@ -82,7 +83,7 @@ lines-join {P} {n} {ms = ms} {more = more} (one-line {line = l} {lines = ls} pri
     rw append-assoc (one-line printed seen (lines-join rest
     (subst (λ (Q : Program). LinesPrint Q (suc n + length ls) ms more)
     (after-join P (lineCalls (reading l)) (linesCalls ls))
-    (subst (λ (k : ℕ). LinesPrint (after-all document P (lineCalls (reading l) ++ linesCalls ls)) k ms more) e q))))
+    (subst (λ (k : ℕ). LinesPrint (callsAfter document P (lineCalls (reading l) ++ linesCalls ls)) k ms more) e q))))
 
 -- From a sound table, some bytes of a sheet: the lines that they end were met one after another.
 record SoFar (s v : State) (lines : List (List ℕ)) (behind out : List ℕ) : Type 0 where
@@ -196,11 +197,11 @@ module _ {input out : List ℕ} (p : SheetPrints input out) where
       let ls = endedLines [] input in
       let z = behindNewlines [] input in
       let kept = trace-agrees empty-sound (before .trace) .kept in
-      let seen : Seen (after-all document (held emptyTable) (linesCalls ls)) (1 + length ls) (reading z) (p .last) =
-      subst (λ (y : List ℕ). Seen (after-all document (held emptyTable) (linesCalls ls)) (1 + length ls) (reading y)
+      let seen : Seen (callsAfter document (held emptyTable) (linesCalls ls)) (1 + length ls) (reading z) (p .last) =
+      subst (λ (y : List ℕ). Seen (callsAfter document (held emptyTable) (linesCalls ls)) (1 + length ls) (reading y)
       (p .last)) (before .at-hand)
       (subst (λ (n : ℕ).
-      Seen (after-all document (held emptyTable) (linesCalls ls)) n (reading (last-state .line)) (p .last))
+      Seen (callsAfter document (held emptyTable) (linesCalls ls)) n (reading (last-state .line)) (p .last))
       (before .number)
       (subst (λ (Q : Program). Seen Q (last-state .number) (reading (last-state .line)) (p .last)) kept
       (last .seen))) in

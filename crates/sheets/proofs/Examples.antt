@@ -3,6 +3,7 @@ use mathlib.Core.Path.{_≡_, refl}
 use mathlib.Core.List.{[], _∷_, map}
 use Rattle.theory.specs.Book.{add, remove}
 use Rattle.table.specs.Questions.{ruleFrom}
+use Rattle.history.specs.Calls.{change}
 use Rattle.fields.specs.Texts.{bytes}
 use Rattle.tokens.specs.Tokens.{onto, pieces, filled, tokens}
 use Rattle.tokens.specs.Numerals.{digits, valueFrom, needless, spelledFrom, numeral}
@@ -27,13 +28,13 @@ lines-shown = refl
 pub calls-shown :
     map callsOf
     (bytes "A 1 : 2\nA 2 : ! 3\nA 4 : 1\nA 3 :\nL\nR 3\nL\nW 1\nW 3\n" ∷ bytes "\nA 1:2\nR 999\nA 5 : 6 ! 7" ∷ [])
-    ≡ (add (ruleFrom 1 (2 ∷ []) [])
-    ∷ add (ruleFrom 2 [] (3 ∷ []))
-    ∷ add (ruleFrom 4 (1 ∷ []) [])
-    ∷ add (ruleFrom 3 [] [])
-    ∷ remove 3
+    ≡ (change (add (ruleFrom 1 (2 ∷ []) []))
+    ∷ change (add (ruleFrom 2 [] (3 ∷ [])))
+    ∷ change (add (ruleFrom 4 (1 ∷ []) []))
+    ∷ change (add (ruleFrom 3 [] []))
+    ∷ change (remove 3)
     ∷ [])
-    ∷ (remove 999 ∷ add (ruleFrom 5 (6 ∷ []) (7 ∷ [])) ∷ [])
+    ∷ (change (remove 999) ∷ change (add (ruleFrom 5 (6 ∷ []) (7 ∷ []))) ∷ [])
     ∷ []
 unfolding bytes endedLines behindNewlines linesCalls reading blank spaces command form addition only listing
     numerals before after one tokens pieces filled onto numeral digits needless spelledFrom valueFrom

@@ -14,7 +14,7 @@ use Rattle.theory.specs.Labels.{Label, Labelled}
 use Rattle.theory.specs.Explanations.{Reason}
 use Rattle.theory.specs.Questions.{asks, first-no, reason-questions, is-in-label}
 use Rattle.theory.specs.Limits.{document}
-use Rattle.theory.specs.Book.{Call, add, remove, Answer}
+use Rattle.theory.specs.Book.{Answer}
 use Rattle.theory.proofs.Lists.{le-or-lt, ltb-lt, unless}
 use Rattle.theory.proofs.Questions.{first-no-here, first-no-none}
 use Rattle.theory.proofs.Labels.{label-exists}
@@ -31,6 +31,7 @@ use Rattle.calls.specs.Answers.{numberOf, bookAdd, bookRemove}
 use Rattle.calls.specs.Contracts as contract
 use Rattle.calls.specs.Contracts.{held, ReasonEnds}
 use Rattle.calls.proofs.Determined.{same-model}
+use Rattle.history.specs.Calls.{Call}
 use Rattle.history.specs.Claim.{adds, removes, Trace, stop, call}
 use Rattle.history.proofs.Sequence.{step-follows, sound-model, sound-below}
 use Rattle.history.proofs.Demands.{label-in-model}

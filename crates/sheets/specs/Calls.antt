@@ -4,8 +4,9 @@ use Prim.Native.Nat.{ℕ}
 use mathlib.Core.Bool.{cond}
 use mathlib.Core.List.{List, [], _∷_, _++_}
 use lib.Dec.{eqb}
-use Rattle.theory.specs.Book.{Call, add, remove}
+use Rattle.theory.specs.Book.{add, remove}
 use Rattle.table.specs.Questions.{ruleFrom}
+use Rattle.history.specs.Calls.{Call, change}
 use Rattle.lines.specs.Commands as sheet
 use Rattle.lines.specs.Readings.{Line, is-blank, too-long, no-command, is, reading}
 use Rattle.fields.specs.Texts.{NEWLINE}
@@ -34,8 +35,8 @@ abbrev pub lineCalls : Line → List Call
 lineCalls is-blank = []
 lineCalls too-long = []
 lineCalls no-command = []
-lineCalls (is (sheet.add head ps ns)) = add (ruleFrom head ps ns) ∷ []
-lineCalls (is (sheet.remove slot)) = remove slot ∷ []
+lineCalls (is (sheet.add head ps ns)) = change (add (ruleFrom head ps ns)) ∷ []
+lineCalls (is (sheet.remove slot)) = change (remove slot) ∷ []
 lineCalls (is (sheet.why atom)) = []
 lineCalls (is sheet.labels) = []
 

@@ -10,8 +10,9 @@ use Rattle.theory.specs.Labels.{Label, Labelled}
 use Rattle.theory.specs.Explanations.{Reason}
 use Rattle.theory.specs.Questions.{first-no, reason-questions}
 use Rattle.theory.specs.Limits.{document}
-use Rattle.theory.specs.Book.{add, remove, Answer, refused, slot, accepted, empty, answer, after-all}
+use Rattle.theory.specs.Book.{add, remove, Answer, refused, slot, accepted, empty, answer}
 use Rattle.table.specs.Questions.{ruleFrom}
+use Rattle.history.specs.Calls.{callsAfter}
 use Rattle.lines.specs.Commands as sheet
 use Rattle.lines.specs.Readings.{Line, is-blank, too-long, no-command, is, reading}
 use Rattle.fields.specs.Texts.{bytes}
@@ -65,7 +66,7 @@ Seen P n (is sheet.labels) out = SeesLabels P out
 
 -- The book's pages after a line.
 abbrev pub pagesAfter : Program → Line → Program
-pagesAfter P line = after-all document P (lineCalls line)
+pagesAfter P line = callsAfter document P (lineCalls line)
 
 -- What lines print, one after another: the first is line n and meets the pages P, the next meets the pages after it.
 pub data LinesPrint : Program → ℕ → List (List ℕ) → List ℕ → Type 0 where

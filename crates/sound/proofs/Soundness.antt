@@ -8,6 +8,7 @@ use mathlib.Core.List.{List·Memᴰ·head}
 use mathlib.Core.Option.{none, some, Option·none-ne-some}
 use lib.ListN.{length, getD, length-map, List·getD-eq-default}
 use Rattle.theory.specs.Rules.{Rule, Program, Held, Occurs, Bounded, Ascending, same}
+use Rattle.theory.specs.Models.{AtomSet, Admissible}
 use Rattle.theory.specs.Dependencies.{NegativeCycle}
 use Rattle.theory.specs.Labels.{Label, absent, out, in-at, Labelled, is-absent}
 use Rattle.theory.specs.Questions.{first-no, rule-questions, is-in-label}
@@ -111,7 +112,7 @@ module _ (t : Table) (slots : length (t .rules) ≡ document .slots) (atoms : le
   well-formed-ascending W s r h = W s (held-low s r h) .ascending r (sym (program-at (t .rules) s) ∙ h)
 
   -- where the lists ascend, rules that are the same are equal
-  well-formed-single :
+  pub well-formed-single :
       WellFormedSlots → Single P
       → (s u : ℕ) (q r : Rule) → Held P s q → Held P u r → same q r ≡ true → s ≡ u
   well-formed-single W U s u q r h g z =
@@ -156,12 +157,11 @@ module _ (t : Table) (slots : length (t .rules) ≡ document .slots) (atoms : le
     pub sound-occurrence : OccurrenceKept P label
     sound-occurrence = certified-occurrence P label sound-certified
 
-  -- And what makes a table sound.
-  pub sound-of :
-      WellFormedSlots → CleanLabels → KeptConfirmed P label → OccurrenceKept P label → Single P
-      → (NegativeCycle P → ⊥) → Sound t
-  sound-of W L K O U A =
-      let C = kept-certified P label K O in
+  -- And what makes a table sound: well-formed slots, no rule twice, no negative cycle, and the labels defined.
+  pub sound-labelled :
+      WellFormedSlots → CleanLabels → Single P → (NegativeCycle P → ⊥) → (M : AtomSet) → Admissible P M
+      → ((a : ℕ) → a < document .atoms → Labelled P M a (label a)) → Sound t
+  sound-labelled W L U A M G K =
       record {
         labels = record {
           slots = simp length-map (slots);
@@ -169,9 +169,16 @@ module _ (t : Table) (slots : length (t .rules) ≡ document .slots) (atoms : le
           ascending = well-formed-ascending W;
           single = well-formed-single W U;
           acyclic = A;
-          model = kept-in label;
-          admissible = certified-admissible P label C;
-          labels = λ a l. certified-labels P label C a;
+          model = M;
+          admissible = G;
+          labels = K;
         };
         clean = record { rules = λ s l. W s l .clean; labels = L };
       }
+
+  pub sound-of :
+      WellFormedSlots → CleanLabels → KeptConfirmed P label → OccurrenceKept P label → Single P
+      → (NegativeCycle P → ⊥) → Sound t
+  sound-of W L K O U A =
+      let C = kept-certified P label K O in
+      sound-labelled W L U A (kept-in label) (certified-admissible P label C) (λ a l. certified-labels P label C a)

@@ -1,4 +1,5 @@
-// The lines of standard input answered on standard output, with one table, empty at the start.
+// The lines of standard input answered with one table, empty at the start; each reply is shown on standard output, or
+// none is.
 use feed::feed;
 use feed::reply_at;
 use libc::STDERR_FILENO;
@@ -15,7 +16,7 @@ ghost use Rattle.stream.specs.Answered.{AnswersPiece, AnswersLines, Answ
 // ended there.
 const MOST: usize = 1048576;
 
-// The sheet after what was fed to it, how many bytes these were, and whether all that they print could be written.
+// The sheet after what was fed to it, how many bytes these were, and whether all that is shown could be written.
 pub struct Answered {
     pub sheet: Sheet,
     pub read: usize,
@@ -29,7 +30,7 @@ pub struct Last {
 }
 
 // Writes bytes on standard output. Where that fails, one line on standard error says so.
-fn write_out(bytes: &[u8]) -> bool {
+pub fn write_out(bytes: &[u8]) -> bool {
     let written = io::write_all(STDOUT_FILENO, bytes);
     if !written {
         io::write_all(STDERR_FILENO, b"yeqontur: the output cannot be written\n");
@@ -37,8 +38,16 @@ fn write_out(bytes: &[u8]) -> bool {
     written
 }
 
+// Writes them if they are shown; else nothing is written, and nothing can fail.
+fn show(bytes: &[u8], shown: bool) -> bool {
+    if !shown {
+        return true;
+    }
+    write_out(bytes)
+}
+
 // Reads once, at most as many bytes as are left to read.
-fn read_some(input: &mut [u8], left: usize) -> usize
+pub fn read_some(input: &mut [u8], left: usize) -> usize
     ensures { λ r. ⌜ (r ≤ left) × (r ≤ length (now (input .exit))) ⌝ }
 {
     if left < input.len() {
@@ -50,8 +59,8 @@ fn read_some(input: &mut [u8], left: usize) -> usize
     io::count(got, input)
 }
 
-// Answers the lines of a piece: all of its bytes are fed, in order, unless what they print can't be written.
-fn answer(sheet: Sheet, input: &[u8], out: &mut [u8]) -> Answered
+// Answers the lines of a piece: all of its bytes are fed, in order, unless what is shown can't be written.
+fn answer(sheet: Sheet, input: &[u8], out: &mut [u8], shown: bool) -> Answered
     requires { ⌜ ROOM ≤ length (now out) ⌝ }
     ensures { λ r. ⌜ AnswersPiece sheet (now (input .entry)) r ⌝ }
 {
@@ -61,7 +70,7 @@ fn answer(sheet: Sheet, input: &[u8], out: &mut [u8]) -> Answered
     while written && from < input.len() {
         let fed = feed(s, &input[from..], out);
         let n = fed.printed;
-        written = write_out(&out[..n]);
+        written = show(&out[..n], shown);
         s = fed.sheet;
         from += fed.read;
     }
@@ -75,18 +84,18 @@ fn answer(sheet: Sheet, input: &[u8], out: &mut [u8]) -> Answered
 // Reads once, at most as many bytes as are left to read, and answers the lines of these bytes: none at the end of the
 // input. A read that fails ends the input as its end does. The contract ties the bytes in the buffer to the sheet
 // handed in; that they are all that was read it can't say, since no contract speaks of files.
-fn answer_read(sheet: Sheet, input: &mut [u8], left: usize, out: &mut [u8]) -> Answered
+fn answer_read(sheet: Sheet, input: &mut [u8], left: usize, out: &mut [u8], shown: bool) -> Answered
     requires { ⌜ ROOM ≤ length (now out) ⌝ }
     ensures { λ r. ⌜ (r .read ≤ left) × AnswersPiece sheet (take (r .read) (now (input .exit))) r ⌝ }
 {
     let n = read_some(input, left);
-    answer(sheet, &input[..n], out)
+    answer(sheet, &input[..n], out, shown)
 }
 
 // Answers each line as it comes, up to the end of the input. The contract says how many bytes were fed, and that the
 // sheet handed back is the one handed in after just so many: so none starts anew and none is forgotten. It does not
 // shut out a loop that ends before the input does, or one that drops a turn and the count of its bytes with it.
-fn answer_lines(sheet: Sheet, out: &mut [u8]) -> Answered
+fn answer_lines(sheet: Sheet, out: &mut [u8], shown: bool) -> Answered
     requires { ⌜ ROOM ≤ length (now out) ⌝ }
     ensures { λ r. ⌜ AnswersLines sheet r ⌝ }
 {
@@ -99,7 +108,7 @@ fn answer_lines(sheet: Sheet, out: &mut [u8]) -> Answered
     let mut left = MOST;
     while left > 0 && done.written {
         let so_far = done.sheet;
-        done = answer_read(so_far, &mut input, left, out);
+        done = answer_read(so_far, &mut input, left, out, shown);
         if done.read == 0 {
             break;
         }
@@ -117,16 +126,16 @@ fn answer_lines(sheet: Sheet, out: &mut [u8]) -> Answered
 // Answers each line as it comes, and then the last one, which may lack its newline. Once something can't be written,
 // nothing more is read or written. The contract names the sheet that was replied to; it can't say that the reply was
 // written.
-fn answer_from(sheet: Sheet) -> Last
+fn answer_from(sheet: Sheet, shown: bool) -> Last
     ensures { λ r. ⌜ AnswersFrom sheet r ⌝ }
 {
     let mut out = io::large_buffer();
-    let done = answer_lines(sheet, &mut out);
+    let done = answer_lines(sheet, &mut out, shown);
     let at_last = done.sheet;
     let last = reply_at(at_last, &mut out, 0);
     let n = last.next;
     if done.written {
-        write_out(&out[..n]);
+        show(&out[..n], shown);
     }
     Last {
         done: done,
@@ -139,7 +148,15 @@ fn answer_from(sheet: Sheet) -> Last
 pub fn answer_input() -> Last
     ensures { λ r. ⌜ AnswersLast r ⌝ }
 {
-    answer_from(Sheet::start())
+    answer_from(Sheet::start(), true)
+}
+
+// The same with no reply shown: the table after the last line is all that a sheet leaves. That nothing is shown no
+// contract can say; it is run in the gate.
+pub fn leave_input() -> Last
+    ensures { λ r. ⌜ AnswersLast r ⌝ }
+{
+    answer_from(Sheet::start(), false)
 }
 
 // The whole of a program: what `answer_input` hands back is for its contract alone.

@@ -3,7 +3,8 @@ use Prim.Native.Nat.{ℕ, zero, suc}
 use native.Mathlib.Omega.{arith}
 use mathlib.Core.Path.{_≡_, refl, sym, _∙_, ap}
 use mathlib.Core.Bool.{true, false, true≢false}
-use mathlib.Core.List.{[], List·Memᴰ·not-nil}
+use mathlib.Core.List.{[], _∷_, List·Memᴰ·not-nil}
+use mathlib.Core.Option.{none}
 use lib.ListN.{getD, replicate, length-replicate, getD-replicate}
 use Rattle.theory.specs.Rules.{Program, Held}
 use Rattle.theory.specs.Rules as theory
@@ -100,3 +101,8 @@ empty-clean =
 
 pub empty-sound : Sound emptyTable
 empty-sound = record { labels = empty-labels document; clean = empty-clean }
+
+-- The rules of free slots are free pages, and those of the empty table are the empty book.
+pub free-program : (n : ℕ) → programOf (replicate n freeRule) ≡ replicate n none
+free-program zero = refl
+free-program (suc n) = ap (λ (P : Program). none ∷ P) (free-program n)

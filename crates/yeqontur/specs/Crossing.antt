@@ -9,12 +9,15 @@ use Rattle.calls.specs.declared.RemoveAnswer.{RemoveAnswer}
 use Rattle.calls.specs.declared.LabelAnswer.{LabelAnswer}
 use Rattle.calls.specs.declared.SpoilerAnswer.{SpoilerAnswer}
 use Rattle.calls.specs.declared.ListAnswer.{ListAnswer}
-use Rattle.calls.specs.Contracts.{AddEnds, RemoveEnds, LabelEnds, SpoilerEnds}
+use Rattle.calls.specs.declared.LoadAnswer.{LoadAnswer}
+use Rattle.calls.specs.Contracts.{AddEnds, RemoveEnds, LabelEnds, SpoilerEnds, LoadEnds}
 use Rattle.crossing.specs.declared.Change.{Change}
 use Rattle.crossing.specs.declared.AtomLabel.{AtomLabel}
 use Rattle.crossing.specs.declared.RuleSpoiler.{RuleSpoiler}
 use Rattle.crossing.specs.declared.Written.{Written}
+use Rattle.crossing.specs.declared.Loaded.{Loaded}
 use Rattle.crossing.specs.Numbers.{crossedAdd, crossedRemove, crossedLabel, crossedSpoiler, crossedList}
+use Rattle.crossing.specs.Numbers.{crossedLoad}
 
 -- What crosses is the answer of a call that meets its contract.
 
@@ -45,3 +48,9 @@ pub record ListCrosses (Ends : ListAnswer → List ℕ → Type 0) (after : List
   pub answer : ListAnswer
   pub ends : Ends answer after
   pub crosses : c ≡ crossedList answer
+
+pub record LoadCrosses (bytes : List ℕ) (c : Loaded) : Type 0 where
+  pub answer : LoadAnswer
+  pub after : Table
+  pub ends : LoadEnds bytes answer after
+  pub crosses : c ≡ crossedLoad answer after

@@ -4,13 +4,17 @@ use changes::add;
 use changes::remove;
 use crossing::AtomLabel;
 use crossing::Change;
+use crossing::Loaded;
 use crossing::RuleSpoiler;
 use crossing::Written;
 use crossing::crossed_add;
 use crossing::crossed_label;
 use crossing::crossed_list;
+use crossing::crossed_load;
 use crossing::crossed_remove;
 use crossing::crossed_spoiler;
+use files::load;
+use files::save;
 use queries::consequences;
 use queries::justifications;
 use queries::label;
@@ -22,7 +26,9 @@ ghost use mathlib.Core.Path.{_≡_};
 ghost use Rattle.table.specs.Clean.{emptyTable};
 ghost use Rattle.table.specs.Questions.{ruleFrom};
 ghost use Rattle.calls.specs.Contracts.{JustificationsEnd, ConsequencesEnd, RepercussionsEnd, ReasonEnds};
+ghost use Rattle.calls.specs.Contracts.{SaveEnds};
 ghost use Rattle.yeqontur.specs.Crossing.{AddCrosses, RemoveCrosses, LabelCrosses, SpoilerCrosses, ListCrosses};
+ghost use Rattle.yeqontur.specs.Crossing.{LoadCrosses};
 
 // The table in which every slot is free.
 #[no_mangle]
@@ -103,4 +109,22 @@ pub extern "C" fn yeqontur_reason(table: Table, atom: u32, buffer: &mut [u32]) -
 {
     let answer = reason(table, atom, buffer);
     crossed_list(answer)
+}
+
+#[no_mangle]
+pub extern "C" fn yeqontur_save(table: Table, bytes: &mut [u8]) -> Written
+    ensures { λ r. ⌜ ListCrosses (SaveEnds table (now (bytes .entry))) (now (bytes .exit)) r ⌝ }
+{
+    let answer = save(table, bytes);
+    crossed_list(answer)
+}
+
+#[no_mangle]
+pub extern "C" fn yeqontur_load(bytes: &[u8]) -> Loaded
+    ensures { λ r. ⌜ LoadCrosses (now (bytes .entry)) r ⌝ }
+{
+    let done = load(bytes);
+    let answer = done.answer;
+    let after = done.table;
+    crossed_load(answer, after)
 }

@@ -1,7 +1,10 @@
 //! Random lists of calls, with good and bad arguments.
 
+use crate::book::Book;
 use crate::calls::Call;
+use crate::file;
 use crate::generate::again::{Earlier, Named};
+use crate::generate::files::any_file;
 use crate::random::Random;
 use crate::table::RawTable;
 
@@ -85,10 +88,34 @@ impl Calls {
         }
     }
 
-    /// Any call; most of them change the table.
+    /// The file of what some additions and removals leave: its rules are like those of the calls around it.
+    fn file_of_additions(&mut self, random: &mut Random) -> Vec<u8> {
+        let mut book = Book::empty();
+        for _ in 0..random.between(0, 40) {
+            let named = self.named(random);
+            // A refused addition adds nothing to the file.
+            let _ = book.add(named.head, &named.positives, &named.negatives);
+            if random.percent(20) {
+                let _ = book.remove(number(random, self.slots));
+            }
+        }
+        file::write(book.pages())
+    }
+
+    /// A load of a good file for the most part, else of a file of any kind.
+    pub fn load(&mut self, random: &mut Random) -> Call {
+        let bytes = if random.percent(60) {
+            self.file_of_additions(random)
+        } else {
+            any_file(random)
+        };
+        Call::Load { bytes }
+    }
+
+    /// Any call; most of them change the table. Loads are rare, since each begins from nothing.
     pub fn call(&mut self, random: &mut Random) -> Call {
         let atom = number(random, self.atoms);
-        match random.below(20) {
+        match random.below(21) {
             0..=9 => self.addition(random),
             10..=12 => self.removal(random),
             13 => Call::Label { atom },
@@ -98,7 +125,9 @@ impl Calls {
             15 => Call::Justifications { atom },
             16 => Call::Consequences { atom },
             17 => Call::Repercussions { atom },
-            _ => Call::Reason { atom },
+            18..=19 => Call::Reason { atom },
+            _ if random.percent(50) => self.load(random),
+            _ => Call::Save,
         }
     }
 }

@@ -176,7 +176,8 @@ fn filled(random: &mut Random, layers: &Layers, shape: Shape, rules: usize) -> P
     program
 }
 
-fn crowded(random: &mut Random, rules: usize) -> Program {
+/// That many rules over many atoms, in the first slots.
+pub fn crowded(random: &mut Random, rules: usize) -> Program {
     let layer_count = random.between(2, 30);
     let layers = Layers::random(random, (80, ATOMS), layer_count);
     let shape = Shape {

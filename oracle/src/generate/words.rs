@@ -1,7 +1,8 @@
-//! Random lists of calls written as numbers, whole and spoiled.
+//! Random lists of calls written as numbers, whole and spoiled, and the bytes of their files.
 
 use crate::calls::Call;
 use crate::generate::calls::Calls;
+use crate::generate::files::{file, Kind};
 use crate::random::Random;
 use crate::table::RawTable;
 
@@ -20,70 +21,102 @@ pub enum Ending {
 
 pub const ENDINGS: [Ending; 4] = [Ending::Whole, Ending::Cut, Ending::Changed, Ending::Noise];
 
-/// The numbers of a call; only additions and removals are written.
-fn written(call: &Call) -> Vec<u32> {
-    match call {
-        Call::Add {
-            head,
-            positives,
-            negatives,
-        } => {
-            let (p, n) = (positives.len() as u32, negatives.len() as u32);
-            [&[1, *head, p, n], &positives[..], &negatives[..]].concat()
+/// Calls written as numbers, and the files that they load, with stray bytes between.
+#[derive(Clone, Default, Debug)]
+pub struct List {
+    pub words: Vec<u32>,
+    pub files: Vec<u8>,
+}
+
+impl List {
+    /// Writes a call that changes a table.
+    fn push(&mut self, random: &mut Random, call: &Call) {
+        match call {
+            Call::Add {
+                head,
+                positives,
+                negatives,
+            } => {
+                let (p, n) = (positives.len() as u32, negatives.len() as u32);
+                self.words.extend([1, *head, p, n]);
+                self.words.extend(positives.iter().chain(negatives));
+            }
+            Call::Remove { slot } => self.words.extend([0, *slot]),
+            Call::Load { bytes } => {
+                self.files.resize(self.files.len() + random.below(3), 0);
+                let from = self.files.len() as u32;
+                self.files.extend(bytes);
+                self.words.extend([2, from, self.files.len() as u32]);
+            }
+            _ => unreachable!("a call that changes no table"),
         }
-        Call::Remove { slot } => vec![0, *slot],
-        _ => unreachable!("a call that changes no table"),
     }
 }
 
-/// A list of up to 120 calls. Now and then they fill the table: some have 300 calls, nearly all additions.
-fn whole(random: &mut Random) -> Vec<u32> {
+/// A list of up to 120 calls. Now and then they fill the table: some have 300 calls, nearly all additions, and of these
+/// half begin with a load of a full table.
+fn whole(random: &mut Random) -> List {
     let full = random.percent(5);
     let atoms = if full {
         256
     } else {
         *random.pick(&[4, 8, 20, 60, 256])
     };
-    let (count, removals) = if full {
-        (300, 2)
+    let (count, removals, loads) = if full {
+        (300, 2, 0)
     } else {
-        (random.between(0, 120), 25)
+        (random.between(0, 120), 25, 3)
     };
     let mut calls = Calls::on(&RawTable::empty(), atoms, 2 * atoms);
-    let mut words = Vec::new();
-    for _ in 0..count {
-        let call = if random.percent(removals) {
-            calls.removal(random)
-        } else {
-            calls.addition(random)
-        };
-        words.extend(written(&call));
+    let mut list = List::default();
+    if full && random.percent(50) {
+        let bytes = file(random, Kind::FullTable);
+        list.push(random, &Call::Load { bytes });
     }
-    words
+    for _ in 0..count {
+        let call = match random.below(100) {
+            share if share < removals => calls.removal(random),
+            share if share < removals + loads => calls.load(random),
+            _ => calls.addition(random),
+        };
+        list.push(random, &call);
+    }
+    list
 }
 
-/// A number that a list may hold anywhere: a kind, a count, an atom, one that is far too large.
+/// A number that a list may hold anywhere: a kind, a count, an atom, the end of a block, one that is far too large.
 fn any(random: &mut Random) -> u32 {
-    match random.below(4) {
+    match random.below(5) {
         0 => random.below(3) as u32,
         1 => random.below(12) as u32,
-        2 => random.word() as u32,
+        2 => 512 * random.below(14) as u32,
+        3 => random.word() as u32,
         _ => *random.pick(&[255, 256, 65_536, u32::MAX - 1, u32::MAX]),
     }
 }
 
+/// Another number in the place of one: a neighbour or any.
+fn changed(random: &mut Random, word: u32) -> u32 {
+    match random.below(4) {
+        0 => word.wrapping_add(1),
+        1 => word.wrapping_sub(1),
+        _ => any(random),
+    }
+}
+
 /// A list with that ending.
-pub fn words(random: &mut Random, ending: Ending) -> Vec<u32> {
-    let mut words = whole(random);
+pub fn list(random: &mut Random, ending: Ending) -> List {
+    let mut list = whole(random);
+    let words = &mut list.words;
     match ending {
         Ending::Whole => {}
         Ending::Cut => words.truncate(random.below(words.len() + 1)),
         Ending::Changed if words.is_empty() => {}
         Ending::Changed => {
             let place = random.below(words.len());
-            words[place] = any(random);
+            words[place] = changed(random, words[place]);
         }
         Ending::Noise => words.iter_mut().for_each(|word| *word = any(random)),
     }
-    words
+    list
 }

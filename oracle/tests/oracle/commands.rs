@@ -1,5 +1,8 @@
 //! The commands of the program.
 
+use crate::notation::program;
+use oracle::file::write;
+use oracle::limits::INPUT_BYTES;
 use oracle::sheet;
 use oracle::table::RawTable;
 use std::io::Write;
@@ -30,6 +33,27 @@ fn sheet_prints_what_the_sheet_program_must_print() {
         "slot 0\n1 in 1 0\n2 out\nline 3 refused 12\n"
     );
     assert!(output.status.success() && output.stderr.is_empty());
+}
+
+#[test]
+fn save_prints_the_blocks_that_the_saving_program_must_print() {
+    let output = oracle(&["save"], b"A 1 : ! 2\nL\nx\n");
+    assert_eq!(output.stdout, write(&program(&["1 < !2"])));
+    assert!(output.status.success() && output.stderr.is_empty());
+}
+
+#[test]
+fn load_prints_what_the_loading_program_must_print() {
+    let file = write(&program(&["1 < !2"]));
+    for (input, printed) in [
+        (&file[..], "1 in 1 0\n2 out\n"),
+        (&file[1..], "refused 16\n"),
+        (&file.repeat(3_000), "refused 16\n"),
+    ] {
+        let output = oracle(&["load"], &input[..input.len().min(INPUT_BYTES)]);
+        assert_eq!(String::from_utf8(output.stdout).unwrap(), printed);
+        assert!(output.status.success() && output.stderr.is_empty());
+    }
 }
 
 #[test]
@@ -93,6 +117,8 @@ fn anything_else_gets_the_usage_and_status_2() {
         &["sheet", "x"],
         &["tables", "1"],
         &["tables", "x", "1"],
+        &["save", "x"],
+        &["load", "x"],
         &["nothing"],
     ] {
         let output = oracle(words, b"");

@@ -1,11 +1,11 @@
 //! The generators name lists in any order, and rules again in another one; some tables have lists that do not ascend.
 
 use oracle::book::Book;
-use oracle::calls::Call;
+use oracle::calls::{Call, Lent};
 use oracle::command::{read_line, Command, Line};
 use oracle::generate::calls::Calls;
 use oracle::generate::sheets::{sheet, Flavour};
-use oracle::generate::words::{words, Ending};
+use oracle::generate::words::{list, Ending};
 use oracle::generate::{mixed_table, sound_table};
 use oracle::questions::Refusal;
 use oracle::random::Random;
@@ -71,6 +71,7 @@ fn additions_come_in_any_order_and_again_in_another() {
                     negatives,
                 } => orders.add(&mut book, head, &positives, &negatives),
                 Call::Remove { slot } => drop(book.remove(slot)),
+                Call::Load { bytes } => drop(book.load(&bytes)),
                 _ => {}
             }
         }
@@ -85,7 +86,7 @@ fn the_rules_of_a_table_are_named_again_in_another_order() {
     for _ in 0..400 {
         let mut table = sound_table(&mut random);
         let call = Calls::on(&table, 256, 256).addition(&mut random);
-        if call.make(&mut table, &mut []) == Err(Refusal::SameRule) {
+        if call.make(&mut table, &mut Lent::default()) == Err(Refusal::SameRule) {
             let Call::Add {
                 positives,
                 negatives,
@@ -103,8 +104,10 @@ fn the_rules_of_a_table_are_named_again_in_another_order() {
 #[test]
 fn lists_of_numbers_and_sheets_name_rules_again_in_another_order() {
     let mut random = Random::seeded(108);
-    let lists = (0..100).map(|_| words(&mut random, Ending::Whole));
-    let answers: Vec<u32> = lists.flat_map(|list| replay(&list, 400).0).collect();
+    let lists = (0..100).map(|_| list(&mut random, Ending::Whole));
+    let answers: Vec<u32> = lists
+        .flat_map(|list| replay(&list.words, &list.files, 400).0)
+        .collect();
     let same = answers.iter().filter(|&&answer| answer == 65_536 + 5);
     assert!(same.count() > 500);
     let mut orders = Orders::default();

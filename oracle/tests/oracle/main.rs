@@ -3,7 +3,10 @@
 mod clingo;
 mod commands;
 mod depths;
+mod drawn_files;
 mod drawn_orders;
+mod file_refusals;
+mod files;
 mod generators;
 mod loops;
 mod models;
@@ -12,6 +15,7 @@ mod orders;
 mod refusals;
 mod relations;
 mod replay;
+mod saving;
 mod sequences;
 mod sheets;
 mod small_tables;

@@ -1,7 +1,7 @@
 //! Refusals: the order of the questions, and that a refused call leaves everything alone.
 
 use crate::notation::{add, table};
-use oracle::calls::{self, Call};
+use oracle::calls::{self, Call, Lent};
 use oracle::generate::calls::Calls;
 use oracle::generate::mixed_table;
 use oracle::questions::Refusal;
@@ -11,7 +11,7 @@ use oracle::table::RawTable;
 use std::collections::BTreeMap;
 
 #[test]
-fn a_refused_call_changes_no_table_and_writes_no_entry() {
+fn a_refused_call_writes_no_entry_and_hands_back_its_table_or_the_empty_one() {
     let mut random = Random::seeded(71);
     let mut refused: BTreeMap<u32, usize> = BTreeMap::new();
     for _ in 0..400 {
@@ -19,19 +19,22 @@ fn a_refused_call_changes_no_table_and_writes_no_entry() {
         let mut calls = Calls::on(&table, 256, 256);
         for _ in 0..10 {
             let call = calls.call(&mut random);
-            let mut buffer: Vec<u32> = (0..random.below(6)).map(|_| random.word() as u32).collect();
-            let (table_before, buffer_before) = (table.clone(), buffer.clone());
-            if let Err(refusal) = call.make(&mut table, &mut buffer) {
-                assert_eq!(
-                    (&table, &buffer),
-                    (&table_before, &buffer_before),
-                    "{call:?}"
-                );
+            let mut lent = Lent {
+                numbers: (0..random.below(6)).map(|_| random.word() as u32).collect(),
+                bytes: (0..random.below(6)).map(|_| random.word() as u8).collect(),
+            };
+            let (table_before, lent_before) = (table.clone(), lent.clone());
+            if let Err(refusal) = call.make(&mut table, &mut lent) {
+                let handed_back = match call {
+                    Call::Load { .. } => RawTable::empty(),
+                    _ => table_before,
+                };
+                assert_eq!((&table, &lent), (&handed_back, &lent_before), "{call:?}");
                 *refused.entry(refusal.number()).or_default() += 1;
             }
         }
     }
-    for number in [1, 2, 3, 4, 5, 6, 7, 8, 9, 10, 11, 12, 15] {
+    for number in [1, 2, 3, 4, 5, 6, 7, 8, 9, 10, 11, 12, 15, 16, 17, 18, 19] {
         assert!(
             refused.contains_key(&number),
             "{number} occurs: {refused:?}"
@@ -40,7 +43,7 @@ fn a_refused_call_changes_no_table_and_writes_no_entry() {
 }
 
 #[test]
-fn every_call_asks_first_whether_the_table_is_sound() {
+fn every_call_that_takes_a_table_asks_first_whether_it_is_sound() {
     let mut unsound = table(&["1 <"]);
     unsound.labels[1].depth = 2;
     let large = 256;
@@ -57,10 +60,11 @@ fn every_call_asks_first_whether_the_table_is_sound() {
         Call::Consequences { atom: large },
         Call::Repercussions { atom: large },
         Call::Reason { atom: large },
+        Call::Save,
     ];
     for call in all {
         assert_eq!(
-            call.make(&mut unsound, &mut []),
+            call.make(&mut unsound, &mut Lent::default()),
             Err(Refusal::TableUnsound),
             "{call:?}"
         );
@@ -148,7 +152,11 @@ fn every_accepted_change_leaves_a_sound_table() {
         let mut calls = Calls::on(&table, 256, 256);
         for _ in 0..5 {
             let call = calls.call(&mut random);
-            accepted += usize::from(call.make(&mut table, &mut [0; 256]).is_ok());
+            let mut lent = Lent {
+                numbers: vec![0; 256],
+                bytes: vec![0; 12 * 512],
+            };
+            accepted += usize::from(call.make(&mut table, &mut lent).is_ok());
             assert!(sound(&table), "{call:?}");
         }
     }

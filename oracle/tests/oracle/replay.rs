@@ -1,18 +1,20 @@
 //! Lists of calls written as numbers.
 
 use oracle::book::Book;
-use oracle::generate::words::{words, ENDINGS};
+use oracle::file::write;
+use oracle::generate::words::{list, ENDINGS};
 use oracle::random::Random;
 use oracle::replay::replay;
+use oracle::rules::Rule;
 
 fn answers(words: &[u32]) -> Vec<u32> {
-    replay(words, 100).0
+    replay(words, &[], 100).0
 }
 
 #[test]
 fn an_addition_answers_its_slot_a_removal_that_it_was_accepted() {
     let list = [1, 5, 1, 1, 6, 7, 1, 6, 0, 0, 0, 0, 1, 8, 0, 0];
-    let (answers, book) = replay(&list, 100);
+    let (answers, book) = replay(&list, &[], 100);
     assert_eq!(answers, [0, 1, 65_536, 0]);
     let mut other = Book::empty();
     assert_eq!(other.add(8, &[], &[]), Ok(0));
@@ -32,7 +34,7 @@ fn a_refusal_answers_its_number_above_accepted() {
 fn another_number_or_a_call_cut_short_ends_the_list() {
     for end in [
         &[][..],
-        &[2, 0],
+        &[3, 0],
         &[u32::MAX],
         &[0],
         &[1],
@@ -44,14 +46,14 @@ fn another_number_or_a_call_cut_short_ends_the_list() {
         assert_eq!(answers(&list), [0], "{end:?}");
     }
     assert_eq!(answers(&[1, 2, u32::MAX, u32::MAX, 0, 0]), []);
-    assert_eq!(answers(&[1, 9, 0, 0, 2, 0, 1, 8, 0, 0]), [0]);
+    assert_eq!(answers(&[1, 9, 0, 0, 3, 0, 1, 8, 0, 0]), [0]);
 }
 
 #[test]
 fn a_call_for_whose_answer_there_is_no_room_is_not_made() {
     let list = [1, 9, 0, 0, 1, 8, 0, 0];
-    assert_eq!(replay(&list, 0), (vec![], Book::empty()));
-    let (answers, book) = replay(&list, 1);
+    assert_eq!(replay(&list, &[], 0), (vec![], Book::empty()));
+    let (answers, book) = replay(&list, &[], 1);
     assert_eq!(answers, [0]);
     assert_eq!(book.pages().iter().flatten().count(), 1);
 }
@@ -61,8 +63,69 @@ fn some_list_of_every_ending_has_calls() {
     for ending in ENDINGS {
         let mut random = Random::seeded(7);
         let counts: Vec<usize> = (0..200)
-            .map(|_| replay(&words(&mut random, ending), 1000).0.len())
+            .map(|_| {
+                let drawn = list(&mut random, ending);
+                replay(&drawn.words, &drawn.files, 1000).0.len()
+            })
             .collect();
         assert!(counts.iter().any(|&count| count > 0), "{ending:?}");
     }
+}
+
+/// Two files: of one fact, in slot 2, and one of a wrong length.
+fn two_files() -> Vec<u8> {
+    let mut program = vec![None; 256];
+    program[2] = Some(Rule::of(9, &[], &[]));
+    let mut files = write(&program);
+    files.extend([7; 3]);
+    files
+}
+
+#[test]
+fn a_load_answers_that_it_was_accepted_and_its_rules_stand_alone() {
+    let list = [1, 5, 0, 0, 2, 0, 512, 1, 8, 0, 0, 1, 9, 0, 0, 0, 2];
+    let (answers, book) = replay(&list, &two_files(), 100);
+    assert_eq!(answers, [0, 65_536, 0, 65_536 + 5, 65_536]);
+    let heads: Vec<u32> = book
+        .pages()
+        .iter()
+        .flatten()
+        .map(|rule| rule.head)
+        .collect();
+    assert_eq!(heads, [8], "5 went with the load, 9 was removed");
+}
+
+#[test]
+fn a_refused_load_answers_its_number_above_accepted_and_frees_every_page() {
+    for (from, to, number) in [(512, 515, 16), (0, 0, 16), (515, 515, 16), (1, 513, 17)] {
+        let list = [1, 5, 0, 0, 2, from, to];
+        let (answers, book) = replay(&list, &two_files(), 100);
+        assert_eq!(answers, [0, 65_536 + number], "{from} to {to}");
+        assert_eq!(book, Book::empty());
+    }
+}
+
+#[test]
+fn a_load_from_beyond_the_bytes_or_backwards_ends_the_list() {
+    for end in [
+        &[2][..],
+        &[2, 0],
+        &[2, 0, 516, 0, 0],
+        &[2, 516, 516, 0, 0],
+        &[2, 512, 511, 0, 0],
+        &[2, u32::MAX, u32::MAX, 0, 0],
+        &[2, u32::MAX, 0, 0, 0],
+    ] {
+        let list = [&[1, 5, 0, 0], end].concat();
+        let (answers, book) = replay(&list, &two_files(), 100);
+        assert_eq!(answers, [0], "{end:?}");
+        assert_eq!(book.pages().iter().flatten().count(), 1, "{end:?}");
+    }
+}
+
+#[test]
+fn a_load_for_whose_answer_there_is_no_room_is_not_made() {
+    let (answers, book) = replay(&[1, 5, 0, 0, 2, 0, 0], &[], 1);
+    assert_eq!(answers, [0]);
+    assert_eq!(book.pages().iter().flatten().count(), 1);
 }

@@ -1,7 +1,7 @@
 //! Lists of calls, held against the plain book.
 
 use oracle::book::Book;
-use oracle::calls::{self, Answer, Call, Validity};
+use oracle::calls::{self, Answer, Call, Lent, Validity};
 use oracle::generate::calls::Calls;
 use oracle::labels::Labelled;
 use oracle::model::admissible_models;
@@ -22,6 +22,7 @@ fn book_answer(book: &mut Book, call: &Call) -> Option<Result<Answer, u32>> {
             negatives,
         } => Some(book.add(*head, positives, negatives).map(Answer::Slot)),
         Call::Remove { slot } => Some(book.remove(*slot).map(|()| Answer::Accepted)),
+        Call::Load { bytes } => Some(book.load(bytes).map(|()| Answer::Accepted)),
         _ => None,
     }
 }
@@ -57,11 +58,14 @@ fn follow(
     size: (usize, usize),
 ) -> BTreeMap<u32, usize> {
     let mut answers = BTreeMap::new();
-    let mut buffer = [0; 256];
+    let mut lent = Lent {
+        numbers: vec![0; 256],
+        bytes: vec![0; 12 * 512],
+    };
     let mut drawn = Calls::on(table, size.0, size.1);
     for _ in 0..calls {
         let call = drawn.call(random);
-        let answer = call.make(table, &mut buffer).map_err(Refusal::number);
+        let answer = call.make(table, &mut lent).map_err(Refusal::number);
         if let Some(expected) = book_answer(book, &call) {
             assert_eq!(answer, expected, "{call:?} in {book:?}");
         }
@@ -89,12 +93,16 @@ fn calls_answer_as_the_book_does_and_leave_what_it_holds() {
             "{number} occurs: {answers:?}"
         );
     }
+    for number in [16, 17, 18, 19] {
+        assert!(answers.contains_key(&number), "{number}: {answers:?}");
+    }
 }
 
 #[test]
 fn calls_answer_as_the_book_does_when_slots_run_out() {
     let mut random = Random::seeded(52);
-    for _ in 0..4 {
+    let mut run_out = 0;
+    for _ in 0..8 {
         let mut table = RawTable::empty();
         let mut book = Book::empty();
         for atom in 0..255 {
@@ -102,9 +110,10 @@ fn calls_answer_as_the_book_does_when_slots_run_out() {
             assert_eq!(book.add(atom, &[], &[]), Ok(atom));
         }
         let answers = follow(&mut random, &mut table, &mut book, 200, (40, 256));
-        assert!(answers.contains_key(&6), "slots run out: {answers:?}");
+        run_out += usize::from(answers.contains_key(&6));
         assert_table_is_the_books(&table, &book);
     }
+    assert!(run_out > 3, "slots run out before a load: {run_out}");
 }
 
 #[test]

@@ -1,6 +1,9 @@
 //! What the tests share.
 #![allow(dead_code)] // each test file uses a part
 
+use std::path::{Path, PathBuf};
+use std::process::Command;
+use std::{env, fs};
 use yeqontur::{raw, Table};
 
 /// A table of rules (head, positives, negatives), in slots 0, 1, ..
@@ -22,6 +25,45 @@ pub fn fourth_example() -> Table {
         (3, &[4], &[]),
         (3, &[], &[5]),
     ])
+}
+
+/// An empty folder of the test's own.
+pub fn folder(name: &str) -> PathBuf {
+    let folder = Path::new(env!("CARGO_TARGET_TMPDIR")).join(name);
+    let _ = fs::remove_dir_all(&folder); // of an earlier run
+    fs::create_dir(&folder).expect("a folder");
+    folder
+}
+
+/// The names in a folder, ascending.
+pub fn names(folder: &Path) -> Vec<String> {
+    let entries = fs::read_dir(folder).expect("a folder");
+    let name = |entry: fs::DirEntry| entry.file_name().into_string().expect("a name");
+    let mut names: Vec<String> = entries
+        .map(|entry| name(entry.expect("an entry")))
+        .collect();
+    names.sort();
+    names
+}
+
+const GIVEN: &str = "YEQONTUR_TEST_PATH";
+
+/// One of this program's ignored tests as a process of its own, given a path to work on.
+pub fn process(test: &str, path: &Path) -> Command {
+    process_of(&env::current_exe().expect("this program"), test, path)
+}
+
+/// The same of a copy of this program.
+pub fn process_of(program: &Path, test: &str, path: &Path) -> Command {
+    let mut program = Command::new(program);
+    program.args(["--exact", test, "--ignored", "--nocapture"]);
+    program.env(GIVEN, path);
+    program
+}
+
+/// The path given to this process; none if it is not one that a test started.
+pub fn given() -> Option<PathBuf> {
+    env::var_os(GIVEN).map(PathBuf::from)
 }
 
 /// A seeded generator (splitmix64), so that a run can be repeated.

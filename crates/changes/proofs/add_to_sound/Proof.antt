@@ -14,7 +14,8 @@ use Rattle.calls.specs.Contracts.{held}
 use Rattle.making.proofs.Slots.{lowest-at, lowest-none}
 use Rattle.changes.proofs.Adding.{same-told, refused-early, refused-same, refused-full, refused-cycle}
 use Rattle.changes.proofs.Adding.{bounded-changed, add-ends, handed-back}
-use Rattle.changes.proofs.Sizes.{table-sized, rule-sized, labels-sized}
+use Rattle.calls.proofs.Sizes.{table-sized, rule-sized}
+use Rattle.changes.proofs.Sizes.{labels-sized}
 use borrow.Author.Needs.{needs}
 use Rattle.changes.proofs.add_to_sound.Statement.{statement}
 use Rattle.changes.proofs.add_to_sound.Tie as tie

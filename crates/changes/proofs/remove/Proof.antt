@@ -1,7 +1,8 @@
 -- `changes::remove` ends as its contract says. Assumes nothing.
 use Rattle.calls.proofs.Asking.{slot-passed, remove-refused}
 use Rattle.changes.proofs.Removing.{bounded-rest, remove-ends}
-use Rattle.changes.proofs.Sizes.{table-sized, labels-sized}
+use Rattle.calls.proofs.Sizes.{table-sized}
+use Rattle.changes.proofs.Sizes.{labels-sized}
 use borrow.Author.Needs.{needs}
 use Rattle.changes.proofs.remove.Statement.{statement}
 use Rattle.changes.proofs.remove.Tie as tie

@@ -1,6 +1,6 @@
 -- `crossing::needed` meets its contract. Assumes nothing.
 use borrow.Author.Needs.{needs}
-use Rattle.crossing.proofs.Crosses.{none-needed}
+use Rattle.crossing.proofs.Crosses.{buffer-needed, none-needed}
 use Rattle.crossing.proofs.needed.Statement.{statement}
 use Rattle.crossing.proofs.needed.Tie as tie
 
@@ -8,7 +8,7 @@ enum-known-f : tie.Need-enum-known-f
 enum-known-f c = search needs
 
 returns : tie.Need-returns
-returns c = search needs
+returns c = buffer-needed _ _ (c .before .f .given .1)
 
 returns-2 : tie.Need-returns-2
 returns-2 c = none-needed (c .before .args .f) (c .match .keys2)

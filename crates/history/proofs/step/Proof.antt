@@ -3,7 +3,7 @@ use Prim.Native.Nat.{ℕ, _≤_}
 use native.Mathlib.Omega.{arith}
 use lib.ListN.{length}
 use borrow.Author.Needs.{needs}
-use Rattle.history.proofs.Reading.{add-order, step-end, step-removal, step-addition}
+use Rattle.history.proofs.Reading.{add-order, load-order, step-end, step-removal, step-addition, step-loading}
 use Rattle.history.proofs.step.Statement.{statement}
 use Rattle.history.proofs.step.Tie as tie
 
@@ -30,8 +30,8 @@ order : (c : tie.After-known-told2)
     → (c .before .next2 .given .0 .1 .0 ≤ c .before .next2 .given .0 .1 .1 .0) ×
     (c .before .next2 .given .0 .1 .1 .0 ≤ c .before .next2 .given .0 .1 .1 .1 .0) ×
     (c .before .next2 .given .0 .1 .1 .1 .0 ≤ length
-    (c .before .before .before .before .before .args .words .now))
-order c = add-order _ _ _ _ _ _ (c .before .next2 .given .1) (c .before .before .before .next-call .ensures .order)
+    (c .before .before .before .before .before .before .args .words .now))
+order c = add-order _ _ _ _ _ _ _ (c .before .next2 .given .1) (c .before .before .before .next-call .ensures .order)
 
 mul-add : tie.Need-mul-add
 mul-add c = (let o = order c in search needs)
@@ -63,18 +63,44 @@ add-requires c κs = tt
 added-requires : tie.Need-added-requires
 added-requires c κs = search needs
 
+enum-known-next-3 : tie.Need-enum-known-next-3
+enum-known-next-3 c = search needs
+
+-- and of a load's file
+file-order : (c : tie.After-known-told3)
+    → (c .before .next3 .given .0 .0 ≤ c .before .next3 .given .0 .1 .0) ×
+    (c .before .next3 .given .0 .1 .0 ≤ length (c .before .before .before .before .before .before .args .files .now))
+file-order c =
+    load-order _ _ _ _ _ _ (c .before .next3 .given .1) (c .before .before .before .next-call .ensures .order)
+
+sub-step-load : tie.Need-sub-step-load
+sub-step-load c = (let o = file-order c in search needs)
+
+part-step-load-start : tie.Need-part-step-load-start
+part-step-load-start c = (let o = file-order c in search needs)
+
+part-step-load-end : tie.Need-part-step-load-end
+part-step-load-end c = (let o = file-order c in search needs)
+
+step-load-requires : tie.Need-step-load-requires
+step-load-requires c κs = tt
+
 returns : tie.Need-returns
-returns c = step-end _ _ _ _ (c .before .before .next-call .ensures) (c .enum-told .given .1)
+returns c = step-end _ _ _ _ _ (c .before .before .next-call .ensures) (c .enum-told .given .1)
 
 returns-2 : tie.Need-returns-2
-returns-2 c = step-removal _ _ _ _ (c .before .before .before .before .before .before .next-call .ensures) _ _ _ _ _
+returns-2 c = step-removal _ _ _ _ _ (c .before .before .before .before .before .before .next-call .ensures) _ _ _ _ _
     (c .before .before .before .before .next .given .1) (c .before .before .remove .ensures) (c .removed .ensures)
 
 returns-3 : tie.Need-returns-3
-returns-3 c = step-addition _ _ _ _
+returns-3 c = step-addition _ _ _ _ _
     (c .before .before .before .before .before .before .before .before .next-call .ensures) _ _ _ _ _ _ _
     (c .before .before .before .before .before .before .next2 .given .1) (c .before .before .add .ensures)
     (c .added .ensures)
+
+returns-4 : tie.Need-returns-4
+returns-4 c = step-loading _ _ _ _ _ (c .before .before .before .before .before .next-call .ensures) _ _ _ _
+    (c .before .before .before .next3 .given .1) (c .step-load .ensures)
 
 pub step-spec : {M : Type 1} → statement M
 step-spec =
@@ -96,6 +122,12 @@ step-spec =
     part-add-end-2
     add-requires
     added-requires
+    enum-known-next-3
+    sub-step-load
+    part-step-load-start
+    part-step-load-end
+    step-load-requires
     returns
     returns-2
-    returns-3)
+    returns-3
+    returns-4)

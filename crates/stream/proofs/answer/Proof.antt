@@ -15,12 +15,12 @@ use Rattle.stream.proofs.answer.Statement.{statement}
 use Rattle.stream.proofs.answer.Tie as tie
 
 abbrev Inv-loop : tie.InvT-loop
-Inv-loop input out₀ s₀ from₀ written₀ out s from written =
+Inv-loop input out₀ shown s₀ from₀ written₀ out s from written =
     (from ≤ length input) × (ROOM ≤ length out) × (length out ≡ length out₀)
     × ((printed : List ℕ) × Pieces s₀ (take from input) printed s)
 
 abbrev μ-loop : tie.MeasureT-loop
-μ-loop input out₀ s₀ from₀ written₀ out s from written = length input - from
+μ-loop input out₀ shown s₀ from₀ written₀ out s from written = length input - from
 
 loop-holds : tie.Need-loop-holds Inv-loop μ-loop
 loop-holds c =
@@ -39,16 +39,16 @@ part-feed-end c = search needs
 feed-requires : tie.Need-feed-requires Inv-loop μ-loop
 feed-requires c κs = tt
 
-slice-reshare-prefix-write-out : tie.Need-slice-reshare-prefix-write-out Inv-loop μ-loop
-slice-reshare-prefix-write-out c = search needs
+slice-reshare-prefix-show : tie.Need-slice-reshare-prefix-show Inv-loop μ-loop
+slice-reshare-prefix-show c = search needs
 
-slice-aggregate-write-out : tie.Need-slice-aggregate-write-out Inv-loop μ-loop
-slice-aggregate-write-out c =
+slice-aggregate-show : tie.Need-slice-aggregate-show Inv-loop μ-loop
+slice-aggregate-show c =
     let f = c .before .before .before .feed .ensures .0 in
     first-part _ _ (omega (arith, f .printed, f .same-length))
 
-write-out-requires : tie.Need-write-out-requires Inv-loop μ-loop
-write-out-requires c κs = tt
+show-requires : tie.Need-show-requires Inv-loop μ-loop
+show-requires c κs = tt
 
 add-from : tie.Need-add-from Inv-loop μ-loop
 add-from c = search needs
@@ -62,7 +62,7 @@ loop-less c =
     let f = fed .feed .ensures in
     let input = top .before .before .before .args .input .now in
     let size = part-length (l .from) input in
-    let here = ltb-true (l .from) (length input) (test .if1 .taken) in
+    let here = ltb-true (l .from) _ (test .if1 .taken) in
     let some : 0 < length (take (length input - l .from) (drop (l .from) input)) = omega (arith, size) in
     omega (arith, f .1 .1 some (l .inv .1), f .0 .read, size)
 
@@ -114,9 +114,9 @@ answer-spec =
     part-feed-start
     part-feed-end
     feed-requires
-    slice-reshare-prefix-write-out
-    slice-aggregate-write-out
-    write-out-requires
+    slice-reshare-prefix-show
+    slice-aggregate-show
+    show-requires
     add-from
     loop-less
     loop-again

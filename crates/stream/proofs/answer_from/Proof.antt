@@ -25,13 +25,13 @@ array-share-prefix-out c =
     let r = c .before .before .reply-at .ensures in
     omega (arith, r .inside (omega arith), r .same-length)
 
-slice-aggregate-write-out : tie.Need-slice-aggregate-write-out
-slice-aggregate-write-out c =
+slice-aggregate-show : tie.Need-slice-aggregate-show
+slice-aggregate-show c =
     let r = c .before .before .before .reply-at .ensures in
     first-part _ _ (omega (arith, r .inside (omega arith), r .same-length))
 
-write-out-requires : tie.Need-write-out-requires
-write-out-requires c κs = tt
+show-requires : tie.Need-show-requires
+show-requires c κs = tt
 
 returns : tie.Need-returns
 returns c =
@@ -55,7 +55,7 @@ answer-from-spec =
     slice-aggregate-reply-at
     reply-at-requires
     array-share-prefix-out
-    slice-aggregate-write-out
-    write-out-requires
+    slice-aggregate-show
+    show-requires
     returns
     returns-2)

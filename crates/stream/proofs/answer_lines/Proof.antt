@@ -12,12 +12,12 @@ use Rattle.stream.proofs.answer_lines.Statement.{statement}
 use Rattle.stream.proofs.answer_lines.Tie as tie
 
 abbrev Inv-loop : tie.InvT-loop
-Inv-loop out₀ input₀ done₀ left₀ out input done left =
+Inv-loop out₀ shown input₀ done₀ left₀ out input done left =
     (length input ≡ 65536) × (ROOM ≤ length out) × (length out ≡ length out₀)
     × SoFar (done₀ .sheet) left (done .sheet)
 
 abbrev μ-loop : tie.MeasureT-loop
-μ-loop out₀ input₀ done₀ left₀ out input done left = left
+μ-loop out₀ shown input₀ done₀ left₀ out input done left = left
 
 large-buffer-requires : tie.Need-large-buffer-requires Inv-loop μ-loop
 large-buffer-requires c κs = tt

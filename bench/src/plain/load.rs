@@ -1,0 +1,92 @@
+//! Loading: 16, 17, 18, 19, each of the whole file before the next, then the labels. The error is the refusal's number.
+
+use super::blocks::{sums, word, Block, BLOCK, BODY, HEAD, PLACE, PLACES};
+use super::calls::EMPTY;
+use super::labels::labels;
+use super::sound::{no_two_equal, well_formed};
+use yeqontur::raw::{Rule, Table, SLOTS};
+
+/// The most blocks that a file has.
+const BLOCKS: usize = 12;
+
+/// 16: the blocks, if the bytes are 1 to 12 whole ones.
+fn whole(bytes: &[u8]) -> Option<&[Block]> {
+    let (blocks, rest) = bytes.as_chunks::<BLOCK>();
+    (rest.is_empty() && (1..=BLOCKS).contains(&blocks.len())).then_some(blocks)
+}
+
+/// 17, of a block.
+fn summed(block: &Block) -> bool {
+    sums(block) == (word(block, BODY), word(block, BODY + 2))
+}
+
+/// How many records the block says that it has.
+fn count(block: &Block) -> usize {
+    word(block, 4) as usize
+}
+
+/// 18, of a block: 22 records in every one but the last, there at least 1, but a file of one block may hold none.
+fn numbered(block: &Block, index: usize, blocks: usize) -> bool {
+    let least = if index + 1 < blocks {
+        PLACES
+    } else {
+        usize::from(blocks > 1)
+    };
+    word(block, 0) as usize == index
+        && word(block, 2) as usize == blocks
+        && (least..=PLACES).contains(&count(block))
+}
+
+/// 19, of the bytes behind a block's records.
+fn filled(block: &Block) -> bool {
+    let filler = &block[HEAD + PLACE * count(block)..BODY];
+    filler.iter().all(|&x| x == 0)
+}
+
+fn rule_in(place: &[u8]) -> Rule {
+    Rule {
+        state: 1,
+        head: word(place, 2),
+        positives: place[4],
+        negatives: place[5],
+        entries: std::array::from_fn(|j| word(place, 6 + 2 * j)),
+    }
+}
+
+/// 19, of the records one by one: each rule in its slot, if the slots ascend and every rule is well formed.
+fn rules_in(blocks: &[Block]) -> Option<[Rule; SLOTS]> {
+    let mut rules = EMPTY.rules;
+    let mut least = 0;
+    for block in blocks {
+        for place in block[HEAD..].chunks_exact(PLACE).take(count(block)) {
+            let slot = word(place, 0) as usize;
+            let rule = rule_in(place);
+            if slot < least || slot >= SLOTS || !well_formed(&rule) {
+                return None;
+            }
+            rules[slot] = rule;
+            least = slot + 1;
+        }
+    }
+    Some(rules)
+}
+
+pub fn load(bytes: &[u8]) -> Result<Table, u32> {
+    let blocks = whole(bytes).ok_or(16_u32)?;
+    if !blocks.iter().all(summed) {
+        return Err(17);
+    }
+    let mut numbers = blocks.iter().enumerate();
+    if !numbers.all(|(index, block)| numbered(block, index, blocks.len())) {
+        return Err(18);
+    }
+    if !blocks.iter().all(filled) {
+        return Err(19);
+    }
+    let rules = rules_in(blocks).ok_or(19_u32)?;
+    if !no_two_equal(&rules) {
+        return Err(19);
+    }
+    let labels = labels(&rules).ok_or(19_u32)?;
+    Ok(Table { rules, labels })
+}

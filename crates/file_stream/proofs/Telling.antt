@@ -1,0 +1,61 @@
+-- From how a call ended, and the bytes that were written, to what is saved and what is printed. Assumes nothing.
+use Prim.Native.Nat.{ℕ, _≤_}
+use native.Mathlib.Omega.{arith}
+use mathlib.Core.Path.{_≡_, sym, _∙_, ap, subst}
+use mathlib.Core.List.{List}
+use lib.ListN.{length, take, drop, replicate, length-append}
+use Rattle.table.specs.declared.Table.{Table}
+use Rattle.calls.specs.declared.ListAnswer.{ListAnswer}
+use Rattle.calls.specs.declared.LoadAnswer.{LoadAnswer}
+use Rattle.calls.specs.Contracts as contract
+use Rattle.calls.specs.Contracts.{SaveEnds, LoadEnds}
+use Rattle.fields.specs.Written.{Wrote}
+use Rattle.fields.proofs.Wrote.{wrote-start, wrote-length}
+use Rattle.file_stream.specs.declared.Saved.{Saved}
+use Rattle.file_stream.specs.declared.Listed.{Listed}
+use Rattle.file_stream.specs.Saves.{LONGEST, countOf, SavesInput}
+use Rattle.file_stream.specs.Loads.{ROOM, tellLoad, LoadPrints, LoadWrites, ReadsInput, LoadsInput}
+
+-- What a save counts lies within the buffer.
+saved-within :
+    (t : Table) (before after : List ℕ) (x : ListAnswer) → SaveEnds t before x after → countOf x ≤ length after
+saved-within t before after x (contract.unsound n) = omega arith
+saved-within t before after x (contract.refused f S e) = omega arith
+saved-within t before after x (contract.short M bs S e A i l) = omega arith
+saved-within t before after x (contract.accepted M bs S e A i l) =
+    omega (arith, length-append bs (drop (length bs) before))
+
+pub saved-count : {r : Saved} → SavesInput r → r .count ≤ length (r .bytes)
+saved-count {r} s =
+    let within = saved-within (r .last .reply .table) (replicate LONGEST 0) (r .bytes) (s .answer) (s .saves) in
+    omega (arith, s .count, within)
+
+-- The lines that tell how a load ended were written.
+pub told-lines :
+    {file before after : List ℕ} {n : ℕ} {x : LoadAnswer} {u : Table} (y : LoadAnswer) {bs : List ℕ}
+    → ROOM ≤ length before → LoadEnds file x u → x ≡ y → bs ≡ tellLoad y u → Wrote bs before 0 after n
+    → LoadWrites file before after n
+told-lines {x = x} {u = u} y {bs} room ends e d wrote =
+    record {
+      fits = λ _. (
+        bs,
+        record { answer = x; table = u; ends = ends; told = d ∙ ap (λ (z : LoadAnswer). tellLoad z u) (sym e) },
+        wrote,
+      );
+      full = λ s. absurd (omega (arith, room, s));
+    }
+
+-- They are what is printed of the bytes that were read.
+pub lines-told :
+    {r : Listed} {before : List ℕ} → ReadsInput (r .given)
+    → LoadWrites (take (r .given .count) (r .given .bytes)) before (r .out) (r .printed) → ROOM ≤ length before
+    → LoadsInput r
+lines-told {r} read writes room =
+    let w = writes .fits room in
+    let wrote = w .2 in
+    record {
+      read = read;
+      few = omega (arith, wrote .room, wrote .place, wrote-length wrote);
+      lines =
+          subst (LoadPrints (take (r .given .count) (r .given .bytes))) (sym (wrote-start wrote)) (w .1);
+    }

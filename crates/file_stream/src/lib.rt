@@ -1,0 +1,151 @@
+// The programs that keep a table on disk (request #103): one reads a sheet and writes the file of the table that it
+// leaves; the other reads a file and writes the labels of its table as `L` does, or `refused` and the number.
+use calls::ListAnswer;
+use calls::LoadAnswer;
+use calls::refusal_number;
+use files::load;
+use files::save;
+use label_lines::write_labels;
+use printing::write_named;
+use stream::Last;
+use stream::leave_input;
+use stream::read_some;
+use stream::write_out;
+ghost use mathlib.Core.Path.{_≡_};
+ghost use Rattle.file_stream.specs.Saves.{countOf, SavesInput};
+ghost use Rattle.file_stream.specs.Loads.{LoadWrites, ReadsInput, LoadsInput};
+
+// What a sheet left and what was saved of it: the reply to its last line, with the table after it; a buffer, and how
+// many of its bytes are that table's file.
+pub struct Saved {
+    pub last: Last,
+    pub bytes: [u8; Saved::LONGEST],
+    pub count: usize,
+}
+
+impl Saved {
+    // The bytes of the longest file: 12 blocks of 512.
+    pub const LONGEST: usize = 6144;
+}
+
+// An input as far as it was read: a buffer, how many of its bytes were read, and how many of these the last read gave.
+pub struct Given {
+    pub bytes: [u8; Given::KEPT],
+    pub count: usize,
+    pub got: usize,
+}
+
+impl Given {
+    // One byte more than a file can have: enough to show that an input is too long.
+    pub const KEPT: usize = 6145;
+}
+
+// What was printed of an input: a buffer, and how many of its bytes these are.
+pub struct Listed {
+    pub given: Given,
+    pub out: [u8; Listed::ROOM],
+    pub printed: usize,
+}
+
+impl Listed {
+    // Room for every line of the labels.
+    pub const ROOM: usize = 8192;
+}
+
+// How many bytes a save wrote: none if it was refused.
+fn count_of(answer: ListAnswer) -> usize
+    ensures { λ r. ⌜ r ≡ countOf answer ⌝ }
+{
+    match answer {
+        ListAnswer::Count(n) => n,
+        ListAnswer::Refused(f) => 0,
+    }
+}
+
+// Reads a sheet to its end, showing no reply, and saves the table after its last line. By the law `saved-book`
+// (proofs/Books.antt) that is the file of the plain book's pages after the calls that the sheet's lines are.
+pub fn save_input() -> Saved
+    ensures { λ r. ⌜ SavesInput r ⌝ }
+{
+    let last = leave_input();
+    let reply = last.reply;
+    let table = reply.table;
+    let mut bytes: [u8; Saved::LONGEST] = [0; Saved::LONGEST];
+    let answer = save(table, &mut bytes);
+    let count = count_of(answer);
+    Saved {
+        last: last,
+        bytes: bytes,
+        count: count,
+    }
+}
+
+// The whole of the saving program: the file on standard output. No contract can say that these bytes are written, and
+// nothing else.
+pub fn save_run() {
+    let saved = save_input();
+    let bytes = saved.bytes;
+    let n = saved.count;
+    write_out(&bytes[..n]);
+}
+
+// What is printed of any bytes, from the start of the buffer: the labels of the table that they record, or `refused`
+// and the number of the first question answered no. In a buffer without room for every line nothing is written.
+pub fn load_lines(bytes: &[u8], out: &mut [u8]) -> usize
+    ensures { λ r. ⌜ LoadWrites (now (bytes .entry)) (now (out .entry)) (now (out .exit)) r ⌝ }
+{
+    if out.len() < Listed::ROOM {
+        return 0;
+    }
+    let loading = load(bytes);
+    let answer = loading.answer;
+    let table = loading.table;
+    let labels = table.labels;
+    match answer {
+        LoadAnswer::Loaded => write_labels(out, 0, labels),
+        LoadAnswer::Refused(f) => write_named(out, 0, b"refused", refusal_number(f)),
+    }
+}
+
+// Reads until the buffer is full, the input ends or a read fails.
+fn read_input() -> Given
+    ensures { λ r. ⌜ ReadsInput r ⌝ }
+{
+    let mut bytes: [u8; Given::KEPT] = [0; Given::KEPT];
+    let mut count: usize = 0;
+    let mut got: usize = 1;
+    while got > 0 && count < Given::KEPT {
+        got = read_some(&mut bytes[count..], Given::KEPT);
+        count += got;
+    }
+    Given {
+        bytes: bytes,
+        count: count,
+        got: got,
+    }
+}
+
+// Reads an input and says what is printed of it. Of an input longer than a file no more is read than shows that: what
+// is printed is the same, `refused 16` (the laws `longer-16` and `first-bytes`, proofs/Books.antt).
+pub fn load_input() -> Listed
+    ensures { λ r. ⌜ LoadsInput r ⌝ }
+{
+    let given = read_input();
+    let bytes = given.bytes;
+    let n = given.count;
+    let mut out: [u8; Listed::ROOM] = [0; Listed::ROOM];
+    let printed = load_lines(&bytes[..n], &mut out);
+    Listed {
+        given: given,
+        out: out,
+        printed: printed,
+    }
+}
+
+// The whole of the loading program: the lines on standard output. No contract can say that they are written.
+pub fn load_run() {
+    let listed = load_input();
+    let out = listed.out;
+    let n = listed.printed;
+    write_out(&out[..n]);
+}

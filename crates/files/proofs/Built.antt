@@ -1,0 +1,169 @@
+-- A table for each accepted file: its rules are the file's pages, its labels those defined for them. Assumes nothing.
+use Prim.Native.Nat.{ℕ, zero, suc, _+_, _<_}
+use native.Mathlib.Omega.{arith}
+use mathlib.Core.Path.{_≡_, refl, sym, _∙_, ap, subst}
+use mathlib.Core.Bool.{true}
+use mathlib.Core.List.{List, [], _∷_, map}
+use mathlib.Core.Option.{Option, none, some}
+use lib.Dec.{ltb}
+use lib.ListN.{length, getD, set, replicate, length-map, length-set, length-replicate, List·getD-map}
+use Rattle.theory.specs.Lists.{every}
+use Rattle.theory.specs.Rules.{Rule, Program, Held}
+use Rattle.theory.specs.Models.{AtomSet, Admissible, OnlyModel}
+use Rattle.theory.specs.Dependencies.{NegativeCycle}
+use Rattle.theory.specs.Labels.{absent, out, in-at, Labelled}
+use Rattle.theory.specs.Labels as theory
+use Rattle.theory.specs.Questions.{first-no}
+use Rattle.theory.specs.Book.{empty}
+use Rattle.theory.specs.Limits.{document}
+use Rattle.theory.proofs.Lists.{and-l, and-r}
+use Rattle.theory.proofs.Questions.{first-no-none}
+use Rattle.theory.proofs.Cycles.{stratified-iff}
+use Rattle.theory.proofs.Models.{exactly-one-model}
+use Rattle.theory.proofs.Labels.{label-exists}
+use Rattle.table.specs.declared.Label.{Label}
+use Rattle.table.specs.declared.Table.{Table}
+use Rattle.table.specs.declared.Rule as slot
+use Rattle.table.specs.Rules.{slotOf, programOf, pastRule}
+use Rattle.table.specs.Labels.{labelOf, labelAt, absentLabel}
+use Rattle.table.specs.Clean.{freeRule, CleanLabel, WellFormed}
+use Rattle.table.specs.Sound.{Sound}
+use Rattle.table.proofs.Entries.{there}
+use Rattle.slots.specs.Slots.{Single}
+use Rattle.sound.proofs.Soundness.{sound-labelled}
+use Rattle.blocks.specs.Places.{Place, recorded, records}
+use Rattle.blocks.specs.Questions.{blocks, placesOf, filled, right, recordsRight, file-questions, pagesOf}
+use Rattle.blocks.proofs.Bytes.{All, every-all}
+use Rattle.blocks.proofs.Pages.{rule-in}
+use Rattle.blocks.proofs.Sequences.{Eight, places-eight}
+use Rattle.loading.specs.Reading.{atom, slotFrom}
+use Rattle.loading.proofs.Gathering.{slot-from, right-well, free-well}
+use Rattle.calls.specs.Contracts.{held, Sized}
+use Rattle.files.proofs.Recorded.{split, all-right, same-records, once, all-held, pages-length}
+
+-- The slot for a page, and the label kept for a label.
+abbrev pub slotFor : Option Rule → slot.Rule
+slotFor none = freeRule
+slotFor (some r) = slotFrom (recorded 0 r)
+
+slot-for : (o : Option Rule) → slotOf (slotFor o) ≡ o
+slot-for none = refl
+slot-for (some r) = slot-from (recorded 0 r) ∙ ap some (rule-in 0 r)
+
+program-for : (P : Program) → programOf (map slotFor P) ≡ P
+program-for [] = refl
+program-for (o ∷ P) = λ i. slot-for o i ∷ program-for P i
+
+abbrev pub keptLabel : theory.Label → Label
+keptLabel absent = absentLabel
+keptLabel out = record { state = 1; depth = 0; slot = record { 0 = 0 } }
+keptLabel (in-at d s) = record { state = 2; depth = d; slot = record { 0 = s } }
+
+kept-label : (l : theory.Label) → labelOf (keptLabel l) ≡ l
+kept-label absent = refl
+kept-label out = refl
+kept-label (in-at d s) = refl
+
+kept-clean : (l : theory.Label) → CleanLabel (keptLabel l)
+kept-clean absent = record { known = omega arith; depth = λ l. refl; slot = λ l. refl }
+kept-clean out = record { known = omega arith; depth = λ l. refl; slot = λ l. refl }
+kept-clean (in-at d s) =
+    record { known = omega arith; depth = λ l. absurd (omega arith); slot = λ l. absurd (omega arith) }
+
+-- The labels of the first n atoms.
+abbrev pub labelList : (ℕ → theory.Label) → ℕ → List Label
+labelList f zero = []
+labelList f (suc n) = keptLabel (f 0) ∷ labelList (λ a. f (suc a)) n
+
+list-length : (f : ℕ → theory.Label) (n : ℕ) → length (labelList f n) ≡ n
+list-length f zero = refl
+list-length f (suc n) = ap suc (list-length (λ a. f (suc a)) n)
+
+list-at :
+    (f : ℕ → theory.Label) (n a : ℕ) → a < n → getD (labelList f n) a absentLabel ≡ keptLabel (f a)
+list-at f zero a l = absurd (omega arith)
+list-at f (suc n) zero l = refl
+list-at f (suc n) (suc a) l = list-at (λ b. f (suc b)) n a (omega arith)
+
+-- An accepted file.
+module _ (bs : List ℕ) (e : first-no (file-questions document bs) ≡ none) where
+  abbrev pub ps : List Place
+  ps = placesOf (blocks bs)
+
+  abbrev pub P : Program
+  P = pagesOf document bs
+
+  asked : recordsRight document ps ≡ true
+  asked =
+      let three = first-no-none _ _ (first-no-none _ _ (first-no-none _ _ e .1) .1) in
+      and-r (every filled (blocks bs)) _ (first-no-none _ _ (three .1) .0)
+
+  recorded-pages : records P ≡ ps
+  recorded-pages = same-records ps (places-eight (blocks bs)) (split ps asked .0)
+
+  -- the rule of each page is right and has eight entries
+  held-right : (s : ℕ) (r : Rule) → Held P s r → right document (recorded s r) ≡ true
+  held-right s r h =
+      let same : 0 + s ≡ s = omega arith in
+      subst (λ (k : ℕ). right document (recorded k r) ≡ true) same (all-held (λ p. right document p ≡ true) 0 P
+      (subst (All (λ p. right document p ≡ true)) (sym recorded-pages)
+      (every-all (λ p. right document p ≡ true) (right document) (λ p t. t) ps
+      (all-right ps (places-eight (blocks bs)) (split ps asked .0)))) s r h)
+
+  held-eight : (s : ℕ) (r : Rule) → Held P s r → Eight (recorded s r)
+  held-eight s r h = all-held Eight 0 P (subst (All Eight) (sym recorded-pages) (places-eight (blocks bs))) s r h
+
+  long : length P ≡ document .slots
+  long = pages-length (empty document) ps ∙ length-replicate {A = Option Rule} (document .slots) none
+
+  pub model : (M : AtomSet) × OnlyModel P M
+  model = exactly-one-model P (stratified-iff P .0 (split ps asked .2))
+
+  abbrev pub M : AtomSet
+  M = model .0
+
+  abbrev pub label : ℕ → theory.Label
+  label a = label-exists P M (model .1 .model .founded) a .0
+
+  labelled : (a : ℕ) → Labelled P M a (label a)
+  labelled a = label-exists P M (model .1 .model .founded) a .1
+
+  abbrev pub built : Table
+  built = record { rules = map slotFor P; labels = labelList label (document .atoms) }
+
+  pub built-held : held built ≡ P
+  built-held = program-for P
+
+  slot-at : (s : ℕ) → s < document .slots → getD (built .rules) s pastRule ≡ slotFor (getD P s none)
+  slot-at s l =
+      there (map slotFor P) s pastRule freeRule (omega (arith, length-map P slotFor, long))
+      ∙ List·getD-map slotFor P s none
+
+  pub built-sized : Sized built
+  built-sized = record {
+    slots = length-map P slotFor ∙ long;
+    atoms = list-length label (document .atoms);
+    entries = λ s l. ap (λ (r : slot.Rule). length (r .entries)) (slot-at s l) ∙ eight-at s (getD P s none) refl;
+  }
+    where
+      eight-at : (s : ℕ) (o : Option Rule) → getD P s none ≡ o → length (slotFor o .entries) ≡ document .entries
+      eight-at s none h = refl
+      eight-at s (some r) h = length-map (recorded s r .entries) atom ∙ held-eight s r h
+
+  well : (s : ℕ) → s < document .slots → WellFormed (getD (built .rules) s pastRule)
+  well s l = subst WellFormed (sym (slot-at s l)) (well-at s (getD P s none) refl)
+    where
+      well-at : (s : ℕ) (o : Option Rule) → getD P s none ≡ o → WellFormed (slotFor o)
+      well-at s none h = free-well
+      well-at s (some r) h = right-well (recorded s r) (held-right s r h)
+
+  pub built-sound : Sound built
+  built-sound =
+      sound-labelled built (length-map P slotFor ∙ long) (list-length label (document .atoms)) well
+      (λ a l. subst CleanLabel (sym (list-at label (document .atoms) a l)) (kept-clean (label a)))
+      (subst Single (sym built-held) (once ps (places-eight (blocks bs)) (split ps asked .0) (split ps asked .1)))
+      (subst (λ (Q : Program). NegativeCycle Q → ⊥) (sym built-held) (stratified-iff P .0 (split ps asked .2)))
+      M (subst (λ (Q : Program). Admissible Q M) (sym built-held) (model .1 .model))
+      (λ a l. subst (λ (Q : Program). Labelled Q M a (labelAt (built .labels) a)) (sym built-held)
+      (subst (Labelled P M a) (sym (ap labelOf (list-at label (document .atoms) a l) ∙ kept-label (label a)))
+      (labelled a)))

@@ -1,0 +1,24 @@
+-- `files::refuse` meets its contract. Assumes nothing.
+use mathlib.Core.Path.{_∙_, ap}
+use Rattle.table.specs.declared.Table.{Table}
+use Rattle.calls.specs.declared.Loading.{Loading}
+use Rattle.calls.specs.declared.LoadAnswer.the-variants.{Refused}
+use borrow.Author.Needs.{needs}
+use Rattle.files.proofs.refuse.Statement.{statement}
+use Rattle.files.proofs.refuse.Tie as tie
+
+empty-requires : tie.Need-empty-requires
+empty-requires c κs = search needs
+
+hand-back-requires : tie.Need-hand-back-requires
+hand-back-requires c κs = search needs
+
+returns : tie.Need-returns
+returns c =
+    let s = c .before .before in
+    c .hand-back .ensures .0
+    ∙ ap (λ (t : Table). let r : Loading = record { answer = Refused (s .args .why); table = t } in r)
+    (c .before .empty .ensures)
+
+pub refuse-spec : {M : Type 1} → statement M
+refuse-spec = tie.close (tie.spec empty-requires hand-back-requires returns)

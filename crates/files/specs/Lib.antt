@@ -1,0 +1,2 @@
+-- Private: what the functions behind loading tell each other.
+pub mod Rules

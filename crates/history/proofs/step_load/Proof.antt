@@ -1,0 +1,16 @@
+-- `history::step_load` meets its contract. Assumes nothing.
+use borrow.Author.Needs.{needs}
+use Rattle.history.proofs.step_load.Statement.{statement}
+use Rattle.history.proofs.step_load.Tie as tie
+
+load-requires : tie.Need-load-requires
+load-requires c κs = tt
+
+loaded-requires : tie.Need-loaded-requires
+loaded-requires c κs = tt
+
+returns : tie.Need-returns
+returns c = search needs
+
+pub step-load-spec : {M : Type 1} → statement M
+step-load-spec = tie.close (tie.spec load-requires loaded-requires returns)

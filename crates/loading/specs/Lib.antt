@@ -1,0 +1,2 @@
+-- Private: what the functions that read a file tell each other and `files`.
+pub mod Reading

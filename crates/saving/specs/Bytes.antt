@@ -1,0 +1,31 @@
+-- Private: the bytes that each function writes. Assumes nothing.
+use Prim.Native.Nat.{ℕ, _*_}
+use mathlib.Core.List.{List, _++_}
+use lib.ListN.{take, drop}
+use Rattle.table.specs.declared.Rule.{Rule}
+use Rattle.table.specs.Rules.{ruleOf, programOf}
+use Rattle.blocks.specs.Words.{word}
+use Rattle.blocks.specs.Sums.{sumA, sumB}
+use Rattle.blocks.specs.Places.{placeBytes, recorded, records}
+use Rattle.blocks.specs.Files.{PLACES, placesBytes, blockOf}
+
+-- The record of a slot.
+unfoldable pub recordBytes : ℕ → Rule → List ℕ
+recordBytes s r = placeBytes (recorded s (ruleOf r))
+
+-- So many records of the rules, from one on.
+unfoldable pub recordsBytes : List Rule → ℕ → ℕ → List ℕ
+recordsBytes rules from n = placesBytes (take n (drop from (records (programOf rules))))
+
+-- The head of a block: its index, the number of blocks, the number of its records.
+unfoldable pub headerBytes : ℕ → ℕ → ℕ → List ℕ
+headerBytes index blocks n = word index ++ (word blocks ++ word n)
+
+-- The two sums of a body.
+unfoldable pub sumsBytes : List ℕ → List ℕ
+sumsBytes body = word (sumA body) ++ word (sumB body)
+
+-- The block of an index.
+unfoldable pub blockBytes : ℕ → ℕ → List Rule → List ℕ
+blockBytes index blocks rules =
+    blockOf index blocks (take PLACES (drop (PLACES * index) (records (programOf rules))))
