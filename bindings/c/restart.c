@@ -140,7 +140,7 @@ static int flush_folder(const char *path) {
 /* Puts a file with these bytes in the place of another, in one step. */
 static int replace(const char *path, mode_t mode, const uint8_t *bytes, size_t count) {
     char new_path[PATH_BYTES];
-    /* A name that was free, so that another program that saves here has a new file of its own. */
+    /* mkstemp puts letters in place of the X: a name that was free, so that no two programs write to one new file. */
     const int file = join(new_path, path, ".tmp-XXXXXX") == 0 ? mkstemp(new_path) : -1;
     if (file < 0) {
         return -1;
