@@ -1,5 +1,6 @@
 //! The proved engine's phases, as the static library exports them. The only unsafe code here.
 
+use oracle::limits::SLOTS;
 use oracle::table::{RawLabel, RawRule, RawTable};
 use yeqontur::raw::{Label, Rule, Table};
 
@@ -9,6 +10,17 @@ use yeqontur::raw::{Label, Rule, Table};
 pub struct Labelled {
     pub refused: u32,
     pub table: Table,
+}
+
+/// How many layers there can be: no path has more negative steps than there are rules.
+pub const LAYERS: usize = SLOTS + 1;
+
+/// How many rounds each layer of the table's rules has, lowest first, 0 where no atom has the layer. Where the rules
+/// answer a question no, `refused` is its number (15 or 7), else 0, and every number of rounds is 0.
+#[repr(C)]
+pub struct Rounds {
+    pub refused: u32,
+    pub rounds: [u16; LAYERS],
 }
 
 /// How many calls of a list were made, and the table after them.
@@ -21,6 +33,7 @@ pub struct Replayed {
 extern "C" {
     fn probe_sound(table: Table) -> u32;
     fn probe_labels(table: Table) -> Labelled;
+    fn probe_rounds(table: Table) -> Rounds;
     fn probe_replay(
         words: *const u32,
         words_len: usize,
@@ -41,6 +54,12 @@ pub fn sound(table: &Table) -> bool {
 pub fn labels(table: &Table) -> Labelled {
     // SAFETY: as above.
     unsafe { probe_labels(*table) }
+}
+
+/// The rounds in which the proved engine finds the in atoms of the table's rules.
+pub fn rounds(table: &Table) -> Rounds {
+    // SAFETY: as above.
+    unsafe { probe_rounds(*table) }
 }
 
 /// The calls of a list of numbers, made from the empty table by the proved engine; their answers as numbers. The files

@@ -5,7 +5,7 @@
 //!     bench sheet PROGRAM       lines per second of the sheet program, beside plain Rust's and the slow engine's
 //!     bench plain-sheet         plain Rust's sheet program
 //!     bench slow-sheet          the slow engine's
-//!     bench compare SEED COUNT  COUNT tables of every kind: verdict and labels against the slow engine
+//!     bench compare SEED COUNT  COUNT tables of every kind: verdict, labels and rounds against the slow engine
 //!     bench replay SEED COUNT   COUNT lists of calls written as numbers: answers and table against the slow book
 
 mod boundary;

@@ -1,14 +1,25 @@
-//! The engine's phases: the labels of a list of rules, and question 15.
+//! The engine's phases: the labels of a list of rules, and question 15; and how many rounds find the in atoms.
 
 use crate::clock::Pair;
 use crate::{boundary, plain, shapes};
 use std::hint::black_box;
+use yeqontur::raw::Table;
+
+/// How many layers the table has, how many rounds these have together, and how many the one with the most has.
+fn rounds(table: &Table) -> String {
+    let told = boundary::rounds(table).rounds;
+    let layers = told.iter().filter(|&&count| count > 0).count();
+    let together: u32 = told.iter().map(|&count| u32::from(count)).sum();
+    let most = told.iter().max().expect("a layer");
+    format!("{layers:9}{together:8}{most:7}")
+}
 
 pub fn bench() {
-    println!("Phases of the engine: microseconds, and the ratio to plain Rust.");
+    println!("Phases of the engine: microseconds, and the ratio to plain Rust. How many layers a table has, how many");
+    println!("rounds over the slots find its in atoms, and the most that one layer has.");
     println!(
-        "{:32}{:>9}{:>7}{:>9}{:>7}",
-        "table", "labels", "ratio", "sound", "ratio"
+        "{:32}{:>9}{:>7}{:>9}{:>7}{:>9}{:>8}{:>7}",
+        "table", "labels", "ratio", "sound", "ratio", "layers", "rounds", "most"
     );
     for (name, table) in shapes::all() {
         assert!(boundary::sound(&table) && plain::sound(&table));
@@ -20,6 +31,11 @@ pub fn bench() {
             || boundary::sound(black_box(&table)),
             || plain::sound(black_box(&table)),
         );
-        println!("{name:32}{}{}", labels.shown(), sound.shown());
+        println!(
+            "{name:32}{}{}{}",
+            labels.shown(),
+            sound.shown(),
+            rounds(&table)
+        );
     }
 }

@@ -5,7 +5,7 @@ use crate::limits::ATOMS;
 use crate::rules::{held, Rule};
 
 /// For each atom, the atoms it depends on.
-fn dependencies(program: &[Option<Rule>]) -> Vec<Vec<u32>> {
+pub(crate) fn dependencies(program: &[Option<Rule>]) -> Vec<Vec<u32>> {
     let mut depends_on = vec![Vec::new(); ATOMS];
     let mut noted = vec![AtomSet::empty(); ATOMS];
     for (_, rule) in held(program) {
@@ -19,7 +19,7 @@ fn dependencies(program: &[Option<Rule>]) -> Vec<Vec<u32>> {
 }
 
 /// All atoms that a walk along dependencies comes to, the start included.
-fn walk(depends_on: &[Vec<u32>], start: u32) -> AtomSet {
+pub(crate) fn walk(depends_on: &[Vec<u32>], start: u32) -> AtomSet {
     let mut visited = AtomSet::empty();
     visited.insert(start);
     let mut open = vec![start];

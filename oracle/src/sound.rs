@@ -43,13 +43,17 @@ fn no_two_same(program: &[Option<Rule>]) -> bool {
     held(program).all(|(_, rule)| earlier.insert(rule))
 }
 
-/// The program that the table holds, if all that soundness asks of the rules is so: each
-/// passes 1 to 4 and has ascending lists, no two are the same, and there is no loop through a
-/// negation.
-pub fn sound_rules(table: &RawTable) -> Option<Program> {
+/// The program that the table holds, if each rule passes 1 to 4 and has ascending lists, and no
+/// two are the same.
+pub fn fitting_rules(table: &RawTable) -> Option<Program> {
     let slots: Result<Program, Wrong> = table.rules.iter().map(slot_content).collect();
-    let program = slots.ok()?;
-    (no_two_same(&program) && !has_loop_through_negation(&program)).then_some(program)
+    slots.ok().filter(|program| no_two_same(program))
+}
+
+/// The program, if all that soundness asks of the rules is so: there is no loop through a
+/// negation either.
+pub fn sound_rules(table: &RawTable) -> Option<Program> {
+    fitting_rules(table).filter(|program| !has_loop_through_negation(program))
 }
 
 /// The program and its labels, if the table is sound: the rules are, and each atom's label,

@@ -87,7 +87,8 @@ pub fn labels_of(rules: [Rule; Table::SLOTS]) -> Labelling
             labels: [Label::absent(); Table::ATOMS],
         };
     }
-    let found = in_atoms(rules, &of);
+    let search = in_atoms(rules, &of);
+    let found = search.found;
     let deep = depths(rules, &found);
     let slots = supports(rules, &found, &deep);
     let occurs = occurring(rules);

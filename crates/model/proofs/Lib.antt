@@ -2,3 +2,4 @@
 pub mod Visits
 pub mod Rounds
 pub mod Greatest
+pub mod Shown

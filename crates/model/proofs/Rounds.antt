@@ -1,27 +1,34 @@
--- The rounds of a stratum, as a loop makes them, against the theory's `fill`; and the strata, one after another.
--- Assumes nothing.
-use Prim.Native.Nat.{ℕ, suc, _+_, _-_, _≤_, _<_}
+-- The rounds of a layer, as a loop makes them, and the layers, one after another. Assumes nothing.
+use Prim.Native.Nat.{ℕ, suc, _+_, _≤_, _<_}
 use native.Mathlib.Omega.{arith}
-use mathlib.Core.Path.{_≡_, refl, sym, _∙_, ap, fun-ext}
+use native.Mathlib.Nat.{eq-or-lt-of-le}
+use native.Mathlib.Numerals.{add-one}
+use mathlib.Core.Path.{_≡_, refl, sym, _∙_, subst, fun-ext}
+use mathlib.Core.Logic.{⊎-elim}
 use mathlib.Core.Bool.{Bool, true, false}
 use mathlib.Core.List.{List, [], _∷_, List·Memᴰ·head}
 use mathlib.Core.Option.{none, some}
-use lib.ListN.{length, getD, replicate, length-replicate}
+use lib.ListN.{length, getD, set, replicate, length-replicate, length-set}
 use Rattle.theory.specs.Rules.{Program, Bounded}
-use Rattle.theory.specs.Models.{AtomSet, Admissible}
+use Rattle.theory.specs.Models.{AtomSet}
+use Rattle.theory.specs.Dependencies.{NegativeCycle, Stratum}
 use Rattle.theory.specs.Questions as questions
 use Rattle.theory.specs.Limits.{document}
-use Rattle.theory.proofs.Lists.{count-length}
 use Rattle.theory.specs.Strata.{Strata}
-use Rattle.theory.specs.Rounds.{adds, fill, Filled, sweep}
-use Rattle.theory.proofs.Fill.{begin, done}
-use Rattle.theory.proofs.Rounds.{adds-none, sweep-stays, heads-in, grows, fill-stop, fill-go, fill-done}
+use Rattle.theory.specs.Rounds.{adds, again, final, next-stratum, nothing, Rounds, RoundsOf, RoundsTold}
+use Rattle.theory.specs.Rounds.{no-stratum, of-stratum, sweep}
+use Rattle.theory.proofs.Lists.{count-length, le-or-lt}
+use Rattle.theory.proofs.Strata.{exact-strata, few-negatives, strata-acyclic, stratum-below, stratum-unique}
+use Rattle.theory.proofs.Fill.{Filled}
+use Rattle.theory.proofs.Rounds.{adds-none, sweep-stays}
+use Rattle.theory.proofs.Found.{heads-in, grows}
+use Rattle.theory.proofs.Models.{found-model}
 use Rattle.table.specs.declared.Rule.{Rule}
 use Rattle.table.specs.Rules.{slotOf, programOf, pastRule}
-use Rattle.table.specs.Sets.{member}
-use Rattle.table.proofs.Members.{all-alike}
+use Rattle.table.specs.Sets.{member, number}
+use Rattle.table.proofs.Members.{all-alike, number-same, number-other}
 use Rattle.table.proofs.Programs.{program-at, program-length}
-use Rattle.model.specs.Model.{Stratified}
+use Rattle.model.specs.Model.{Stratified, Searched}
 use Rattle.model.specs.Rounds.{Ready, Filling, Greatest}
 use Rattle.model.proofs.Visits.{HeadBelow, Round}
 
@@ -32,59 +39,37 @@ few-rules [] = omega arith
 few-rules (none ∷ P) = omega (arith, few-rules P)
 few-rules (some r ∷ P) = omega (arith, few-rules P)
 
--- The rounds made so far: each of them added, so that one more rule has its head in, and what the rounds that are left
--- give is what all of them give, W: the atoms found and the number of rounds.
-pub record Going (P : Program) (ℓ : ℕ → ℕ) (k f : ℕ) (W : AtomSet × ℕ) (M : AtomSet) (rounds : ℕ) : Type 0 where
-  pub few : rounds ≤ heads-in P M
+-- The rounds made so far: each of them added, so that one more rule has its head in; and with those that are still to
+-- be made they are the rounds of the layer from the set M₀ on.
+pub record Going (P : Program) (ℓ : ℕ → ℕ) (k : ℕ) (M₀ M : AtomSet) (made : ℕ) : Type 0 where
+  pub few : made ≤ heads-in P M
   pub filled : Filled P ℓ k M
-  pub left : ℕ
-  pub bound : rounds + left ≡ f
-  pub whole : fill left ℓ P k M .0 ≡ W .0
-  pub number : rounds + fill left ℓ P k M .1 ≡ W .1
+  pub whole : (n : ℕ) (N : AtomSet) → Rounds P ℓ k M n N → Rounds P ℓ k M₀ (made + n) N
 
-module _ (P : Program) (ℓ : ℕ → ℕ) (k f : ℕ) where
-  pub going-start : (M : AtomSet) → Filled P ℓ k M → Going P ℓ k f (fill f ℓ P k M) M 0
-  going-start M F = record {
+module _ (P : Program) (ℓ : ℕ → ℕ) (k : ℕ) (M₀ : AtomSet) where
+  pub going-start : Filled P ℓ k M₀ → Going P ℓ k M₀ M₀ 0
+  going-start F = record {
     few = omega arith;
     filled = F;
-    left = f;
-    bound = omega arith;
-    whole = refl;
-    number = omega arith;
+    whole = λ n N R. (let e : 0 + n ≡ n = omega arith in rw e R);
   }
 
-  module _ (W : AtomSet × ℕ) (M : AtomSet) (rounds : ℕ) (G : Going P ℓ k f W M rounds) where
+  module _ (M : AtomSet) (made : ℕ) (G : Going P ℓ k M₀ M made) where
     -- Rounds that add are no more than the rules.
-    pub going-few : rounds ≤ length (questions.rules P)
+    pub going-few : made ≤ length (questions.rules P)
     going-few = omega (arith, G .few, count-length (λ r. M (r .head)) (questions.rules P))
 
-    module _ (room : length (questions.rules P) < f) where
-      one-more : (g : ℕ) × (G .left ≡ suc g)
-      one-more = (G .left - 1, omega (arith, G .bound, going-few))
+    -- A round that adds leaves the rest to do.
+    pub going-next : Strata P ℓ → adds ℓ k M P ≡ true → Going P ℓ k M₀ (sweep ℓ k M P) (made + 1)
+    going-next L h = record {
+      few = omega (arith, G .few, grows P ℓ L k M (G .filled) h);
+      filled = sweep-stays P ℓ L k M (G .filled);
+      whole = λ n N R. (let e : (made + 1) + n ≡ made + suc n = omega arith in rw e (G .whole (suc n) N (again h R)));
+    }
 
-      -- A round that adds leaves the rest to do.
-      pub going-next : Strata P ℓ → adds ℓ k M P ≡ true → Going P ℓ k f W (sweep ℓ k M P) (rounds + 1)
-      going-next L h =
-          let g = one-more .0 in
-          let p = ap (λ (z : ℕ). fill z ℓ P k M) (one-more .1) ∙ fill-go ℓ P k g M h in
-          record {
-            few = omega (arith, G .few, grows P ℓ L k M (G .filled) h);
-            filled = sweep-stays P ℓ L k M (G .filled);
-            left = g;
-            bound = omega (arith, G .bound, one-more .1);
-            whole = sym (ap (λ (z : AtomSet × ℕ). z .0) p) ∙ G .whole;
-            number = omega (arith, ap (λ (z : AtomSet × ℕ). z .1) p, G .number);
-          }
-
-      -- A round that adds none is the last.
-      last : adds ℓ k M P ≡ false → fill (G .left) ℓ P k M ≡ (M, 1)
-      last h = ap (λ (z : ℕ). fill z ℓ P k M) (one-more .1) ∙ fill-stop ℓ P k (one-more .0) M h
-
-      pub last-found : adds ℓ k M P ≡ false → sweep ℓ k M P ≡ W .0
-      last-found h = adds-none ℓ k P M h ∙ (sym (ap (λ (z : AtomSet × ℕ). z .0) (last h)) ∙ G .whole)
-
-      pub last-number : adds ℓ k M P ≡ false → rounds + 1 ≡ W .1
-      last-number h = omega (arith, ap (λ (z : AtomSet × ℕ). z .1) (last h), G .number)
+    -- A round that adds none is the last, and leaves the set.
+    pub going-end : adds ℓ k M P ≡ false → Rounds P ℓ k M₀ (made + 1) (sweep ℓ k M P)
+    going-end h = rw (adds-none ℓ k P M h) (G .whole 1 M (final h))
 
 -- The same of a table's slots and of arrays of flags.
 
@@ -97,47 +82,120 @@ pub head-below : (rules : List Rule) (n i : ℕ) → Bounded (programOf rules) n
 head-below rules n i B r e =
     B i r (program-at rules i ∙ e) (r .head) (List·Memᴰ·head refl)
 
-module _ (rules : List Rule) (ℓ : ℕ → ℕ) (k n : ℕ) (full : length rules ≡ n) (W : AtomSet × ℕ)
-    (found after : List Bool) (rounds : ℕ) (t : Bool)
-    (G : Going (programOf rules) ℓ k (suc n) W (member found) rounds) (R : Round ℓ k rules found after t) where
-  pub stratum-next : Strata (programOf rules) ℓ → t ≡ true
-      → Going (programOf rules) ℓ k (suc n) W (member after) (rounds + 1)
-  stratum-next L e = rw (R .whole)
-      (going-next (programOf rules) ℓ k (suc n) W (member found) rounds G (room-of rules n full) L (sym (R .more) ∙ e))
+module _ (rules : List Rule) (ℓ : ℕ → ℕ) (k : ℕ) (M₀ : AtomSet) (found after : List Bool) (made : ℕ) (t : Bool)
+    (G : Going (programOf rules) ℓ k M₀ (member found) made) (R : Round ℓ k rules found after t) where
+  pub stratum-next : Strata (programOf rules) ℓ → t ≡ true → Going (programOf rules) ℓ k M₀ (member after) (made + 1)
+  stratum-next L e = rw (R .whole) (going-next (programOf rules) ℓ k M₀ (member found) made G L (sym (R .more) ∙ e))
 
-  pub stratum-found : t ≡ false → member after ≡ W .0
-  stratum-found e = R .whole
-      ∙ last-found (programOf rules) ℓ k (suc n) W (member found) rounds G (room-of rules n full) (sym (R .more) ∙ e)
+  pub stratum-end : t ≡ false → Rounds (programOf rules) ℓ k M₀ (made + 1) (member after)
+  stratum-end e = rw (R .whole) (going-end (programOf rules) ℓ k M₀ (member found) made G (sym (R .more) ∙ e))
 
-  pub stratum-number : t ≡ false → rounds + 1 ≡ W .1
-  stratum-number e =
-      last-number (programOf rules) ℓ k (suc n) W (member found) rounds G (room-of rules n full) (sym (R .more) ∙ e)
-
--- The strata, one after another.
+-- The layers, one after another.
 
 -- At the start no atom is found.
 none-found : (n : ℕ) → member (replicate n false) ≡ (λ a. false)
 none-found n = fun-ext (λ a. all-alike n a false)
 
-module _ (rules : List Rule) (ℓ : ℕ → ℕ) (S : Stratified (programOf rules) ℓ) where
-  pub ready-start : (n : ℕ) → n ≡ document .atoms → Ready (programOf rules) ℓ 0 (replicate n false)
-  ready-start n e = record {
-    stratified = S;
-    filled = rw (none-found n) (begin (programOf rules) ℓ (S .strata));
-    size = length-replicate n false ∙ e;
+-- Of each layer below k it is kept how many rounds it has; nothing is kept of the others.
+pub record RoundsKept (P : Program) (k : ℕ) (rounds : List ℕ) : Type 0 where
+  pub below : (j : ℕ) → j < k → RoundsOf P j (number rounds j)
+  pub others : (j : ℕ) → k ≤ j → number rounds j ≡ 0
+
+pub kept-start : (P : Program) (n : ℕ) → RoundsKept P 0 (replicate n 0)
+kept-start P n = record { below = λ j l. absurd (omega arith); others = λ j l. all-alike n j 0 }
+
+pub kept-next : (P : Program) (k n : ℕ) (rounds : List ℕ) → k < length rounds → RoundsOf P k n → RoundsKept P k rounds
+    → RoundsKept P (k + 1) (set rounds k n)
+kept-next P k n rounds l R C = record {
+  below = λ j m. ⊎-elim
+      (λ (e : suc j ≡ k + 1). (let j-is : j ≡ k = omega arith in
+      subst (λ (z : ℕ). RoundsOf P z (number (set rounds k n) z)) (sym j-is) (rw (number-same rounds k n l) R)))
+      (λ (e : suc j < k + 1). rw (number-other rounds k n j (λ q. omega arith)) (C .below j (omega arith)))
+      (eq-or-lt-of-le m);
+  others = λ j m. number-other rounds k n j (λ q. omega arith) ∙ C .others j (omega arith);
+}
+
+-- The highest layer, and that there is room for it.
+module _ (P : Program) (ℓ : ℕ → ℕ) (exact : (a : ℕ) → Stratum P a (ℓ a)) (top : ℕ) (T : Greatest ℓ top) where
+  acyclic : NegativeCycle P → ⊥
+  acyclic = strata-acyclic P ℓ (exact-strata P ℓ exact)
+
+  pub few-strata : top ≤ length (questions.rules P)
+  few-strata = omega (arith, few-negatives P acyclic (exact (T .atom) .path), T .there)
+
+  pub kept-told : (rounds : List ℕ) → RoundsKept P (top + 1) rounds → (k : ℕ) → RoundsTold P k (number rounds k)
+  kept-told rounds C k = ⊎-elim
+      (λ (l : k ≤ top). (let b = stratum-below P acyclic (T .atom) _ k (exact (T .atom)) (omega (arith, T .there)) in
+      of-stratum (b .0) (b .1) (C .below k (omega arith))))
+      (λ (l : top < k). rw (C .others k (omega arith))
+      (no-stratum (λ a S. omega (arith, T .above a, stratum-unique P a (ℓ a) k (exact a) S))))
+      (le-or-lt k top)
+
+-- Before layer k, where top is the highest: those below it have ended, their rounds are kept, and there is room for
+-- those of all layers.
+pub record Between (P : Program) (ℓ : ℕ → ℕ) (top k : ℕ) (found : List Bool) (rounds : List ℕ) : Type 0 where
+  pub ready : Ready P ℓ k found
+  pub kept : RoundsKept P k rounds
+  pub long : length rounds ≡ suc (document .slots)
+  pub high : k ≤ top
+
+module _ (rules : List Rule) (ℓ : ℕ → ℕ) (S : Stratified (programOf rules) ℓ) (top : ℕ) (T : Greatest ℓ top) where
+  pub between-start :
+      (n m : ℕ) → n ≡ document .atoms → m ≡ suc (document .slots)
+      → Between (programOf rules) ℓ top 0 (replicate n false) (replicate m 0)
+  between-start n m e f = record {
+    ready = record {
+      stratified = S;
+      below = rw (none-found n) nothing;
+      size = length-replicate n false ∙ e;
+    };
+    kept = kept-start (programOf rules) m;
+    long = length-replicate m 0 ∙ f;
+    high = omega arith;
   }
 
-  pub ready-next : length rules ≡ document .slots → (k : ℕ) (before after : List Bool) (rounds : ℕ)
-      → Ready (programOf rules) ℓ k before → Filling (programOf rules) ℓ k before after rounds
-      → Ready (programOf rules) ℓ (suc k) after
-  ready-next full k before after rounds R F = record {
-    stratified = S;
-    filled = rw (F .found) (fill-done (programOf rules) ℓ (S .strata) k (suc (document .slots)) (member before)
-        (omega (arith, room-of rules (document .slots) full)) (R .filled));
-    size = F .size ∙ R .size;
-  }
+  -- no layer has a number above that of the slots
+  pub stratum-room : length rules ≡ document .slots → top < suc (document .slots)
+  stratum-room full = omega
+      (arith, few-strata (programOf rules) ℓ (S .exact) top T, few-rules (programOf rules), program-length rules)
 
-  pub ready-end : (k top : ℕ) (found : List Bool) → Greatest ℓ top → top ≤ k → Ready (programOf rules) ℓ (suc k) found
-      → Admissible (programOf rules) (member found)
-  ready-end k top found T l R = done (programOf rules) ℓ (S .strata) (suc k) (member found) (R .filled)
-      (λ s r h. omega (arith, T .above (r .head)))
+  module _ (full : length rules ≡ document .slots) (k : ℕ) (before after : List Bool) (rounds : List ℕ) (n : ℕ)
+      (Y : Between (programOf rules) ℓ top k before rounds) (F : Filling (programOf rules) ℓ k before after n) where
+    ready-next : Ready (programOf rules) ℓ (k + 1) after
+    ready-next = record {
+      stratified = S;
+      below = rw add-one (next-stratum (Y .ready .below) (F .rounds));
+      size = F .size ∙ Y .ready .size;
+    }
+
+    kept-then : RoundsKept (programOf rules) (k + 1) (set rounds k n)
+    kept-then = kept-next (programOf rules) k n rounds (omega (arith, stratum-room full, Y .long, Y .high))
+        (record {
+          stratum = ℓ;
+          exact = S .exact;
+          before = member before;
+          after = member after;
+          below = Y .ready .below;
+          rounds = F .rounds;
+        })
+        (Y .kept)
+
+    -- below the highest layer there is a next one
+    pub between-next : k < top → Between (programOf rules) ℓ top (k + 1) after (set rounds k n)
+    between-next l = record {
+      ready = ready-next;
+      kept = kept-then;
+      long = length-set rounds k n ∙ Y .long;
+      high = omega arith;
+    }
+
+    -- after the highest all is found and told
+    pub between-end : top ≤ k → Searched (programOf rules) (record { found = after; rounds = set rounds k n })
+    between-end l =
+        let e : k ≡ top = omega (arith, Y .high) in
+        let L = exact-strata (programOf rules) ℓ (S .exact) in
+        record {
+          model = found-model (programOf rules) ℓ L (ready-next .below) (λ s r h. omega (arith, T .above (r .head)));
+          rounds = kept-told (programOf rules) ℓ (S .exact) top T (set rounds k n)
+              (subst (λ (z : ℕ). RoundsKept (programOf rules) (z + 1) (set rounds k n)) e kept-then);
+        }

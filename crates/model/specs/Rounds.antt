@@ -1,5 +1,5 @@
 -- What the functions of the crate tell each other (private): which atoms are missing, and what the rounds of a stratum
--- do to the atoms found so far, as the theory's functions have it. Assumes nothing.
+-- do to the atoms found so far. Assumes nothing.
 use Prim.Native.Nat.{ℕ, zero, suc, _≤_}
 use mathlib.Core.Path.{_≡_}
 use mathlib.Core.Bool.{Bool, false, not, _&&_}
@@ -9,7 +9,7 @@ use lib.ListN.{length}
 use Rattle.theory.specs.Rules.{Program}
 use Rattle.theory.specs.Models.{AtomSet}
 use Rattle.theory.specs.Limits.{document}
-use Rattle.theory.specs.Rounds.{Filled, fill}
+use Rattle.theory.specs.Rounds.{FoundBelow, Rounds}
 use Rattle.table.specs.Sets.{member}
 use Rattle.model.specs.Model.{Stratified}
 
@@ -22,17 +22,15 @@ abbrev pub waits : (ℕ → ℕ) → ℕ → AtomSet → ℕ → ℕ → Bool
 waits ℓ k M zero a = false
 waits ℓ k M (suc n) a = missing ℓ k M a
 
--- The strata below k are done, and there is room for every atom.
+-- The layers below k have ended, and there is room for every atom.
 pub record Ready (P : Program) (ℓ : ℕ → ℕ) (k : ℕ) (found : List Bool) : Type 0 where
   pub stratified : Stratified P ℓ
-  pub filled : Filled P ℓ k (member found)
+  pub below : FoundBelow P ℓ k (member found)
   pub size : length found ≡ document .atoms
 
--- The rounds of stratum k, up to the first that adds none, take the atoms found from before to after. They are at
--- most one more than the slots.
-pub record Filling (P : Program) (ℓ : ℕ → ℕ) (k : ℕ) (before after : List Bool) (rounds : ℕ) : Type 0 where
-  pub found : member after ≡ fill (suc (document .slots)) ℓ P k (member before) .0
-  pub number : rounds ≡ fill (suc (document .slots)) ℓ P k (member before) .1
+-- The rounds of layer k, up to the first that adds none, take the atoms found from before to after.
+pub record Filling (P : Program) (ℓ : ℕ → ℕ) (k : ℕ) (before after : List Bool) (n : ℕ) : Type 0 where
+  pub rounds : Rounds P ℓ k (member before) n (member after)
   pub size : length after ≡ length before
 
 -- The greatest of the numbers.

@@ -8,11 +8,23 @@ use table::sets::mark;
 use table::sets::number_of;
 ghost use mathlib.Core.Path.{_≡_};
 ghost use Rattle.theory.specs.Rules.{passes};
-ghost use Rattle.theory.specs.Models.{valid, Admissible};
+ghost use Rattle.theory.specs.Models.{valid};
 ghost use Rattle.table.specs.Rules.{slotOf, programOf};
 ghost use Rattle.table.specs.Sets.{member, number};
-ghost use Rattle.model.specs.Model.{Stratified};
+ghost use Rattle.model.specs.Model.{Stratified, Searched};
 ghost use Rattle.model.specs.Rounds.{missing, waits, Ready, Filling, Greatest};
+
+// What is found: the in atoms, and how many rounds were made in each stratum (layer), from the lowest on; 0 past the
+// highest.
+pub struct Search {
+    pub found: [bool; Table::ATOMS],
+    pub rounds: [u16; Search::STRATA],
+}
+
+impl Search {
+    // A stratum for each number of negative steps that a path can have: no more than there are rules.
+    pub const STRATA: usize = Table::SLOTS + 1;
+}
 
 // Is the atom of stratum k and not in yet?
 fn missing(a: Atom, strata: &[u16; Table::ATOMS], k: u16, found: &[bool; Table::ATOMS]) -> bool
@@ -108,18 +120,23 @@ fn highest(strata: &[u16; Table::ATOMS]) -> u16
     top
 }
 
-// The admissible model of the rules, given the strata of their atoms.
-pub fn in_atoms(rules: [Rule; Table::SLOTS], strata: &[u16; Table::ATOMS]) -> [bool; Table::ATOMS]
+// The admissible model of the rules, given the strata of their atoms, and the rounds of each stratum.
+pub fn in_atoms(rules: [Rule; Table::SLOTS], strata: &[u16; Table::ATOMS]) -> Search
     requires { ⌜ Stratified (programOf rules) (number (now strata)) ⌝ }
-    ensures { λ r. ⌜ Admissible (programOf rules) (member r) ⌝ }
+    ensures { λ r. ⌜ Searched (programOf rules) r ⌝ }
 {
     let top = highest(strata);
     let mut found: [bool; Table::ATOMS] = [false; Table::ATOMS];
+    let mut rounds: [u16; Search::STRATA] = [0; Search::STRATA];
     let mut k: u16 = 0;
     loop {
-        fill_stratum(rules, strata, k, &mut found);
+        let n = fill_stratum(rules, strata, k, &mut found);
+        rounds[k as usize] = n;
         if k >= top {
-            return found;
+            return Search {
+                found: found,
+                rounds: rounds,
+            };
         }
         k += 1;
     }

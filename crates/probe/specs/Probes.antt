@@ -1,18 +1,21 @@
 -- What the probes answer: the engine's contracts as numbers. Assumes nothing.
-use Prim.Native.Nat.{ℕ, _<_}
+use Prim.Native.Nat.{ℕ, suc, _<_}
 use mathlib.Core.Path.{_≡_}
-use mathlib.Core.Logic.{_↔_}
-use lib.ListN.{getD}
+use mathlib.Core.List.{List}
+use lib.ListN.{getD, replicate}
 use Rattle.theory.specs.Models.{AtomSet}
 use Rattle.theory.specs.Dependencies.{NegativeCycle}
 use Rattle.theory.specs.Limits.{document}
+use Rattle.theory.specs.Rounds.{RoundsTold}
 use Rattle.table.specs.declared.Table.{Table}
 use Rattle.table.specs.Rules.{programOf, pastRule}
 use Rattle.table.specs.Clean.{WellFormed}
+use Rattle.table.specs.Sets.{number}
 use Rattle.table.specs.Sound.{Sound}
 use Rattle.slots.specs.Slots.{Single}
 use Rattle.labels.specs.Labelling.{Labels}
 use Rattle.probe.specs.declared.Relabelled.{Relabelled}
+use Rattle.probe.specs.declared.RoundsCounted.{RoundsCounted}
 
 -- 1 for a sound table, 0 for any other.
 pub data SoundProbe (t : Table) : ℕ → Type 0 where
@@ -31,3 +34,17 @@ pub data LabelsProbe (t : Table) : Relabelled → Type 0 where
   labelled :
       (M : AtomSet) (u : Table) → RulesFit t → u .rules ≡ t .rules → Labels (programOf (u .rules)) M (u .labels)
       → LabelsProbe t (record { refused = 0; table = u })
+
+-- No rounds of any layer.
+abbrev pub no-rounds : List ℕ
+no-rounds = replicate (suc (document .slots)) 0
+
+-- The rounds of each layer of the rules; none, where the rules do not fit (15) or have a negative cycle (7).
+pub data RoundsProbe (t : Table) : RoundsCounted → Type 0 where
+  not-fit : (RulesFit t → ⊥) → RoundsProbe t (record { refused = 15; rounds = no-rounds })
+  no-strata :
+      RulesFit t → NegativeCycle (programOf (t .rules)) → RoundsProbe t (record { refused = 7; rounds = no-rounds })
+  counted :
+      (rounds : List ℕ) → RulesFit t → (NegativeCycle (programOf (t .rules)) → ⊥)
+      → ((k : ℕ) → RoundsTold (programOf (t .rules)) k (number rounds k))
+      → RoundsProbe t (record { refused = 0; rounds = rounds })

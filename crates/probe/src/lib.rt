@@ -2,13 +2,18 @@
 use history::Replayed;
 use history::replay;
 use labels::labels_of;
+use model::Search;
+use model::in_atoms;
 use slots::no_two_equal;
 use slots::slots_well_formed;
 use sound::sound;
+use strata::strata;
 use table::Table;
 ghost use mathlib.Core.Path.{_≡_};
+ghost use mathlib.Core.Bool.{true};
+ghost use mathlib.Core.Logic.{_↔_};
 ghost use Rattle.history.specs.Replays.{Replays};
-ghost use Rattle.probe.specs.Probes.{SoundProbe, LabelsProbe};
+ghost use Rattle.probe.specs.Probes.{RulesFit, SoundProbe, LabelsProbe, RoundsProbe, no-rounds};
 
 // The table with the labels that its rules give, or as it came: `refused` is 0, or the number of the question that the
 // rules answer no (15 or 7).
@@ -16,6 +21,14 @@ ghost use Rattle.probe.specs.Probes.{SoundProbe, LabelsProbe};
 pub struct Relabelled {
     pub refused: u32,
     pub table: Table,
+}
+
+// How many rounds the search for the in atoms made in each layer, from the lowest on; 0 past the highest. `refused` is 0,
+// or the number of the question that the rules answer no (15 or 7), and then all rounds are 0.
+#[repr(C)]
+pub struct RoundsCounted {
+    pub refused: u32,
+    pub rounds: [u16; Search::STRATA],
 }
 
 // Question 15: 1 for yes, 0 for no.
@@ -29,24 +42,29 @@ pub extern "C" fn probe_sound(table: Table) -> u32
     0
 }
 
+// Are the table's rules sound by themselves?
+fn fit(table: Table) -> bool
+    ensures { λ r. ⌜ (r ≡ true) ↔ RulesFit table ⌝ }
+{
+    let rules = table.rules;
+    if !slots_well_formed(rules) {
+        return false;
+    }
+    no_two_equal(rules)
+}
+
 // The labels of the table's rules, where these are sound by themselves.
 #[no_mangle]
 pub extern "C" fn probe_labels(table: Table) -> Relabelled
     ensures { λ r. ⌜ LabelsProbe table r ⌝ }
 {
+    if !fit(table) {
+        return Relabelled {
+            refused: 15,
+            table: table,
+        };
+    }
     let rules = table.rules;
-    if !slots_well_formed(rules) {
-        return Relabelled {
-            refused: 15,
-            table: table,
-        };
-    }
-    if !no_two_equal(rules) {
-        return Relabelled {
-            refused: 15,
-            table: table,
-        };
-    }
     let l = labels_of(rules);
     let labels = l.labels;
     if !l.acyclic {
@@ -61,6 +79,38 @@ pub extern "C" fn probe_labels(table: Table) -> Relabelled
             rules: rules,
             labels: labels,
         },
+    }
+}
+
+// No rounds, and the number of the question that was answered no.
+fn no_rounds(refused: u32) -> RoundsCounted
+    ensures { λ r. ⌜ r ≡ record { refused = refused; rounds = no-rounds } ⌝ }
+{
+    RoundsCounted {
+        refused: refused,
+        rounds: [0; Search::STRATA],
+    }
+}
+
+// The rounds of each layer of the table's rules, where these are sound by themselves.
+#[no_mangle]
+pub extern "C" fn probe_rounds(table: Table) -> RoundsCounted
+    ensures { λ r. ⌜ RoundsProbe table r ⌝ }
+{
+    if !fit(table) {
+        return no_rounds(15);
+    }
+    let rules = table.rules;
+    let s = strata(rules);
+    let of = s.of;
+    if !s.acyclic {
+        return no_rounds(7);
+    }
+    let search = in_atoms(rules, &of);
+    let rounds = search.rounds;
+    RoundsCounted {
+        refused: 0,
+        rounds: rounds,
     }
 }
 

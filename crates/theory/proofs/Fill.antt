@@ -1,20 +1,26 @@
 -- Finding the model stratum by stratum: one mark, the end of a stratum, the end of all. Assumes nothing.
-use Prim.Native.Nat.{ℕ, zero, suc, _+_, _≤_, _<_}
+use Prim.Native.Nat.{ℕ, zero, suc, _≤_, _<_}
 use native.Mathlib.Omega.{arith}
 use native.Mathlib.Nat.{eq-or-lt-of-le}
-use mathlib.Core.Path.{_≡_, refl, sym, _∙_, ap, subst}
-use mathlib.Core.Logic.{_⊎_, inl, inr, ⊎-elim, _↔_}
-use mathlib.Core.Bool.{Bool, true, false, not, _&&_, _||_, true≢false}
+use mathlib.Core.Path.{_≡_, refl, sym, _∙_, ap}
+use mathlib.Core.Logic.{_⊎_, inl, inr, ⊎-elim}
+use mathlib.Core.Bool.{true, false, true≢false}
 use mathlib.Core.List.{List, [], _∷_, List·Memᴰ·head, List·Memᴰ·tail, List·Memᴰ·cases-cons, List·Memᴰ·not-nil}
 use lib.Dec.{eqb}
 use Rattle.theory.specs.Lists.{_∈_}
 use Rattle.theory.specs.Rules.{Held, Program, Rule}
 use Rattle.theory.specs.Models.{Admissible, AtomSet, Founded, next, Ordered, start, valid}
 use Rattle.theory.specs.Strata.{Strata}
-use Rattle.theory.specs.Rounds.{ClosedBelow, Filled, with}
+use Rattle.theory.specs.Rounds.{with}
 use Rattle.theory.proofs.Lists.{clash, eqb-eq, eqb-of, or-cases, or-l, or-r, unless}
 use Rattle.theory.proofs.Rules.{valid-negative, valid-of, valid-positive}
-use Rattle.theory.proofs.Strata.{agree-below, order-within}
+use Rattle.theory.proofs.Strata.{agree-below, ClosedBelow, order-within}
+
+-- The strata below k are done, and M has nothing above k.
+pub record Filled (P : Program) (ℓ : ℕ → ℕ) (k : ℕ) (M : AtomSet) : Type 0 where
+  pub founded : Founded P M
+  pub low : (a : ℕ) → M a ≡ true → ℓ a ≤ k
+  pub shut : ClosedBelow P ℓ k M
 
 pub with-self : (a : ℕ) (M : AtomSet) → with a M a ≡ true
 with-self a M = or-l _ _ (eqb-of a a refl)

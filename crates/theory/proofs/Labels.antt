@@ -22,7 +22,7 @@ use Rattle.theory.proofs.Lists.{not-false, not-true, test}
 use Rattle.theory.proofs.Rules.{occurs-at, occurs-of, occurs-test, rules-at, valid-negative, valid-of}
 use Rattle.theory.proofs.Rules.{valid-positive}
 use Rattle.theory.proofs.Derivations.{entry, last}
-use Rattle.theory.proofs.Rounds.{ordered-rule}
+use Rattle.theory.proofs.Found.{ordered-rule}
 use Rattle.theory.proofs.Depths.{depth-unique, derived-within, in-depth, within, within-depth}
 
 -- slot s supports a, whose depth is k + 1

@@ -7,8 +7,11 @@ pub mod Strata
 pub mod Fill
 pub mod Derivations
 pub mod Rounds
+pub mod Found
 pub mod Models
 pub mod Depths
+pub mod Bounds
+pub mod SmallRounds
 pub mod Labels
 pub mod Certificate
 pub mod Questions

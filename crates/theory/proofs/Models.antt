@@ -1,44 +1,27 @@
 -- Without a negative cycle there is exactly one admissible model: the strata, lowest first, give it. Assumes nothing.
-use Prim.Native.Nat.{ℕ, zero, suc, _+_, _≤_, _<_}
+use Prim.Native.Nat.{ℕ, suc, _<_}
 use native.Mathlib.Omega.{arith}
-use mathlib.Core.Path.{_≡_}
-use mathlib.Core.Bool.{Bool, true, false}
 use lib.ListN.{length}
 use Rattle.theory.specs.Rules.{Held, Program, Rule}
 use Rattle.theory.specs.Models.{Admissible, AtomSet, OnlyModel}
 use Rattle.theory.specs.Dependencies.{NegativeCycle}
 use Rattle.theory.specs.Questions.{rules}
 use Rattle.theory.specs.Strata.{Strata}
-use Rattle.theory.specs.Rounds.{fill, Filled}
+use Rattle.theory.specs.Rounds.{FoundBelow}
 use Rattle.theory.proofs.Strata.{acyclic-strata, model-unique, rules-below, rules-below-bound}
-use Rattle.theory.proofs.Fill.{begin, done}
-use Rattle.theory.proofs.Rounds.{fill-done}
-
--- The strata from k on, j of them; at most f rounds each.
-unfoldable pub climb : ℕ → (ℕ → ℕ) → Program → ℕ → ℕ → AtomSet → AtomSet
-climb f ℓ P zero k M = M
-climb f ℓ P (suc j) k M = climb f ℓ P j (suc k) (fill f ℓ P k M .0)
+use Rattle.theory.proofs.Fill.{done}
+use Rattle.theory.proofs.Found.{found-exists, found-filled}
 
 module _ (P : Program) where
-  climbs :
-      (ℓ : ℕ → ℕ) → Strata P ℓ → (f : ℕ) → length (rules P) < f → (j k : ℕ) (M : AtomSet) → Filled P ℓ k M
-      → Filled P ℓ (j + k) (climb f ℓ P j k M)
-  unfolding climb
-  climbs ℓ L f room zero k M F = (let e : zero + k ≡ k = omega arith in rw e F)
-  climbs ℓ L f room (suc j) k M F =
-      let e : suc j + k ≡ j + suc k = omega arith in
-      rw e (climbs ℓ L f room j (suc k) (fill f ℓ P k M .0) (fill-done P ℓ L k f M (omega arith) F))
-
-  pub climb-model :
-      (ℓ : ℕ → ℕ) → Strata P ℓ → (f : ℕ) → length (rules P) < f → (top : ℕ)
-      → ((s : ℕ) (r : Rule) → Held P s r → ℓ (r .head) < top) → Admissible P (climb f ℓ P top zero (λ a. false))
-  climb-model ℓ L f room top high =
-      done P ℓ L (top + zero) _ (climbs ℓ L f room top zero (λ a. false) (begin P ℓ L))
-      (λ s r h. omega (arith, high s r h))
+  -- What is found below a number that no head reaches is the model.
+  pub found-model :
+      (ℓ : ℕ → ℕ) → Strata P ℓ → {k : ℕ} {M : AtomSet} → FoundBelow P ℓ k M
+      → ((s : ℕ) (r : Rule) → Held P s r → ℓ (r .head) < k) → Admissible P M
+  found-model ℓ L {k} {M} B = done P ℓ L k M (found-filled P ℓ L B)
 
   pub exactly-one-model : (NegativeCycle P → ⊥) → (M : AtomSet) × OnlyModel P M
   exactly-one-model free =
       let L = acyclic-strata P free in
-      let A = climb-model (rules-below P) L (suc (length (rules P))) (omega arith) (suc (length (rules P)))
-      (λ s r h. omega (arith, rules-below-bound P (r .head))) in
+      let B = found-exists P (rules-below P) L (suc (length (rules P))) in
+      let A = found-model (rules-below P) L (B .1) (λ s r h. omega (arith, rules-below-bound P (r .head))) in
       (_, record { model = A; alone = λ N C x. model-unique P (rules-below P) L N _ C A x })

@@ -14,7 +14,7 @@ use Rattle.theory.specs.Questions.{is-in-label}
 use Rattle.theory.specs.Sound.{SoundLabels}
 use Rattle.theory.proofs.Lists.{clash, unless}
 use Rattle.theory.proofs.Rules.{any-rule-at, any-rule-of, rules-at}
-use Rattle.theory.proofs.Rounds.{ordered-rule}
+use Rattle.theory.proofs.Found.{ordered-rule}
 use Rattle.theory.proofs.Questions.{held-below, other-set}
 use Rattle.theory.proofs.Sameness.{same-sym, same-trans}
 

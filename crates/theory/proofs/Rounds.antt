@@ -1,26 +1,23 @@
--- Rounds over the slots: one stratum's in atoms, and how many rounds it takes. Assumes nothing.
-use Prim.Native.Nat.{ℕ, zero, suc, _+_, _-_, _≤_, _<_, max}
+-- A round over the slots: what it keeps, what it adds, and what it has reached. Assumes nothing.
+use Prim.Native.Nat.{ℕ, zero, suc, _-_, _≤_, _<_}
 use native.Mathlib.Omega.{arith}
 use native.Mathlib.Nat.{eq-or-lt-of-le}
-use mathlib.Core.Path.{_≡_, refl, sym, _∙_, ap, subst}
-use mathlib.Core.Logic.{_⊎_, inl, inr, ⊎-elim, ⊎-swap, _↔_}
+use mathlib.Core.Path.{_≡_, refl, sym, _∙_, ap}
+use mathlib.Core.Logic.{_⊎_, ⊎-elim}
 use mathlib.Core.Bool.{Bool, true, false, not, _&&_, _||_, true≢false}
-use mathlib.Core.List.{List, [], _∷_, List·Memᴰ, List·Memᴰ·head, List·Memᴰ·tail, List·Memᴰ·cases-cons}
-use mathlib.Core.List.{List·Memᴰ·not-nil}
+use mathlib.Core.List.{[], _∷_}
 use mathlib.Core.Option.{Option, none, some, Option·none-ne-some}
 use lib.Dec.{eqb}
-use lib.ListN.{length, getD}
 use Rattle.theory.specs.Lists.{_∈_}
 use Rattle.theory.specs.Rules.{Held, Program, Rule}
-use Rattle.theory.specs.Models.{Admissible, AtomSet, next, Ordered, start, valid}
+use Rattle.theory.specs.Models.{Admissible, AtomSet, valid}
 use Rattle.theory.specs.Derivations.{Derivation}
-use Rattle.theory.specs.Questions.{rules}
 use Rattle.theory.specs.Strata.{Strata}
-use Rattle.theory.specs.Rounds.{adds, fill, Filled, fires, put, sweep, visit, with}
-use Rattle.theory.proofs.Lists.{and-l, and-of, and-r, clash, count, count-length, count-lt, eqb-eq, eqb-of}
-use Rattle.theory.proofs.Lists.{false-not, le-or-lt, not-true, or-false-l, or-false-r, test, unless}
-use Rattle.theory.proofs.Rules.{rules-of, valid-negative, valid-of, valid-positive}
-use Rattle.theory.proofs.Fill.{inside, mark, meets, rise, with-keep, with-self}
+use Rattle.theory.specs.Rounds.{adds, fires, put, sweep, visit, with}
+use Rattle.theory.proofs.Lists.{and-l, and-of, and-r, clash, eqb-eq, eqb-of}
+use Rattle.theory.proofs.Lists.{false-not, not-true, or-false-l, or-false-r, test, unless}
+use Rattle.theory.proofs.Rules.{valid-negative, valid-of, valid-positive}
+use Rattle.theory.proofs.Fill.{Filled, inside, mark, meets, rise, with-keep, with-self}
 use Rattle.theory.proofs.Derivations.{entry, last}
 
 module _ (ℓ : ℕ → ℕ) (k : ℕ) where
@@ -64,11 +61,11 @@ module _ (ℓ : ℕ → ℕ) (k : ℕ) where
       (λ t. put t o M) (or-false-l (fires ℓ k M o) _ h)
 
   -- what a round that adds some adds
-  record Added (M N : AtomSet) : Type 0 where
-    atom : ℕ
-    stratum : ℓ atom ≡ k
-    was : M atom ≡ false
-    now : N atom ≡ true
+  pub record Added (M N : AtomSet) : Type 0 where
+    pub atom : ℕ
+    pub stratum : ℓ atom ≡ k
+    pub was : M atom ≡ false
+    pub now : N atom ≡ true
 
   fired : (M : AtomSet) (o : Option Rule) → fires ℓ k M o ≡ true
       → (r : Rule) × (o ≡ some r) × (ℓ (r .head) ≡ k) × (M (r .head) ≡ false) × (valid M r ≡ true)
@@ -93,7 +90,7 @@ module _ (ℓ : ℕ → ℕ) (k : ℕ) where
   unfolding visit
   passed M o f = ap (λ t. put t o M) f
 
-  adds-some : (P : Program) (M : AtomSet) → adds ℓ k M P ≡ true → Added M (sweep ℓ k M P)
+  pub adds-some : (P : Program) (M : AtomSet) → adds ℓ k M P ≡ true → Added M (sweep ℓ k M P)
   unfolding sweep adds
   adds-some [] M h = absurd (true≢false (sym h))
   adds-some (o ∷ P) M h = ⊎-elim
@@ -167,104 +164,3 @@ module _ (P : Program) (ℓ : ℕ → ℕ) (L : Strata P ℓ) (k : ℕ) where
       (λ (q : ℓ p < ℓ (r .head)). meets P ℓ L k M N F A p (omega arith) ∙ valid-positive N r (w .good) p m)
       (eq-or-lt-of-le (L .up (w .slot) r (w .held) p m)))
       (λ n m. unless _ (λ t. clash (inside P ℓ L k M′ N (sweep-stays M F) A n t) (valid-negative N r (w .good) n m)))
-
--- The rounds of a stratum.
-module _ (ℓ : ℕ → ℕ) (P : Program) (k : ℕ) where
-  pub fill-stop : (f : ℕ) (M : AtomSet) → adds ℓ k M P ≡ false → fill (suc f) ℓ P k M ≡ (M, 1)
-  unfolding fill
-  fill-stop f M h = rw (h, fill)
-
-  pub fill-go : (f : ℕ) (M : AtomSet) → adds ℓ k M P ≡ true
-      → fill (suc f) ℓ P k M ≡ (fill f ℓ P k (sweep ℓ k M P) .0, suc (fill f ℓ P k (sweep ℓ k M P) .1))
-  unfolding fill
-  fill-go f M h = rw (h, fill)
-
-  pub fill-keeps : (f : ℕ) (M : AtomSet) (x : ℕ) → M x ≡ true → fill f ℓ P k M .0 x ≡ true
-  fill-keeps zero M x t = unfold fill in t
-  fill-keeps (suc f) M x t = ⊎-elim
-      (λ (h : adds ℓ k M P ≡ false). rw (fill-stop f M h) t)
-      (λ (h : adds ℓ k M P ≡ true). rw (fill-go f M h) (fill-keeps f (sweep ℓ k M P) x (sweep-keeps ℓ k P M x t)))
-      (⊎-swap (test (adds ℓ k M P)))
-
--- One round where nothing is added; else at least two, and no more than one above the height of any derivation of
--- some atom of the stratum.
--- N is the model, and j rounds have been made before.
-pub record Tight (P : Program) (ℓ : ℕ → ℕ) (k : ℕ) (N : AtomSet) (j : ℕ) (w : AtomSet × ℕ) : Type 0 where
-  pub two : 2 ≤ w .1
-  pub atom : ℕ
-  pub stratum : ℓ atom ≡ k
-  pub found : w .0 atom ≡ true
-  pub high : (h : ℕ) → Derivation P N atom h → j + w .1 ≤ suc h
-
--- The rules whose head is in.
-abbrev pub heads-in : Program → AtomSet → ℕ
-heads-in P M = count (λ r. M (r .head)) (rules P)
-
--- what is in is the head of a rule held
-pub ordered-rule : (P : Program) (M : AtomSet) (xs : List ℕ) → Ordered P M xs → (x : ℕ) → x ∈ xs
-    → (r : Rule) × List·Memᴰ r (rules P) × (r .head ≡ x) × (valid M r ≡ true)
-ordered-rule P M [] start x m = absurd (List·Memᴰ·not-nil m)
-ordered-rule P M (a ∷ xs) (next o fresh s r held e v earlier) x m = ⊎-elim
-    (λ (q : x ≡ a). (r, rules-of P s r held, e ∙ sym q, v))
-    (λ (m′ : x ∈ xs). ordered-rule P M xs o x m′) (List·Memᴰ·cases-cons m)
-
-module _ (P : Program) (ℓ : ℕ → ℕ) (L : Strata P ℓ) (k : ℕ) where
-  -- after a round that adds, more rules have their head in
-  pub grows : (M : AtomSet) → Filled P ℓ k M → adds ℓ k M P ≡ true → heads-in P M < heads-in P (sweep ℓ k M P)
-  grows M F h =
-      let a = adds-some ℓ k P M h in
-      let G = sweep-stays P ℓ L k M F .founded in
-      let w = ordered-rule P (sweep ℓ k M P) (G .order) (G .ordered) (a .atom) (G .exactly (a .atom) .0 (a .now)) in
-      count-lt (λ r. M (r .head)) (λ r. sweep ℓ k M P (r .head)) (rules P)
-      (λ r m t. sweep-keeps ℓ k P M (r .head) t) (w .0) (w .1) (ap M (w .2) ∙ a .was)
-      (ap (sweep ℓ k M P) (w .2) ∙ a .now)
-
-  -- the stratum is done, if the bound on rounds leaves room for all rules
-  pub fill-done : (f : ℕ) (M : AtomSet) → length (rules P) < f + heads-in P M → Filled P ℓ k M
-      → Filled P ℓ (suc k) (fill f ℓ P k M .0)
-  fill-done zero M room F = absurd (omega (arith, count-length (λ r. M (r .head)) (rules P)))
-  fill-done (suc f) M room F = ⊎-elim
-      (λ (h : adds ℓ k M P ≡ true). rw (fill-go ℓ P k f M h)
-      (fill-done f (sweep ℓ k M P) (omega (arith, grows M F h)) (sweep-stays P ℓ L k M F)))
-      (λ (h : adds ℓ k M P ≡ false). rw (fill-stop ℓ P k f M h) (ends P ℓ L k M F h))
-      (test (adds ℓ k M P))
-
-  pub fill-rounds : (N : AtomSet) → Admissible P N → (f : ℕ) (M : AtomSet) (j : ℕ)
-      → length (rules P) < f + heads-in P M → Filled P ℓ k M → Reached P ℓ k N j M
-      → (fill f ℓ P k M ≡ (M, 1)) ⊎ Tight P ℓ k N j (fill f ℓ P k M)
-  fill-rounds N A zero M j room F R = absurd (omega (arith, count-length (λ r. M (r .head)) (rules P)))
-  fill-rounds N A (suc f) M j room F R = ⊎-elim
-      (λ (h : adds ℓ k M P ≡ true). inr
-      (rw (fill-go ℓ P k f M h)
-      (go h (fill-rounds N A f (sweep ℓ k M P) (suc j) (omega (arith, grows M F h)) (sweep-stays P ℓ L k M F)
-      (next-reached P ℓ L k N A j M F R)))))
-      (λ (h : adds ℓ k M P ≡ false). inl (fill-stop ℓ P k f M h))
-      (test (adds ℓ k M P))
-    where
-      M′ : AtomSet
-      M′ = sweep ℓ k M P
-
-      above : (a : Added ℓ k M M′) (h : ℕ) → Derivation P N (a .atom) h → j < h
-      above a h d = ⊎-elim (λ (l : h ≤ j). absurd (clash (R (a .atom) h (a .stratum) d l) (a .was)))
-          (λ (l : j < h). l) (le-or-lt h j)
-
-      go : adds ℓ k M P ≡ true → (fill f ℓ P k M′ ≡ (M′, 1)) ⊎ Tight P ℓ k N (suc j) (fill f ℓ P k M′)
-          → Tight P ℓ k N j (fill f ℓ P k M′ .0, suc (fill f ℓ P k M′ .1))
-      go h (inl e) = (let a = adds-some ℓ k P M h in
-          let e′ : fill f ℓ P k M′ .1 ≡ 1 = ap (λ (w : AtomSet × ℕ). w .1) e in
-          record {
-            two = omega arith;
-            atom = a .atom;
-            stratum = a .stratum;
-            found = fill-keeps ℓ P k f M′ (a .atom)
-                (a .now);
-            high = λ i d. omega (arith, above a i d);
-          })
-      go h (inr t) = record {
-        two = omega (arith, t .two);
-        atom = t .atom;
-        stratum = t .stratum;
-        found =
-            t .found;
-        high = λ i d. omega (arith, t .high i d);
-      }

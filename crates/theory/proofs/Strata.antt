@@ -3,9 +3,9 @@
 use Prim.Native.Nat.{ℕ, zero, suc, _+_, _≤_, _<_}
 use native.Mathlib.Omega.{arith}
 use mathlib.Core.Path.{_≡_, refl, sym, _∙_, ap, subst}
-use mathlib.Core.Logic.{_⊎_, inl, inr, ⊎-elim, _↔_}
+use mathlib.Core.Logic.{_⊎_, ⊎-elim, _↔_}
 use mathlib.Core.Bool.{Bool, true, false, _&&_}
-use mathlib.Core.List.{List, [], _∷_, List·Memᴰ, List·Memᴰ·cases-cons, List·Memᴰ·not-nil}
+use mathlib.Core.List.{List, [], _∷_, List·Memᴰ·cases-cons, List·Memᴰ·not-nil}
 use lib.ListN.{length}
 use Rattle.theory.specs.Lists.{_∈_, any}
 use Rattle.theory.specs.Rules.{Held, Program, Rule}
@@ -14,11 +14,14 @@ use Rattle.theory.specs.Dependencies.{DependencyPath, here, negative, Ne
 use Rattle.theory.specs.Dependencies.{Stratum}
 use Rattle.theory.specs.Questions.{rules}
 use Rattle.theory.specs.Strata.{Strata}
-use Rattle.theory.specs.Rounds.{ClosedBelow}
 use Rattle.theory.proofs.Lists.{and-l, and-of, and-r, any-at, any-of, clash, count, count-le, count-length}
 use Rattle.theory.proofs.Lists.{count-lt, le-or-lt, same-test, test, unless}
 use Rattle.theory.proofs.Rules.{rules-at, rules-of, valid-negative, valid-of}
 use Rattle.theory.proofs.Cycles.{first-negative, path-reach, paths, reach, reach-path}
+
+-- M is closed as far as the heads of strata below k go.
+abbrev pub ClosedBelow : Program → (ℕ → ℕ) → ℕ → AtomSet → Type 0
+ClosedBelow P ℓ k M = (s : ℕ) (r : Rule) → Held P s r → ℓ (r .head) < k → valid M r ≡ true → M (r .head) ≡ true
 
 module _ (P : Program) (ℓ : ℕ → ℕ) (L : Strata P ℓ) where
   -- At most one admissible model: by induction on the stratum, and inside it on the founded order.
@@ -179,3 +182,36 @@ module _ (P : Program) where
 
   pub stratum-unique : (a j k : ℕ) → Stratum P a j → Stratum P a k → j ≡ k
   stratum-unique a j k S T = omega (arith, S .most (T .end) k (T .path), T .most (S .end) j (S .path))
+
+-- A path with the most negative steps goes through all strata below that of its start.
+module _ (P : Program) (ℓ : ℕ → ℕ) (exact : (a : ℕ) → Stratum P a (ℓ a)) where
+  along : {a c k : ℕ} → DependencyPath P a c k → ℓ a ≡ k → (j : ℕ) → j ≤ k → (b : ℕ) × (ℓ b ≡ j)
+  along {a} (here e) t j l = (a, omega arith)
+  along (positive {x = x} w v) t j l =
+      along v (omega (
+        arith,
+        ap ℓ (w .heads),
+        exact-strata P ℓ exact .up (w .slot) (w .rule) (w .held) _ (w .entry),
+        exact x .most _ _ v,
+      )) j l
+  along {a} (negative {x = x} {k = k} w v) t j l = ⊎-elim
+      (λ (i : j ≤ k). along v
+      (omega (
+        arith,
+        ap ℓ (w .heads),
+        exact-strata P ℓ exact .over (w .slot) (w .rule) (w .held) _ (w .entry),
+        exact x .most _ _ v,
+      )) j i)
+      (λ (i : k < j). (a, omega arith))
+      (le-or-lt j k)
+
+module _ (P : Program) (free : NegativeCycle P → ⊥) where
+  -- Strata have no gap: below the stratum of an atom each number is that of some atom.
+  pub stratum-below : (a k j : ℕ) → Stratum P a k → j ≤ k → (b : ℕ) × Stratum P b j
+  stratum-below a k j S l =
+      let exact : (c : ℕ) → Stratum P c (stratum-exists P free c .0) = λ c. stratum-exists P free c .1 in
+      let b = along P _ exact (S .path) (stratum-unique P a _ k (exact a) S) j l in
+      (b .0, subst (Stratum P (b .0)) (b .1) (exact (b .0)))
+
+  pub lowest-stratum : (b : ℕ) × Stratum P b 0
+  lowest-stratum = (let w = stratum-exists P free 0 in stratum-below 0 (w .0) 0 (w .1) (omega arith))

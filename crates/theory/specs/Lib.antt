@@ -5,8 +5,8 @@ pub mod Rules
 pub mod Models
 pub mod Dependencies
 pub mod Strata
-pub mod Rounds
 pub mod Derivations
+pub mod Rounds
 pub mod Labels
 pub mod Explanations
 pub mod Questions

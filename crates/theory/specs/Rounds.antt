@@ -1,19 +1,22 @@
--- The in atoms of one stratum by rounds over the slots: what a round is, when a stratum ends, how many rounds it took.
--- Assumes nothing.
-use Prim.Native.Nat.{ℕ, zero, suc, _≤_, _<_}
+-- Request #104: the in atoms are sought in rounds over the slots, lowest layer first. What a round is, when a layer
+-- ends, how many rounds it has, and what that number lies between. Assumes nothing.
+use Prim.Native.Nat.{ℕ, zero, suc, _≤_}
 use mathlib.Core.Path.{_≡_}
 use mathlib.Core.Bool.{Bool, true, false, not, _&&_, _||_}
 use mathlib.Core.List.{[], _∷_}
 use mathlib.Core.Option.{Option, none, some}
 use lib.Dec.{eqb}
-use Rattle.theory.specs.Rules.{Rule, Program, Held}
-use Rattle.theory.specs.Models.{AtomSet, Founded, valid}
+use Rattle.theory.specs.Rules.{Rule, Program}
+use Rattle.theory.specs.Models.{AtomSet, valid}
+use Rattle.theory.specs.Dependencies.{Stratum}
+use Rattle.theory.specs.Derivations.{Depth}
 
 -- The set M and one more atom.
 abbrev pub with : ℕ → AtomSet → AtomSet
 with a M = λ x. eqb x a || M x
 
--- A slot fires if it holds a rule that is valid in M and whose head is of stratum k and not in M yet.
+-- A slot fires if it holds a rule that is valid in M and whose head is of layer k and not in M yet. The layer of each
+-- atom is given by ℓ.
 unfoldable pub fires : (ℕ → ℕ) → ℕ → AtomSet → Option Rule → Bool
 fires ℓ k M none = false
 fires ℓ k M (some r) = eqb (ℓ (r .head)) k && (not (M (r .head)) && valid M r)
@@ -37,19 +40,45 @@ unfoldable pub adds : (ℕ → ℕ) → ℕ → AtomSet → Program → Bool
 adds ℓ k M [] = false
 adds ℓ k M (o ∷ P) = fires ℓ k M o || adds ℓ k (visit ℓ k M o) P
 
--- A stratum ends with its first round that adds none: the set after it, and how many rounds were made, that one
--- counted. The first argument bounds them.
-unfoldable pub fill : ℕ → (ℕ → ℕ) → Program → ℕ → AtomSet → AtomSet × ℕ
-fill zero ℓ P k M = (M, zero)
-fill (suc f) ℓ P k M = elim
-    (adds ℓ k M P) [ false ↦ (M, 1) | true ↦ (let w = fill f ℓ P k (sweep ℓ k M P) in (w .0, suc (w .1))) ]
+-- A layer ends at its first round that adds none: from the set M on, layer k has n rounds, that one counted, and leaves
+-- the set N.
+pub data Rounds (P : Program) (ℓ : ℕ → ℕ) (k : ℕ) : AtomSet → ℕ → AtomSet → Type 0 where
+  final : {M : AtomSet} → adds ℓ k M P ≡ false → Rounds P ℓ k M 1 M
+  again :
+      {M N : AtomSet} {n : ℕ} → adds ℓ k M P ≡ true → Rounds P ℓ k (sweep ℓ k M P) n N → Rounds P ℓ k M (suc n) N
 
--- M is closed as far as the heads of strata below k go.
-abbrev pub ClosedBelow : Program → (ℕ → ℕ) → ℕ → AtomSet → Type 0
-ClosedBelow P ℓ k M = (s : ℕ) (r : Rule) → Held P s r → ℓ (r .head) < k → valid M r ≡ true → M (r .head) ≡ true
+-- Lowest layer first, and each once: M is the set when the layers below k have ended, one after another, from the set
+-- without atoms on.
+pub data FoundBelow (P : Program) (ℓ : ℕ → ℕ) : ℕ → AtomSet → Type 0 where
+  nothing : FoundBelow P ℓ zero (λ a. false)
+  next-stratum : {k n : ℕ} {M N : AtomSet} → FoundBelow P ℓ k M → Rounds P ℓ k M n N → FoundBelow P ℓ (suc k) N
 
--- The strata below k are done, and M has nothing above k.
-pub record Filled (P : Program) (ℓ : ℕ → ℕ) (k : ℕ) (M : AtomSet) : Type 0 where
-  pub founded : Founded P M
-  pub low : (a : ℕ) → M a ≡ true → ℓ a ≤ k
-  pub shut : ClosedBelow P ℓ k M
+-- Layer k of the program has n rounds. The layer of an atom is its stratum, which all rules have a part in.
+pub record RoundsOf (P : Program) (k n : ℕ) : Type 0 where
+  pub stratum : ℕ → ℕ
+  pub exact : (a : ℕ) → Stratum P a (stratum a)
+  pub before : AtomSet
+  pub after : AtomSet
+  pub below : FoundBelow P stratum k before
+  pub rounds : Rounds P stratum k before n after
+
+-- What is told of a number k: if it is the layer of an atom, how many rounds this layer has; else 0.
+pub data RoundsTold (P : Program) (k : ℕ) : ℕ → Type 0 where
+  of-stratum : {n : ℕ} (a : ℕ) → Stratum P a k → RoundsOf P k n → RoundsTold P k n
+  no-stratum : ((a : ℕ) → Stratum P a k → ⊥) → RoundsTold P k zero
+
+-- The greatest depth of the in atoms of layer k; 0 if none is in.
+pub data GreatestDepth (P : Program) (M : AtomSet) (k : ℕ) : ℕ → Type 0 where
+  none-in : ((a : ℕ) → Stratum P a k → M a ≡ false) → GreatestDepth P M k zero
+  deepest :
+      {d : ℕ} (a : ℕ) → Stratum P a k → M a ≡ true → Depth P M a d
+      → ((b e : ℕ) → Stratum P b k → M b ≡ true → Depth P M b e → e ≤ d) → GreatestDepth P M k d
+
+-- To be shown of the n rounds of layer k, where M are the in atoms: at least 1, at least 2 where an atom of the layer
+-- is in, at most the greatest depth of its in atoms plus 1.
+pub record RoundsWithin (P : Program) (M : AtomSet) (k n : ℕ) : Type 0 where
+  pub one : 1 ≤ n
+  pub two : (a : ℕ) → Stratum P a k → M a ≡ true → 2 ≤ n
+  pub depth : ℕ
+  pub greatest : GreatestDepth P M k depth
+  pub most : n ≤ suc depth

@@ -22,6 +22,8 @@ pub enum Flavour {
     ChainShuffled,
     /// Many layers, each negating the one below.
     Strata,
+    /// Several layers, each with a chain of its own, whose slots go against it or are shuffled.
+    LayeredChains,
     /// All slots but one or two held.
     NearFull,
     /// All slots held.
@@ -30,13 +32,14 @@ pub enum Flavour {
     Churned,
 }
 
-pub const FLAVOURS: [Flavour; 9] = [
+pub const FLAVOURS: [Flavour; 10] = [
     Flavour::Few,
     Flavour::Dense,
     Flavour::ChainUp,
     Flavour::ChainDown,
     Flavour::ChainShuffled,
     Flavour::Strata,
+    Flavour::LayeredChains,
     Flavour::NearFull,
     Flavour::Full,
     Flavour::Churned,
@@ -64,6 +67,7 @@ pub fn program(random: &mut Random, flavour: Flavour) -> Program {
         Flavour::ChainDown => chain(random, |_, rules| rules.reverse()),
         Flavour::ChainShuffled => chain(random, |random, rules| random.shuffle(rules)),
         Flavour::Strata => strata(random),
+        Flavour::LayeredChains => layered_chains(random),
         Flavour::NearFull => {
             let rules = random.between(SLOTS - 2, SLOTS - 1);
             crowded(random, rules)
@@ -232,6 +236,58 @@ fn strata(random: &mut Random) -> Program {
         random.shuffle(&mut rules);
     }
     rules.resize(SLOTS, None);
+    rules
+}
+
+/// Layers on top of one another, with free slots between, in front or behind.
+fn layered_chains(random: &mut Random) -> Program {
+    let all: Vec<u32> = (0..ATOMS as u32).collect();
+    let mut atoms = random.sample(&all, ATOMS);
+    let layers = random.between(2, 10);
+    let mut program: Program = vec![None; SLOTS];
+    let mut below: Vec<u32> = Vec::new();
+    for _ in 0..layers {
+        // Two rules for each atom of each chain, and one besides, fit in the slots.
+        let length = random.between(1, 120 / layers);
+        let layer = atoms.split_off(atoms.len() - length - 1);
+        for rule in layer_rules(random, &layer, &below) {
+            add_new(&mut program, rule);
+        }
+        below = layer;
+    }
+    if random.percent(30) {
+        program.reverse();
+    } else {
+        random.shuffle(&mut program);
+    }
+    program
+}
+
+/// The rules of a layer on top of another one, or on nothing. Its first atom needs itself and so is never in. The
+/// others are a chain, which starts where the first atom of the layer below is not in; now and then where another one
+/// is not, and then as a rule nothing of this layer is in. Some have a second rule: a shorter way, or one that closes a
+/// loop.
+fn layer_rules(random: &mut Random, layer: &[u32], below: &[u32]) -> Vec<Rule> {
+    let never = layer[0];
+    let chain = &layer[1..];
+    let lowest = &below[..below.len().min(1)];
+    let start = if random.percent(20) {
+        random.sample(below, 1)
+    } else {
+        lowest.to_vec()
+    };
+    let mut rules = vec![
+        Rule::of(never, &[never], &random.sample(below, 1)),
+        Rule::of(chain[0], &[], &start),
+    ];
+    for pair in chain.windows(2) {
+        let also = if random.percent(10) { lowest } else { &[] };
+        rules.push(Rule::of(pair[1], &pair[..1], also));
+        if random.percent(25) {
+            let count = random.between(1, 2);
+            rules.push(Rule::of(pair[1], &random.sample(chain, count), &[]));
+        }
+    }
     rules
 }
 

@@ -1,5 +1,6 @@
 //! The generators: what they promise, and that a seed repeats.
 
+use oracle::alternation::model;
 use oracle::generate::damage::{damaged, FIELDS};
 use oracle::generate::programs::{program, Flavour, FLAVOURS};
 use oracle::generate::{edges, mixed_table, sheets, sound_table};
@@ -8,8 +9,10 @@ use oracle::limits::{INPUT_BYTES, LINE_BYTES, SLOTS};
 use oracle::loops::has_loop_through_negation;
 use oracle::questions::rule_from;
 use oracle::random::Random;
+use oracle::rounds::rounds;
 use oracle::rules::{held, Program};
 use oracle::sound::sound;
+use oracle::strata::layers;
 use oracle::table::RawTable;
 use std::collections::BTreeSet;
 
@@ -87,6 +90,26 @@ fn flavours_are_what_they_are_called() {
     assert!(edges::programs()
         .into_iter()
         .any(|program| deepest(program) == 256));
+}
+
+#[test]
+fn layered_chains_have_several_layers_of_many_rounds_and_some_of_one() {
+    let mut random = Random::seeded(106);
+    let (mut tall, mut long, mut short) = (0, 0, 0);
+    for _ in 0..100 {
+        let program = program(&mut random, Flavour::LayeredChains);
+        let layers = layers(&program);
+        let m = model(&program).expect("no loop through a negation");
+        let counts = rounds(&program, &layers, &m);
+        assert!((2..=10).contains(&counts.len()), "{counts:?}");
+        tall += usize::from(counts.len() >= 4);
+        long += counts[1..].iter().filter(|&&count| count >= 4).count();
+        short += counts[1..].iter().filter(|&&count| count == 1).count();
+    }
+    assert!(
+        tall > 60 && long > 200 && short > 30,
+        "{tall} tables of 4 layers, {long} layers of 4 rounds, {short} of one"
+    );
 }
 
 /// How many bytes' fields differ, counted in the encoding by fields.

@@ -15,6 +15,7 @@ mod orders;
 mod refusals;
 mod relations;
 mod replay;
+mod rounds;
 mod saving;
 mod sequences;
 mod sheets;

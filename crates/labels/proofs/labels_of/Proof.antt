@@ -1,7 +1,7 @@
 -- `labels::labels_of` answers the labels of all atoms, or that there is a negative cycle. Assumes nothing.
 use borrow.Author.Needs.{needs}
 use Rattle.theory.proofs.Lists.{not-true, not-false}
-use Rattle.strata.proofs.Answer.{answer-strata, answer-acyclic}
+use Rattle.strata.proofs.Answer.{answer-acyclic}
 use Rattle.labels.proofs.Kept.{labels-are, told-labels, told-cycle}
 use Rattle.labels.proofs.labels_of.Statement.{statement}
 use Rattle.labels.proofs.labels_of.Tie as tie
@@ -22,7 +22,7 @@ in-atoms-requires c κs =
     let told = c .before .before .before .before in
     record {
       bounded = told .before .pre;
-      strata = answer-strata _ _ (told .strata .ensures) (not-false _ (c .before .if1 .left));
+      exact = told .strata .ensures .acyclic (not-false _ (c .before .if1 .left));
     }
 
 depths-requires : tie.Need-depths-requires
@@ -42,11 +42,11 @@ returns-2 c =
     let all = c .before .before .before .before .before in
     let slots = all .before in
     let deep = slots .before .before .before in
-    let model = deep .before .before in
+    let model = deep .before .before .before in
     let test = model .before .before in
     let told = test .before .before .before in
     told-labels _ _ _ (answer-acyclic _ _ (told .strata .ensures) (not-false _ (test .if1 .left)))
-    (labels-are _ (told .before .pre) _ _ _ _ (model .in-atoms .ensures) (deep .depths .ensures)
+    (labels-are _ (told .before .pre) _ _ _ _ (model .in-atoms .ensures .model) (deep .depths .ensures)
     (slots .supports .ensures) (all .occurring .ensures) _ (c .assemble .ensures))
 
 pub labels-of-spec : {M : Type 1} → statement M

@@ -1,4 +1,4 @@
--- `model::fill_stratum` makes the rounds that the theory's `fill` makes. Assumes nothing.
+-- `model::fill_stratum` makes the rounds of the layer. Assumes nothing.
 -- Inside a round: what is left of it gives the whole round. Between rounds: what is left of them gives all. Each round
 -- that adds brings in the head of one more rule, so that the rounds end.
 use Prim.Native.Nat.{suc, _-_, _≤_}
@@ -7,13 +7,14 @@ use mathlib.Core.Path.{_≡_, refl, sym, _∙_}
 use lib.ListN.{length, getD}
 use Rattle.theory.specs.Limits.{document}
 use Rattle.theory.proofs.Lists.{not-true, not-false}
-use Rattle.theory.specs.Rounds.{fill}
+use Rattle.theory.proofs.Strata.{exact-strata}
+use Rattle.theory.proofs.Found.{found-filled}
 use Rattle.table.specs.Rules.{programOf, pastRule}
 use Rattle.table.specs.Sets.{member, number}
 use Rattle.model.proofs.Visits.{Left, left-start, left-idle, left-stop, left-add, left-rest, waits-missing}
 use Rattle.model.proofs.Visits.{NoneFrom, Seen, seen-start, seen-over, seen-here, seen-mark, seen-end}
 use Rattle.model.proofs.Rounds.{Going, going-start, going-few, room-of, head-below}
-use Rattle.model.proofs.Rounds.{stratum-next, stratum-found, stratum-number}
+use Rattle.model.proofs.Rounds.{stratum-next, stratum-end}
 use borrow.Author.Needs.{needs}
 use Rattle.model.proofs.fill_stratum.Statement.{statement}
 use Rattle.model.proofs.fill_stratum.Tie as tie
@@ -28,17 +29,21 @@ abbrev μ-loop2 : tie.MeasureT-loop2
 
 abbrev Inv-loop : tie.InvT-loop
 Inv-loop strata k found₀ rules rounds₀ end₀ found rounds end =
-    Going (programOf rules) (number strata) k (suc (document .slots))
-    (fill (suc (document .slots)) (number strata) (programOf rules) k (member found₀)) (member found) rounds
+    Going (programOf rules) (number strata) k (member found₀) (member found) rounds
     × (length found ≡ length found₀) × NoneFrom (number strata) k rules found end × (end ≤ document .slots)
 
 abbrev μ-loop : tie.MeasureT-loop
 μ-loop strata k found₀ rules rounds₀ end₀ found rounds end = suc (document .slots) - rounds
 
+-- from a visit to the start of its round
+abbrev round-of : (c : tie.At-loop2 Inv-loop2 μ-loop2 Inv-loop μ-loop) → tie.At-loop Inv-loop2 μ-loop2 Inv-loop μ-loop
+round-of c = c .before
+
 loop-holds : tie.Need-loop-holds Inv-loop2 μ-loop2 Inv-loop μ-loop
 loop-holds c =
     let len : length (c .args .t1) ≡ document .slots = search needs in
-    (going-start _ _ _ _ _ (c .pre .filled), refl, λ z l r. absurd (omega (arith, len)), omega arith)
+    let L = exact-strata _ _ (c .pre .stratified .exact) in
+    (going-start _ _ _ _ (found-filled _ _ L (c .pre .below)), refl, λ z l r. absurd (omega (arith, len)), omega arith)
 
 loop2-holds : tie.Need-loop2-holds Inv-loop2 μ-loop2 Inv-loop μ-loop
 loop2-holds c =
@@ -69,7 +74,7 @@ loop2-less c = search needs
 loop2-again : tie.Need-loop2-again Inv-loop2 μ-loop2 Inv-loop μ-loop
 loop2-again c =
     let at = c .before .before .before .before in
-    let s = at .before .before in
+    let s = round-of at .before in
     let len : length (s .args .t1) ≡ document .slots = search needs in
     let no = sym (c .before .waits .ensures) ∙ not-true _ (c .if1 .taken) in (
       left-idle _ _ (s .args .t1) _ (at .loop2 .i) _ _ (omega (arith, at .loop2 .inv .2)) (at .loop2 .inv .0) no,
@@ -92,7 +97,7 @@ loop2-less-2 c = search needs
 loop2-again-2 : tie.Need-loop2-again-2 Inv-loop2 μ-loop2 Inv-loop μ-loop
 loop2-again-2 c =
     let at = c .before .before .before .before .before .before .before .before in
-    let s = at .before .before in
+    let s = round-of at .before in
     let len : length (s .args .t1) ≡ document .slots = search needs in (
       left-stop _ _ (s .args .t1) _ (at .loop2 .i) _ _ (omega (arith, at .loop2 .inv .2)) (at .loop2 .inv .0)
           (sym (c .before .holds-valid .ensures) ∙ not-true _ (c .if2 .taken)),
@@ -111,11 +116,11 @@ loop2-again-3 c =
     let good = c .before .before in
     let new = good .before .before .before .before in
     let at = new .before .before .before .before in
-    let s = at .before .before in
+    let s = round-of at .before in
     let len : length (s .args .t1) ≡ document .slots = search needs in
     let here = getD (s .args .t1) (at .loop2 .i) pastRule in
     let size : length (at .loop2 .found) ≡ document .atoms =
-    at .loop2 .inv .0 .size ∙ (at .before .loop .inv .1 ∙ s .pre .size) in (
+    at .loop2 .inv .0 .size ∙ (round-of at .loop .inv .1 ∙ s .pre .size) in (
       left-add _ _ (s .args .t1) _ (at .loop2 .i) _ _ (omega (arith, at .loop2 .inv .2)) (at .loop2 .inv .0)
           (rw size (head-below (s .args .t1) (document .atoms) _ (s .pre .stratified .bounded)))
           (waits-missing (number (s .args .strata .now)) (s .args .k) (member (at .loop2 .found)) (here .state)
@@ -129,7 +134,7 @@ loop2-again-3 c =
 add-rounds : tie.Need-add-rounds Inv-loop2 μ-loop2 Inv-loop μ-loop
 add-rounds c =
     let s = c .before .before .before in
-    let few = going-few _ _ _ _ _ _ _ (c .before .before .loop .inv .0) in
+    let few = going-few _ _ _ _ _ _ (c .before .before .loop .inv .0) in
     let len : length (s .args .t1) ≡ document .slots = search needs in
     let room = room-of (s .args .t1) (document .slots) len in
     search needs
@@ -144,15 +149,14 @@ returns c =
     let R = left-rest _ _ (s .args .t1) _ (t .i) _ _ (λ z l r. t .inv .1 .outer z (omega arith) r) (t .inv .0) in
     let over = not-true _ (c .if3 .taken) in
     record {
-      found = stratum-found (s .args .t1) _ _ (document .slots) len _ _ _ _ _ (G .0) R over;
-      number = stratum-number (s .args .t1) _ _ (document .slots) len _ _ _ _ _ (G .0) R over;
+      rounds = stratum-end (s .args .t1) _ _ _ _ _ _ _ (G .0) R over;
       size = R .size ∙ G .1;
     }
 
 loop-less : tie.Need-loop-less Inv-loop2 μ-loop2 Inv-loop μ-loop
 loop-less c =
     let s = c .before .before .before .before in
-    let few = going-few _ _ _ _ _ _ _ (c .before .before .before .loop .inv .0) in
+    let few = going-few _ _ _ _ _ _ (c .before .before .before .loop .inv .0) in
     let len : length (s .args .t1) ≡ document .slots = search needs in
     let room = room-of (s .args .t1) (document .slots) len in
     omega arith
@@ -166,7 +170,7 @@ loop-again c =
     let past = c .before .loop2-test .left in
     let R = left-rest _ _ (s .args .t1) _ (t .i) _ _ (λ z l r. t .inv .1 .outer z (omega arith) r) (t .inv .0) in
     let more = not-false _ (c .if3 .left) in (
-      stratum-next (s .args .t1) _ _ (document .slots) len _ _ _ _ _ (G .0) R (s .pre .stratified .strata) more,
+      stratum-next (s .args .t1) _ _ _ _ _ _ _ (G .0) R (exact-strata _ _ (s .pre .stratified .exact)) more,
       R .size ∙ G .1,
       seen-end _ _ (s .args .t1) _ _ _ (t .i) (t .inv .1) past,
       omega (arith, t .inv .1 .low, t .inv .0 .place),

@@ -1,42 +1,58 @@
--- `model::in_atoms` answers the admissible model. Assumes nothing.
--- Before stratum k all strata below it are done; above the highest there are no heads.
-use Prim.Native.Nat.{_-_}
-use native.Mathlib.Numerals.{add-one}
+-- `model::in_atoms` answers the admissible model and the rounds of each layer. Assumes nothing.
+-- Before layer k all layers below it have ended; above the highest there are no heads.
+use Prim.Native.Nat.{suc, _-_, _<_}
+use native.Mathlib.Omega.{arith}
 use mathlib.Core.Path.{_≡_, refl}
 use lib.ListN.{length}
 use Rattle.theory.specs.Limits.{document}
 use Rattle.table.specs.Rules.{programOf}
 use Rattle.table.specs.Sets.{number}
-use Rattle.model.specs.Rounds.{Ready}
-use Rattle.model.proofs.Rounds.{ready-start, ready-next, ready-end}
+use Rattle.model.proofs.Rounds.{Between, between-start, between-next, between-end, stratum-room}
 use borrow.Author.Needs.{needs}
 use Rattle.model.proofs.in_atoms.Statement.{statement}
 use Rattle.model.proofs.in_atoms.Tie as tie
 
 abbrev Inv-loop : tie.InvT-loop
-Inv-loop rules strata top found₀ k₀ found k = Ready (programOf rules) (number strata) k found
+Inv-loop rules strata top found₀ rounds₀ k₀ found rounds k =
+    Between (programOf rules) (number strata) top k found rounds
 
 abbrev μ-loop : tie.MeasureT-loop
-μ-loop rules strata top found₀ k₀ found k = top - k
+μ-loop rules strata top found₀ rounds₀ k₀ found rounds k = top - k
 
 highest-requires : tie.Need-highest-requires Inv-loop μ-loop
 highest-requires c κs = tt
 
 loop-holds : tie.Need-loop-holds Inv-loop μ-loop
-loop-holds c = ready-start (c .before .args .rules) _ (c .before .pre) (document .atoms) refl
+loop-holds c =
+    between-start (c .before .args .rules) _ (c .before .pre) _ (c .highest .ensures) (document .atoms)
+    (suc (document .slots)) refl refl
 
 fill-stratum-requires : tie.Need-fill-stratum-requires Inv-loop μ-loop
-fill-stratum-requires c κs = c .before .loop .inv
+fill-stratum-requires c κs = c .before .loop .inv .ready
+
+-- the highest layer has a place in the array of rounds
+room : (c : tie.After-fill-stratum Inv-loop μ-loop) → c .before .before .before .highest .result < suc (document .slots)
+room c =
+    let s = c .before .before .before .before in
+    let len : length (s .args .rules) ≡ document .slots = search needs in
+    stratum-room (s .args .rules) _ (s .pre) _ (c .before .before .before .highest .ensures) len
+
+cast-rounds : tie.Need-cast-rounds Inv-loop μ-loop
+cast-rounds c = search needs
+
+mul-rounds : tie.Need-mul-rounds Inv-loop μ-loop
+mul-rounds c = (let r = room c in search needs)
+
+array-write-rounds : tie.Need-array-write-rounds Inv-loop μ-loop
+array-write-rounds c = (let r = room c in search needs)
 
 returns : tie.Need-returns Inv-loop μ-loop
 returns c =
     let s = c .before .before .before .before .before in
     let len : length (s .args .rules) ≡ document .slots = search needs in
-    let next =
-    ready-next (s .args .rules) _ (s .pre) len _ _ _ _ (c .before .before .before .loop .inv)
-    (c .before .fill-stratum .ensures) in
-    ready-end (s .args .rules) _ (s .pre) _ _ _ (c .before .before .before .before .highest .ensures) (c .if1 .taken)
-    next
+    let told = c .before .before .before .before .highest .ensures in
+    between-end (s .args .rules) _ (s .pre) _ told len _ _ _ _ _ (c .before .before .before .loop .inv)
+    (c .before .fill-stratum .ensures) (c .if1 .taken)
 
 add-k : tie.Need-add-k Inv-loop μ-loop
 add-k c = search needs
@@ -48,9 +64,9 @@ loop-again : tie.Need-loop-again Inv-loop μ-loop
 loop-again c =
     let s = c .before .before .before .before .before in
     let len : length (s .args .rules) ≡ document .slots = search needs in
-    rw add-one
-    (ready-next (s .args .rules) _ (s .pre) len _ _ _ _ (c .before .before .before .loop .inv)
-    (c .before .fill-stratum .ensures))
+    let told = c .before .before .before .before .highest .ensures in
+    between-next (s .args .rules) _ (s .pre) _ told len _ _ _ _ _ (c .before .before .before .loop .inv)
+    (c .before .fill-stratum .ensures) (omega (arith, c .if1 .left))
 
 pub in-atoms-spec : {M : Type 1} → statement M
 in-atoms-spec =
@@ -61,6 +77,9 @@ in-atoms-spec =
     highest-requires
     loop-holds
     fill-stratum-requires
+    cast-rounds
+    mul-rounds
+    array-write-rounds
     returns
     add-k
     loop-less

@@ -1,0 +1,2 @@
+-- What the probes' answers show. Nothing here needs to be believed: all of it is checked.
+pub mod Shown
