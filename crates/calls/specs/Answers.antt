@@ -19,25 +19,32 @@ use Rattle.calls.specs.declared.SpoilerAnswer.the-variants as spoilt
 use Rattle.calls.specs.declared.LoadAnswer.{LoadAnswer}
 use Rattle.calls.specs.declared.LoadAnswer.the-variants as loaded
 
--- Document 01's number of each refusal, and request #103's.
+-- What a refusal tells: its number, document 01's or request #103's, and the length that is needed, which 11 carries.
+abbrev pub told : Refusal → ℕ × ℕ
+told Head = (1, 0)
+told Entries = (2, 0)
+told Entry = (3, 0)
+told Repeated = (4, 0)
+told Same = (5, 0)
+told Full = (6, 0)
+told NegativeCycle = (7, 0)
+told SlotNumber = (8, 0)
+told Free = (9, 0)
+told AtomNumber = (10, 0)
+told (Buffer needed) = (11, needed)
+told NotIn = (12, 0)
+told Unsound = (15, 0)
+told FileLength = (16, 0)
+told Sums = (17, 0)
+told BlockNumbers = (18, 0)
+told Record = (19, 0)
+
 abbrev pub numberOf : Refusal → ℕ
-numberOf Head = 1
-numberOf Entries = 2
-numberOf Entry = 3
-numberOf Repeated = 4
-numberOf Same = 5
-numberOf Full = 6
-numberOf NegativeCycle = 7
-numberOf SlotNumber = 8
-numberOf Free = 9
-numberOf AtomNumber = 10
-numberOf (Buffer needed) = 11
-numberOf NotIn = 12
-numberOf Unsound = 15
-numberOf FileLength = 16
-numberOf Sums = 17
-numberOf BlockNumbers = 18
-numberOf Record = 19
+numberOf f = told f .0
+
+-- How many entries are needed: 11 says it, every other refusal 0.
+abbrev pub neededBy : Refusal → ℕ
+neededBy f = told f .1
 
 -- The plain book's word for an answer.
 abbrev pub bookAdd : AddAnswer → book.Answer

@@ -1,10 +1,6 @@
 -- The calls' answers as numbers: `refused` is 0 or the refusal's number. Assumes nothing.
 use Prim.Native.Nat.{ℕ}
 use Rattle.table.specs.declared.Table.{Table}
-use Rattle.calls.specs.declared.Refusal.{Refusal}
-use Rattle.calls.specs.declared.Refusal.the-variants.{Head, Entries, Entry, Repeated, Same, Full, NegativeCycle}
-use Rattle.calls.specs.declared.Refusal.the-variants.{SlotNumber, Free, AtomNumber, Buffer, NotIn, Unsound}
-use Rattle.calls.specs.declared.Refusal.the-variants.{FileLength, Sums, BlockNumbers, Record}
 use Rattle.calls.specs.declared.AddAnswer.{AddAnswer}
 use Rattle.calls.specs.declared.AddAnswer.the-variants as added
 use Rattle.calls.specs.declared.RemoveAnswer.{RemoveAnswer}
@@ -17,7 +13,7 @@ use Rattle.calls.specs.declared.ListAnswer.{ListAnswer}
 use Rattle.calls.specs.declared.ListAnswer.the-variants as listed
 use Rattle.calls.specs.declared.LoadAnswer.{LoadAnswer}
 use Rattle.calls.specs.declared.LoadAnswer.the-variants as loaded
-use Rattle.calls.specs.Answers.{numberOf}
+use Rattle.calls.specs.Answers.{numberOf, neededBy}
 use Rattle.crossing.specs.declared.Change.{Change}
 use Rattle.crossing.specs.declared.AtomLabel.{AtomLabel}
 use Rattle.crossing.specs.declared.RuleSpoiler.{RuleSpoiler}
@@ -45,26 +41,6 @@ crossedSpoiler spoilt.Valid = record { refused = 0; spoiled = 0; place = 0; atom
 crossedSpoiler (spoilt.Positive i a) = record { refused = 0; spoiled = 1; place = i; atom = a .0 }
 crossedSpoiler (spoilt.Negative i a) = record { refused = 0; spoiled = 2; place = i; atom = a .0 }
 crossedSpoiler (spoilt.Refused f) = record { refused = numberOf f; spoiled = 0; place = 0; atom = 0 }
-
--- How many entries are needed: 11 says it, every other refusal 0.
-abbrev pub neededBy : Refusal → ℕ
-neededBy Head = 0
-neededBy Entries = 0
-neededBy Entry = 0
-neededBy Repeated = 0
-neededBy Same = 0
-neededBy Full = 0
-neededBy NegativeCycle = 0
-neededBy SlotNumber = 0
-neededBy Free = 0
-neededBy AtomNumber = 0
-neededBy (Buffer needed) = needed
-neededBy NotIn = 0
-neededBy Unsound = 0
-neededBy FileLength = 0
-neededBy Sums = 0
-neededBy BlockNumbers = 0
-neededBy Record = 0
 
 abbrev pub crossedList : ListAnswer → Written
 crossedList (listed.Count n) = record { refused = 0; count = n }

@@ -10,7 +10,8 @@ use calls::refusal_number;
 use table::Table;
 ghost use mathlib.Core.Path.{_≡_};
 ghost use Rattle.crossing.specs.Numbers.{crossedAdd, crossedRemove, crossedLabel, crossedSpoiler, crossedList};
-ghost use Rattle.crossing.specs.Numbers.{crossedLoad, neededBy};
+ghost use Rattle.calls.specs.Answers.{neededBy};
+ghost use Rattle.crossing.specs.Numbers.{crossedLoad};
 
 // What a call that changes a table answers: the slot that an addition took, and the table handed back.
 #[repr(C)]

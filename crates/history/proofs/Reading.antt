@@ -10,9 +10,6 @@ use lib.ListN.{length, getD, take, drop}
 use Rattle.theory.specs.Book.{add, remove}
 use Rattle.theory.proofs.Lists.{unless, leb-le, le-leb, and-l, and-r, and-of}
 use Rattle.calls.specs.declared.Refusal.{Refusal}
-use Rattle.calls.specs.declared.Refusal.the-variants.{Head, Entries, Entry, Repeated, Same, Full, NegativeCycle}
-use Rattle.calls.specs.declared.Refusal.the-variants.{SlotNumber, Free, AtomNumber, Buffer, NotIn, Unsound}
-use Rattle.calls.specs.declared.Refusal.the-variants.{FileLength, Sums, BlockNumbers, Record}
 use Rattle.calls.specs.declared.AddAnswer.{AddAnswer}
 use Rattle.calls.specs.declared.AddAnswer.the-variants as added
 use Rattle.calls.specs.declared.RemoveAnswer.{RemoveAnswer}
@@ -20,6 +17,7 @@ use Rattle.calls.specs.declared.RemoveAnswer.the-variants as removed
 use Rattle.calls.specs.declared.LoadAnswer.{LoadAnswer}
 use Rattle.calls.specs.declared.LoadAnswer.the-variants as loaded
 use Rattle.calls.specs.Answers.{numberOf, bookAdd, bookRemove, bookLoad}
+use Rattle.calls.proofs.Refusals.{number-small}
 use Rattle.history.specs.declared.Next.{Next}
 use Rattle.history.specs.declared.Next.the-variants as next
 use Rattle.history.specs.declared.Stepped.{Stepped}
@@ -30,26 +28,6 @@ use Rattle.table.specs.declared.Table.{Table}
 use Rattle.calls.specs.Contracts.{AddEnds, RemoveEnds}
 use Rattle.history.specs.Claim.{adds, removes, loads}
 use Rattle.history.specs.Steps.{callOf, InOrder, NextLoad, NextOf, LoadMade, StepOf}
-
--- A refusal's number is small.
-number-small : (f : Refusal) → numberOf f ≤ 19
-number-small Head = omega arith
-number-small Entries = omega arith
-number-small Entry = omega arith
-number-small Repeated = omega arith
-number-small Same = omega arith
-number-small Full = omega arith
-number-small NegativeCycle = omega arith
-number-small SlotNumber = omega arith
-number-small Free = omega arith
-number-small AtomNumber = omega arith
-number-small (Buffer needed) = omega arith
-number-small NotIn = omega arith
-number-small Unsound = omega arith
-number-small FileLength = omega arith
-number-small Sums = omega arith
-number-small BlockNumbers = omega arith
-number-small Record = omega arith
 
 pub small : (f : Refusal) (n : ℕ) → n ≡ numberOf f → n ≤ 19
 small f n e = omega (arith, number-small f)
