@@ -1,10 +1,11 @@
 -- Laws of bytes written one behind another, and how many bytes fields have. Assumes nothing.
 use Prim.Native.Nat.{ℕ, suc, _+_, _*_, _≤_, _<_}
 use native.Mathlib.Omega.{arith}
+use native.Mathlib.Numerals.{add-one}
 use mathlib.Core.Path.{_≡_, refl, sym, _∙_, ap}
 use mathlib.Core.List.{List, [], _∷_, _++_, append-nil}
-use lib.ListN.{length, take, drop, getD, length-append, take-append-drop, length-take}
-use lib.Seq.{take-at, drop-append-seam}
+use lib.ListN.{length, take, drop, getD, set, length-append, take-append-drop, length-take}
+use lib.Seq.{take-at, drop-at, drop-append-seam, set-split, length-take-le}
 use Rattle.fields.specs.Fields.{decimal, field, fields}
 use Rattle.fields.specs.Written.{put, Wrote, WroteIn}
 use Rattle.fields.proofs.Buffers.{put-length, put-put}
@@ -22,12 +23,37 @@ pub wrote-length :
 wrote-length {bs} {before} {after} {at} w =
     ap length (w .buffer) ∙ put-length before at bs [] (rw append-nil (w .room))
 
--- The bytes that were written from the start stand there.
-pub wrote-start : {bs before after : List ℕ} {next : ℕ} → Wrote bs before 0 after next → take next after ≡ bs
+-- The next place by another name.
+pub wrote-to :
+    {bs before after : List ℕ} {at next : ℕ} (end : ℕ) → next ≡ end → Wrote bs before at after next
+    → Wrote bs before at after end
+wrote-to end e w = rw e at w
+
+-- One store.
+pub wrote-byte : (out : List ℕ) (at v : ℕ) → at < length out → Wrote (v ∷ []) out at (set out at v) (at + 1)
 unfolding put
-wrote-start {bs} {before} {after} {next} w =
-    let none : 0 + length bs ≡ length bs = omega arith in
-    ap (take next) (w .buffer) ∙ take-at bs (drop (0 + length bs) before) next (sym (w .place ∙ none))
+wrote-byte out at v l =
+    record {
+      room = omega arith;
+      buffer = rw add-one (set-split out at v l);
+      place = refl;
+    }
+
+-- The bytes stand where they were written.
+pub wrote-there :
+    {bs before after : List ℕ} {at : ℕ} (n : ℕ) → Wrote bs before at after (at + n) → take n (drop at after) ≡ bs
+unfolding put
+wrote-there {bs} {before} {after} {at} n w =
+    let front = length-take-le at before (omega (arith, w .room)) in
+    let size : length bs ≡ n = omega (arith, w .place) in
+    let rest = drop (at + length bs) before in
+    ap (λ (xs : List ℕ). take n (drop at xs)) (w .buffer)
+    ∙ ap (take n) (drop-at (take at before) (bs ++ rest) at front)
+    ∙ take-at bs rest n size
+
+-- From the start: they stand there.
+pub wrote-start : {bs before after : List ℕ} {next : ℕ} → Wrote bs before 0 after next → take next after ≡ bs
+wrote-start {next = next} w = wrote-there next (wrote-to (0 + next) (omega arith) w)
 
 -- Where there was room, the bytes were written; where there was none, nothing was.
 pub wrote-all :

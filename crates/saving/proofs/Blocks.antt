@@ -11,7 +11,7 @@ use Rattle.theory.proofs.Lists.{le-or-lt}
 use Rattle.table.specs.declared.Rule.{Rule}
 use Rattle.table.specs.Rules.{programOf}
 use Rattle.fields.specs.Written.{Wrote}
-use Rattle.fields.proofs.Wrote.{wrote-nothing, wrote-then}
+use Rattle.fields.proofs.Wrote.{wrote-nothing, wrote-then, wrote-to, wrote-there}
 use Rattle.blocks.specs.Words.{word}
 use Rattle.blocks.specs.Sums.{sumA, sumB}
 use Rattle.blocks.specs.Places.{Place, records}
@@ -20,7 +20,6 @@ use Rattle.blocks.specs.Files.{placesBytes, bodyOf, blockOf, blocksFrom, blocks
 use Rattle.saving.specs.declared.HeldSlots.{HeldSlots}
 use Rattle.saving.specs.Held.{HeldIn}
 use Rattle.saving.specs.Bytes.{recordsBytes, headerBytes, sumsBytes, blockBytes}
-use Rattle.saving.proofs.Written.{wrote-to, wrote-there}
 
 -- So many elements of a list, or as many of these as it has.
 take-there : {A : Type 0} (n m : ℕ) (xs : List A) → m ≡ min n (length xs) → take m xs ≡ take n xs

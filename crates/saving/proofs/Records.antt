@@ -17,14 +17,13 @@ use Rattle.table.specs.Clean.{CleanRule}
 use Rattle.table.proofs.Members.{all-alike}
 use Rattle.table.proofs.Entries.{entries-are}
 use Rattle.fields.specs.Written.{Wrote}
-use Rattle.fields.proofs.Wrote.{wrote-nothing, wrote-then, wrote-length}
+use Rattle.fields.proofs.Wrote.{wrote-nothing, wrote-then, wrote-length, wrote-to, wrote-byte}
 use Rattle.blocks.specs.Words.{word, words, padded}
 use Rattle.blocks.specs.Places.{Place, placeBytes, recorded, records, ENTRIES}
 use Rattle.blocks.specs.Files.{placesBytes, PLACE}
 use Rattle.saving.specs.declared.HeldSlots.{HeldSlots}
 use Rattle.saving.specs.Held.{HeldIn}
 use Rattle.saving.specs.Bytes.{recordBytes, recordsBytes}
-use Rattle.saving.proofs.Written.{wrote-to, wrote-byte}
 use Rattle.saving.proofs.Held.{noPlace, record-at}
 
 -- Words of two lists, and of one entry more.

@@ -1,6 +1,6 @@
 -- `saving::write_block` meets its contract. Assumes nothing.
 use native.Mathlib.Omega.{arith}
-use Rattle.saving.proofs.Written.{wrote-to}
+use Rattle.fields.proofs.Wrote.{wrote-to}
 use Rattle.saving.proofs.Blocks.{wrote-block}
 use Rattle.saving.proofs.write_block.Statement.{statement}
 use Rattle.saving.proofs.write_block.Tie as tie

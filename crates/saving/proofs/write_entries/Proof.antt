@@ -7,9 +7,8 @@ use lib.Seq.{take-all}
 use Rattle.theory.specs.Limits.{document}
 use Rattle.table.specs.Rules.{numbers}
 use Rattle.fields.specs.Written.{Wrote}
-use Rattle.fields.proofs.Wrote.{wrote-nothing, wrote-length}
+use Rattle.fields.proofs.Wrote.{wrote-nothing, wrote-length, wrote-to}
 use Rattle.blocks.specs.Words.{words}
-use Rattle.saving.proofs.Written.{wrote-to}
 use Rattle.saving.proofs.Records.{wrote-next-entry}
 use borrow.Author.Needs.{needs}
 use Rattle.saving.proofs.write_entries.Statement.{statement}

@@ -1,8 +1,7 @@
 -- `saving::write_header` meets its contract. Assumes nothing.
 use native.Mathlib.Omega.{arith}
-use Rattle.fields.proofs.Wrote.{wrote-then}
+use Rattle.fields.proofs.Wrote.{wrote-then, wrote-to}
 use Rattle.saving.specs.Bytes.{headerBytes}
-use Rattle.saving.proofs.Written.{wrote-to}
 use Rattle.saving.proofs.write_header.Statement.{statement}
 use Rattle.saving.proofs.write_header.Tie as tie
 

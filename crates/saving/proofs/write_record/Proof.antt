@@ -3,8 +3,7 @@ use native.Mathlib.Omega.{arith}
 use mathlib.Core.Path.{_≡_}
 use lib.ListN.{length, length-map, length-set}
 use Rattle.theory.specs.Limits.{document}
-use Rattle.fields.proofs.Wrote.{wrote-length}
-use Rattle.saving.proofs.Written.{wrote-to}
+use Rattle.fields.proofs.Wrote.{wrote-length, wrote-to}
 use Rattle.saving.proofs.Records.{wrote-record}
 use Rattle.saving.proofs.write_record.Statement.{statement}
 use Rattle.saving.proofs.write_record.Tie as tie
