@@ -1,5 +1,6 @@
 // The programs that keep a table on disk (request #103): one reads a sheet and writes the file of the table that it
 // leaves; the other reads a file and writes the labels of its table as `L` does, or `refused` and the number.
+use blocks::LONGEST;
 use calls::ListAnswer;
 use calls::LoadAnswer;
 use calls::refusal_number;
@@ -19,13 +20,8 @@ ghost use Rattle.file_stream.specs.Loads.{LoadWrites, ReadsInput, LoadsI
 // many of its bytes are that table's file.
 pub struct Saved {
     pub last: Last,
-    pub bytes: [u8; Saved::LONGEST],
+    pub bytes: [u8; LONGEST],
     pub count: usize,
-}
-
-impl Saved {
-    // The bytes of the longest file: 12 blocks of 512.
-    pub const LONGEST: usize = 6144;
 }
 
 // An input as far as it was read: a buffer, how many of its bytes were read, and how many of these the last read gave.
@@ -37,7 +33,7 @@ pub struct Given {
 
 impl Given {
     // One byte more than a file can have: enough to show that an input is too long.
-    pub const KEPT: usize = 6145;
+    pub const KEPT: usize = LONGEST + 1;
 }
 
 // What was printed of an input: a buffer, and how many of its bytes these are.
@@ -70,7 +66,7 @@ pub fn save_input() -> Saved
     let last = leave_input();
     let reply = last.reply;
     let table = reply.table;
-    let mut bytes: [u8; Saved::LONGEST] = [0; Saved::LONGEST];
+    let mut bytes: [u8; LONGEST] = [0; LONGEST];
     let answer = save(table, &mut bytes);
     let count = count_of(answer);
     Saved {
