@@ -14,11 +14,10 @@ use Rattle.theory.specs.Models.{AtomSet}
 use Rattle.theory.specs.Dependencies.{NegativeCycle, Stratum}
 use Rattle.theory.specs.Questions as questions
 use Rattle.theory.specs.Limits.{document}
-use Rattle.theory.specs.Strata.{Strata}
 use Rattle.theory.specs.Rounds.{adds, again, final, next-stratum, nothing, Rounds, RoundsOf, RoundsTold}
 use Rattle.theory.specs.Rounds.{no-stratum, of-stratum, sweep}
 use Rattle.theory.proofs.Lists.{count-length, le-or-lt}
-use Rattle.theory.proofs.Strata.{exact-strata, few-negatives, strata-acyclic, stratum-below, stratum-unique}
+use Rattle.theory.proofs.Strata.{exact-strata, few-negatives, Strata, strata-acyclic, stratum-below, stratum-unique}
 use Rattle.theory.proofs.Fill.{Filled}
 use Rattle.theory.proofs.Rounds.{adds-none, sweep-stays}
 use Rattle.theory.proofs.Found.{heads-in, grows}

@@ -6,8 +6,7 @@ use mathlib.Core.Bool.{true, false, true≢false}
 use mathlib.Core.List.{List}
 use Rattle.theory.specs.Rules.{Program}
 use Rattle.theory.specs.Dependencies.{NegativeCycle, Stratum}
-use Rattle.theory.specs.Strata.{Strata}
-use Rattle.theory.proofs.Strata.{exact-strata, strata-acyclic}
+use Rattle.theory.proofs.Strata.{exact-strata, Strata, strata-acyclic}
 use Rattle.table.specs.Sets.{number}
 use Rattle.strata.specs.declared.Stratification.{Stratification}
 use Rattle.strata.specs.Answer.{StrataOf}

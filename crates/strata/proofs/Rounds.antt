@@ -17,8 +17,7 @@ use Rattle.theory.specs.Questions.{rules}
 use Rattle.theory.proofs.Lists.{le-or-lt}
 use Rattle.theory.proofs.Rules.{held-unique}
 use Rattle.theory.proofs.Cycles.{negative-cycle?}
-use Rattle.theory.specs.Strata.{Strata}
-use Rattle.theory.proofs.Strata.{strata-exact, few-negatives}
+use Rattle.theory.proofs.Strata.{few-negatives, Strata, strata-exact}
 use Rattle.table.specs.Sets.{number}
 use Rattle.table.proofs.Members.{number-same, number-other}
 use Rattle.strata.specs.Needed.{needed, Raised}

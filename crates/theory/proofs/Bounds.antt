@@ -10,12 +10,11 @@ use Rattle.theory.specs.Lists.{_∈_}
 use Rattle.theory.specs.Rules.{Program}
 use Rattle.theory.specs.Models.{Admissible, AtomSet, Founded}
 use Rattle.theory.specs.Dependencies.{Stratum}
-use Rattle.theory.specs.Strata.{Strata}
 use Rattle.theory.specs.Derivations.{Depth, Derivation}
 use Rattle.theory.specs.Rounds.{again, deepest, final, FoundBelow, GreatestDepth, none-in, Rounds}
 use Rattle.theory.specs.Rounds.{no-stratum, of-stratum, RoundsOf, RoundsTold, RoundsWithin, sweep}
 use Rattle.theory.proofs.Lists.{clash, eqb-eq, eqb-of, le-or-lt, test, unless}
-use Rattle.theory.proofs.Strata.{exact-strata, stratum-unique}
+use Rattle.theory.proofs.Strata.{exact-strata, Strata, stratum-unique}
 use Rattle.theory.proofs.Fill.{Filled, inside, meets}
 use Rattle.theory.proofs.Rounds.{Added, adds-some, ends, next-reached, none-reached, Reached, sweep-keeps}
 use Rattle.theory.proofs.Rounds.{sweep-stays}

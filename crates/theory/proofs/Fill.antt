@@ -10,11 +10,10 @@ use lib.Dec.{eqb}
 use Rattle.theory.specs.Lists.{_∈_}
 use Rattle.theory.specs.Rules.{Held, Program, Rule}
 use Rattle.theory.specs.Models.{Admissible, AtomSet, Founded, next, Ordered, start, valid}
-use Rattle.theory.specs.Strata.{Strata}
 use Rattle.theory.specs.Rounds.{with}
 use Rattle.theory.proofs.Lists.{clash, eqb-eq, eqb-of, or-cases, or-l, or-r, unless}
 use Rattle.theory.proofs.Rules.{valid-negative, valid-of, valid-positive}
-use Rattle.theory.proofs.Strata.{agree-below, ClosedBelow, order-within}
+use Rattle.theory.proofs.Strata.{agree-below, ClosedBelow, order-within, Strata}
 
 -- The strata below k are done, and M has nothing above k.
 pub record Filled (P : Program) (ℓ : ℕ → ℕ) (k : ℕ) (M : AtomSet) : Type 0 where

@@ -12,11 +12,10 @@ use Rattle.theory.specs.Rules.{Program, Rule}
 use Rattle.theory.specs.Models.{AtomSet, next, Ordered, start, valid}
 use Rattle.theory.specs.Dependencies.{NegativeCycle, Stratum}
 use Rattle.theory.specs.Questions.{rules}
-use Rattle.theory.specs.Strata.{Strata}
 use Rattle.theory.specs.Rounds.{adds, again, final, FoundBelow, next-stratum, nothing, Rounds, RoundsOf, sweep}
 use Rattle.theory.proofs.Lists.{clash, count, count-length, count-lt, test}
 use Rattle.theory.proofs.Rules.{rules-of}
-use Rattle.theory.proofs.Strata.{exact-strata, stratum-exists, stratum-unique}
+use Rattle.theory.proofs.Strata.{exact-strata, Strata, stratum-exists, stratum-unique}
 use Rattle.theory.proofs.Fill.{begin, Filled}
 use Rattle.theory.proofs.Rounds.{adds-some, ends, sweep-keeps, sweep-stays}
 

@@ -6,9 +6,8 @@ use Rattle.theory.specs.Rules.{Held, Program, Rule}
 use Rattle.theory.specs.Models.{Admissible, AtomSet, OnlyModel}
 use Rattle.theory.specs.Dependencies.{NegativeCycle}
 use Rattle.theory.specs.Questions.{rules}
-use Rattle.theory.specs.Strata.{Strata}
 use Rattle.theory.specs.Rounds.{FoundBelow}
-use Rattle.theory.proofs.Strata.{acyclic-strata, model-unique, rules-below, rules-below-bound}
+use Rattle.theory.proofs.Strata.{acyclic-strata, model-unique, rules-below, rules-below-bound, Strata}
 use Rattle.theory.proofs.Fill.{done}
 use Rattle.theory.proofs.Found.{found-exists, found-filled}
 

@@ -12,13 +12,13 @@ use Rattle.theory.specs.Lists.{_∈_}
 use Rattle.theory.specs.Rules.{Held, Program, Rule}
 use Rattle.theory.specs.Models.{Admissible, AtomSet, valid}
 use Rattle.theory.specs.Derivations.{Derivation}
-use Rattle.theory.specs.Strata.{Strata}
 use Rattle.theory.specs.Rounds.{adds, fires, put, sweep, visit, with}
 use Rattle.theory.proofs.Lists.{and-l, and-of, and-r, clash, eqb-eq, eqb-of}
 use Rattle.theory.proofs.Lists.{false-not, not-true, or-false-l, or-false-r, test, unless}
 use Rattle.theory.proofs.Rules.{valid-negative, valid-of, valid-positive}
 use Rattle.theory.proofs.Fill.{Filled, inside, mark, meets, rise, with-keep, with-self}
 use Rattle.theory.proofs.Derivations.{entry, last}
+use Rattle.theory.proofs.Strata.{Strata}
 
 module _ (ℓ : ℕ → ℕ) (k : ℕ) where
   put-keeps : (t : Bool) (o : Option Rule) (M : AtomSet) (x : ℕ) → M x ≡ true → put t o M x ≡ true

@@ -12,10 +12,9 @@ use Rattle.theory.specs.Lists.{_∈_, every}
 use Rattle.theory.specs.Rules.{Held, Program, Rule}
 use Rattle.theory.specs.Models.{AtomSet, valid}
 use Rattle.theory.specs.Dependencies.{DependencyPath, here, negative, Negatively, positive, Stratum}
-use Rattle.theory.specs.Strata.{Strata}
 use Rattle.theory.specs.Rounds.{adds, again, final, fires, FoundBelow, next-stratum, no-stratum, nothing}
 use Rattle.theory.specs.Rounds.{of-stratum, Rounds, RoundsOf, RoundsTold, sweep, visit}
-use Rattle.theory.proofs.Strata.{strata-exact, stratum-unique}
+use Rattle.theory.proofs.Strata.{Strata, strata-exact, stratum-unique}
 
 -- The rule of a head and two lists.
 abbrev rule : ℕ → List ℕ → List ℕ → Option Rule

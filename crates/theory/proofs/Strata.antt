@@ -13,11 +13,16 @@ use Rattle.theory.specs.Models.{Admissible, AtomSet, Founded, next, Orde
 use Rattle.theory.specs.Dependencies.{DependencyPath, here, negative, NegativeCycle, Negatively, positive}
 use Rattle.theory.specs.Dependencies.{Stratum}
 use Rattle.theory.specs.Questions.{rules}
-use Rattle.theory.specs.Strata.{Strata}
 use Rattle.theory.proofs.Lists.{and-l, and-of, and-r, any-at, any-of, clash, count, count-le, count-length}
 use Rattle.theory.proofs.Lists.{count-lt, le-or-lt, same-test, test, unless}
 use Rattle.theory.proofs.Rules.{rules-at, rules-of, valid-negative, valid-of}
 use Rattle.theory.proofs.Cycles.{first-negative, path-reach, paths, reach, reach-path}
+
+-- Strata: a number for each atom, such that no positive entry of a rule lies above its head and each negative entry lies
+-- below it.
+pub record Strata (P : Program) (ℓ : ℕ → ℕ) : Type 0 where
+  pub up : (s : ℕ) (r : Rule) → Held P s r → (x : ℕ) → x ∈ r .positives → ℓ x ≤ ℓ (r .head)
+  pub over : (s : ℕ) (r : Rule) → Held P s r → (x : ℕ) → x ∈ r .negatives → ℓ x < ℓ (r .head)
 
 -- M is closed as far as the heads of strata below k go.
 abbrev pub ClosedBelow : Program → (ℕ → ℕ) → ℕ → AtomSet → Type 0

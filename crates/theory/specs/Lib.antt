@@ -4,7 +4,6 @@ pub mod Limits
 pub mod Rules
 pub mod Models
 pub mod Dependencies
-pub mod Strata
 pub mod Derivations
 pub mod Rounds
 pub mod Labels
