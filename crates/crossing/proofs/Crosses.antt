@@ -33,51 +33,53 @@ use Rattle.crossing.specs.Numbers.{crossedAdd, crossedRemove, crossedLab
 use Rattle.crossing.specs.Numbers.{crossedLoad}
 
 -- An answer crosses as its case does; and a refusal as its number n says, where `made` is the struct of a number.
-told : {A B : Type 0} (cross : A → B) (x y : A) → x ≡ y → cross y ≡ cross x
-told cross x y e = ap cross (sym e)
+case-crosses : {A B : Type 0} (cross : A → B) (x y : A) → x ≡ y → cross y ≡ cross x
+case-crosses cross x y e = ap cross (sym e)
 
-refused :
+refusal-crosses :
     {A B : Type 0} (cross : A → B) (made : ℕ → B) (x y : A) (f : Refusal) (n : ℕ) → cross y ≡ made (numberOf f) → x ≡ y
     → n ≡ numberOf f → made n ≡ cross x
-refused cross made x y f n c e d = ap made d ∙ (sym c ∙ told cross x y e)
+refusal-crosses cross made x y f n c e d = ap made d ∙ (sym c ∙ case-crosses cross x y e)
 
 -- A change: the slot k of an accepted call, or the number n of a refusal.
 abbrev change : ℕ → ℕ → Table → Change
 change n k u = record { refused = n; slot = k; table = u }
 
 pub add-taken : (x : AddAnswer) (s : Slot) (u : Table) → x ≡ added.Taken s → change 0 (s .0) u ≡ crossedAdd x u
-add-taken x s u = told (λ (y : AddAnswer). crossedAdd y u) x (added.Taken s)
+add-taken x s u = case-crosses (λ (y : AddAnswer). crossedAdd y u) x (added.Taken s)
 
 pub add-refused :
     (x : AddAnswer) (f : Refusal) (u : Table) (n : ℕ) → x ≡ added.Refused f → n ≡ numberOf f
     → change n 0 u ≡ crossedAdd x u
-add-refused x f u n = refused (λ (y : AddAnswer). crossedAdd y u) (λ k. change k 0 u) x (added.Refused f) f n refl
+add-refused x f u n =
+    refusal-crosses (λ (y : AddAnswer). crossedAdd y u) (λ k. change k 0 u) x (added.Refused f) f n refl
 
 pub remove-accepted : (k : ℕ) (x : RemoveAnswer) (u : Table) → x ≡ removed.Removed → change 0 k u ≡ crossedRemove k x u
-remove-accepted k x u = told (λ (y : RemoveAnswer). crossedRemove k y u) x removed.Removed
+remove-accepted k x u = case-crosses (λ (y : RemoveAnswer). crossedRemove k y u) x removed.Removed
 
 pub remove-refused :
     (k : ℕ) (x : RemoveAnswer) (f : Refusal) (u : Table) (n : ℕ) → x ≡ removed.Refused f → n ≡ numberOf f
     → change n 0 u ≡ crossedRemove k x u
 remove-refused k x f u n =
-    refused (λ (y : RemoveAnswer). crossedRemove k y u) (λ j. change j 0 u) x (removed.Refused f) f n refl
+    refusal-crosses (λ (y : RemoveAnswer). crossedRemove k y u) (λ j. change j 0 u) x (removed.Refused f) f n refl
 
 -- A loaded table: the number n of a refusal, or 0.
 abbrev handed : ℕ → Table → Loaded
 handed n u = record { refused = n; table = u }
 
 pub load-accepted : (x : LoadAnswer) (u : Table) → x ≡ loaded.Loaded → handed 0 u ≡ crossedLoad x u
-load-accepted x u = told (λ (y : LoadAnswer). crossedLoad y u) x loaded.Loaded
+load-accepted x u = case-crosses (λ (y : LoadAnswer). crossedLoad y u) x loaded.Loaded
 
 pub load-refused :
     (x : LoadAnswer) (f : Refusal) (u : Table) (n : ℕ) → x ≡ loaded.Refused f → n ≡ numberOf f
     → handed n u ≡ crossedLoad x u
-load-refused x f u n = refused (λ (y : LoadAnswer). crossedLoad y u) (λ k. handed k u) x (loaded.Refused f) f n refl
+load-refused x f u n =
+    refusal-crosses (λ (y : LoadAnswer). crossedLoad y u) (λ k. handed k u) x (loaded.Refused f) f n refl
 
 -- A label, a spoiler, a list: any case but a refusal by its equation, a refusal by its number too.
 
 pub label-told : (x y : LabelAnswer) → x ≡ y → crossedLabel y ≡ crossedLabel x
-label-told = told crossedLabel
+label-told = case-crosses crossedLabel
 
 -- The label that crosses with a refusal, and the spoiler.
 abbrev no-label : ℕ → AtomLabel
@@ -88,17 +90,17 @@ no-spoiler n = record { refused = n; spoiled = 0; place = 0; atom = 0 }
 
 pub label-refused :
     (x : LabelAnswer) (f : Refusal) (n : ℕ) → x ≡ label.Refused f → n ≡ numberOf f → no-label n ≡ crossedLabel x
-label-refused x f n = refused crossedLabel no-label x (label.Refused f) f n refl
+label-refused x f n = refusal-crosses crossedLabel no-label x (label.Refused f) f n refl
 
 pub spoiler-told : (x y : SpoilerAnswer) → x ≡ y → crossedSpoiler y ≡ crossedSpoiler x
-spoiler-told = told crossedSpoiler
+spoiler-told = case-crosses crossedSpoiler
 
 pub spoiler-refused :
     (x : SpoilerAnswer) (f : Refusal) (n : ℕ) → x ≡ spoilt.Refused f → n ≡ numberOf f → no-spoiler n ≡ crossedSpoiler x
-spoiler-refused x f n = refused crossedSpoiler no-spoiler x (spoilt.Refused f) f n refl
+spoiler-refused x f n = refusal-crosses crossedSpoiler no-spoiler x (spoilt.Refused f) f n refl
 
 pub list-told : (x y : ListAnswer) → x ≡ y → crossedList y ≡ crossedList x
-list-told = told crossedList
+list-told = case-crosses crossedList
 
 pub list-refused :
     (x : ListAnswer) (f : Refusal) (n m : ℕ) → x ≡ listed.Refused f → n ≡ numberOf f → m ≡ neededBy f
