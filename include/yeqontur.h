@@ -1,6 +1,7 @@
 /*
- * Yeqontur: the rule table behind status labels. docs/GUIDE.md is the guide, bindings/c/guide.c a whole program, and
- * bindings/c/restart.c one that keeps its table in a file.
+ * Yeqontur: the rule table behind status labels, and the deposit checklist above it. docs/GUIDE.md is the guide.
+ * Whole programs: bindings/c/deposit.c has a checklist, bindings/c/guide.c rules of its own, and bindings/c/restart.c
+ * keeps its table in a file.
  *
  * Every call takes any numbers, lists, lengths and bytes of a table or a file, and answers a result or one numbered
  * refusal. A refused call hands the table back as it came, or the empty one where it takes none, and writes no buffer
@@ -25,6 +26,9 @@ extern "C" {
 #define YEQONTUR_SLOTS 256
 #define YEQONTUR_ATOMS 256
 #define YEQONTUR_ENTRIES 8
+
+/* The most files of a checklist. */
+#define YEQONTUR_MOST_FILES 60
 
 /* The most bytes that a saved table has: 256 rules, 22 to a block, are 12 blocks of 512 bytes. */
 #define YEQONTUR_FILE_BYTES 6144
@@ -69,13 +73,17 @@ typedef struct {
  *   10  the atom number is not below 256
  *   11  the buffer is too short (`count` says how many entries, or bytes of a file, are needed)
  *   12  the atom is not in
- *   15  the table handed in is not sound
+ *   15  the table handed in is not sound, or not a checklist where the call asks for one: its rules are then not those
+ *       that the marks of 1 to 60 files give
  *   16  the file's length is not 512 bytes times 1 to 12
  *   17  a block's checksum is wrong: one of its two, which are the A and B of the format; one changed byte, anywhere in
  *       a saved file, is always told so
  *   18  a block's index, block count or record count is wrong
  *   19  unused bytes are not 0, slots do not ascend below 256, or the records are not the rules of a table: one fails 1
  *       to 5 or 7, or has a list that does not ascend
+ *   20  the file number is not on the list: it is 0, or more than the checklist has files
+ *   21  the number of files is not 1 to 60
+ *   22  the file is marked so already, or has no skip to withdraw
  */
 
 typedef struct {
@@ -104,10 +112,19 @@ typedef struct {
     size_t count; /* how many entries or bytes were written, from the start of the buffer; later ones stay */
 } yeqontur_list_answer;
 
+/* That a call was accepted: the answer where a table is changed or handed back and nothing else is to be told. */
 typedef struct {
     uint32_t refused;
-    yeqontur_table table; /* the one that was saved; where the file was refused, the empty one */
-} yeqontur_loaded;
+    yeqontur_table table; /* where refused: as it came, or the empty one where the call takes no table */
+} yeqontur_accepted;
+
+/* The table is the one that was saved. */
+typedef yeqontur_accepted yeqontur_loaded;
+
+typedef struct {
+    uint32_t refused;
+    uint32_t complete; /* 1 or 0; 0 where refused */
+} yeqontur_complete_answer;
 
 /* The table in which every slot is free. */
 yeqontur_table yeqontur_empty(void);
@@ -152,6 +169,39 @@ yeqontur_list_answer yeqontur_save(yeqontur_table table, uint8_t *bytes, size_t 
  * What save wrote gives the saved table, byte for byte; and a file that is accepted is the one that save writes of its
  * table. Asks 16, 17, 18, 19, each of the whole file before the next. */
 yeqontur_loaded yeqontur_load(const uint8_t *bytes, size_t length);
+
+/* A checklist is a table of 1 to 60 files, numbered from 1. Atom 0 is a fact, in slot 0. Each file has three atoms, and
+ * slot i has the rule GOOD(i) < GOOD(i - 1), SENT(i), not SKIPPED(i): a file is good if it was sent, no skip of it
+ * stands, and the files before it are good. "Complete" is the last file's good. A mark is the fact that one of these
+ * files was sent or skipped; it stands in any other slot, and one that yeqontur_add put there counts too. A table with
+ * any other rule, or without one of the frame's, which are those of slots 0 to the last file's, is no checklist (15).
+ * Label, spoiler, justifications and reason say why a checklist is complete or is not; save and load keep it in a file.
+ *
+ * The rules alone say how many files there are. So yeqontur_remove of the last file's slot, where that file has no mark
+ * and is not the only one, leaves a checklist of one file less, which may then be complete; and yeqontur_add of the
+ * next file's rule, where it comes to its slot, makes one of one file more, up to 60. Who counts on a list changes it
+ * by the calls below alone, never by yeqontur_add or yeqontur_remove. */
+
+/* The atoms, for a file on the list: a huge number wraps. GOOD(0) is atom 0. */
+#define YEQONTUR_SENT(i) (3 * (uint32_t)(i) - 2)
+#define YEQONTUR_SKIPPED(i) (3 * (uint32_t)(i) - 1)
+#define YEQONTUR_GOOD(i) (3 * (uint32_t)(i))
+
+/* A checklist of so many files, none of them sent or skipped. Asks 21. */
+yeqontur_accepted yeqontur_checklist_open(uint32_t files);
+
+/* The file was sent; it was skipped; its skip is withdrawn. A skipped file may be sent and a sent one skipped: both
+ * marks then stand. Each asks 15, 20, 22. */
+yeqontur_accepted yeqontur_checklist_sent(yeqontur_table table, uint32_t file);
+yeqontur_accepted yeqontur_checklist_skipped(yeqontur_table table, uint32_t file);
+yeqontur_accepted yeqontur_checklist_withdraw(yeqontur_table table, uint32_t file);
+
+/* The files that are unsent or have a skip standing, ascending; where it is not refused, none exactly if the checklist
+ * is complete. YEQONTUR_MOST_FILES entries are never too short. Asks 15, 11. */
+yeqontur_list_answer yeqontur_checklist_missing(yeqontur_table table, uint32_t *buffer, size_t length);
+
+/* Whether every file was sent and no skip stands. Asks 15. */
+yeqontur_complete_answer yeqontur_checklist_complete(yeqontur_table table);
 
 #ifdef __cplusplus
 }

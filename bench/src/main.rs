@@ -2,6 +2,7 @@
 //!
 //!     bench                     tables of times and ratios, all measured in this run
 //!     bench files               the table of saving and loading alone
+//!     bench checklists          the table of a checklist's calls alone
 //!     bench sheet PROGRAM       lines per second of the sheet program, beside plain Rust's and the slow engine's
 //!     bench plain-sheet         plain Rust's sheet program
 //!     bench slow-sheet          the slow engine's
@@ -10,6 +11,7 @@
 
 mod boundary;
 mod calls;
+mod checklists;
 mod churn;
 mod clingo;
 mod clock;
@@ -24,7 +26,8 @@ mod sheet;
 use std::io;
 use std::process::ExitCode;
 
-const USAGE: &str = "bench | bench files | bench sheet PROGRAM | bench plain-sheet
+const USAGE: &str =
+    "bench | bench files | bench checklists | bench sheet PROGRAM | bench plain-sheet
     | bench slow-sheet | bench compare SEED COUNT | bench replay SEED COUNT";
 
 fn code(good: bool) -> ExitCode {
@@ -47,6 +50,12 @@ fn main() -> ExitCode {
             phases::bench();
             println!();
             files::bench();
+            println!();
+            checklists::bench();
+            ExitCode::SUCCESS
+        }
+        ["checklists"] => {
+            checklists::bench();
             ExitCode::SUCCESS
         }
         ["files"] => {

@@ -46,9 +46,13 @@ SIZE(yeqontur_list_answer, 16);
 AT(yeqontur_list_answer, refused, 0);
 AT(yeqontur_list_answer, count, 8);
 
-SIZE(yeqontur_loaded, 7172);
-AT(yeqontur_loaded, refused, 0);
-AT(yeqontur_loaded, table, 4);
+SIZE(yeqontur_accepted, 7172);
+AT(yeqontur_accepted, refused, 0);
+AT(yeqontur_accepted, table, 4);
+
+SIZE(yeqontur_complete_answer, 8);
+AT(yeqontur_complete_answer, refused, 0);
+AT(yeqontur_complete_answer, complete, 4);
 
 /* A rule of the tables below: at most one entry in each list, -1 for none. */
 typedef struct {

@@ -38,11 +38,14 @@ static const char *const words[] = {
     "the atom is not in",
     "the line has not the form of a command",
     "the line is longer than 120 bytes",
-    "the table handed in is not sound",
+    "the table handed in is not sound, or not a checklist where the call asks for one",
     "the file's length is not 512 bytes times 1 to 12",
     "a block's checksum is wrong",
     "a block's index, block count or record count is wrong",
     "unused bytes are not 0, slots do not ascend below 256, or the records are not the rules of a table",
+    "the file number is not on the list",
+    "the number of files is not 1 to 60",
+    "the file is marked so already, or has no skip to withdraw",
 };
 
 static void print_name(uint32_t atom) {

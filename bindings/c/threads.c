@@ -79,7 +79,21 @@ static void removal(work *w) {
     w->right &= yeqontur_label(w->table, w->number + 10).state == 1;
 }
 
-/* Every call, on the longest chain. */
+/* Every call of a checklist, on the longest one. */
+static void checklist(work *w) {
+    yeqontur_accepted answer = yeqontur_checklist_open(YEQONTUR_MOST_FILES);
+    for (uint32_t i = 1; i <= YEQONTUR_MOST_FILES; i++) {
+        w->right &= answer.refused == 0;
+        answer = yeqontur_checklist_sent(answer.table, i);
+    }
+    answer = yeqontur_checklist_skipped(answer.table, w->number + 1);
+    yeqontur_list_answer missing = yeqontur_checklist_missing(answer.table, w->buffer, YEQONTUR_MOST_FILES);
+    w->right &= missing.refused == 0 && missing.count == 1 && w->buffer[0] == w->number + 1;
+    answer = yeqontur_checklist_withdraw(answer.table, w->number + 1);
+    w->right &= answer.refused == 0 && yeqontur_checklist_complete(answer.table).complete == 1;
+}
+
+/* Every call, on the longest chain and the longest checklist. */
 static void *run(void *given) {
     work *w = given;
     const int negations = w->number % 2 == 1;
@@ -95,6 +109,7 @@ static void *run(void *given) {
     list(w, yeqontur_reason, LENGTH - 2, negations ? 1 : LENGTH - 1, negations ? LENGTH - 2 : 0);
     file(w);
     removal(w);
+    checklist(w);
     return NULL;
 }
 

@@ -1,6 +1,7 @@
 //! What is proved against the slow engine.
 //!
 //!     compare calls SEED COUNT                COUNT random calls on the library
+//!     compare checklists SEED COUNT           COUNT random calls, most of them on a checklist
 //!     compare files SEED COUNT                COUNT random files loaded, COUNT random tables saved by the library
 //!     compare sheets PROGRAM SEED COUNT       COUNT random sheets through the sheet program
 //!     compare programs SEED COUNT SAVE LOAD   COUNT sheets through the saving, COUNT files through the loading program
@@ -9,10 +10,12 @@
 //!     compare broken PROGRAM..                reads and writes that fail, on each program that answers a sheet
 //!     compare broken-files SAVE LOAD          reads and writes that fail, on the programs that save and load
 
+mod both;
 mod boundary;
 mod broken;
 mod broken_files;
 mod calls;
+mod checklists;
 mod cut;
 mod files;
 mod program;
@@ -23,14 +26,17 @@ mod stream;
 use std::process::ExitCode;
 
 const USAGE: &str =
-    "compare calls SEED COUNT | compare files SEED COUNT | compare sheets PROGRAM SEED COUNT
-    | compare programs SEED COUNT SAVE LOAD | compare stream PROGRAM | compare cut SEED COUNT PROGRAM..
-    | compare broken PROGRAM.. | compare broken-files SAVE LOAD";
+    "compare calls SEED COUNT | compare checklists SEED COUNT | compare files SEED COUNT
+    | compare sheets PROGRAM SEED COUNT | compare programs SEED COUNT SAVE LOAD | compare stream PROGRAM
+    | compare cut SEED COUNT PROGRAM.. | compare broken PROGRAM.. | compare broken-files SAVE LOAD";
 
 /// Runs what the words name and answers how many comparisons failed; `None` if they name nothing.
 fn obey(words: &[&str]) -> Option<usize> {
     match words {
         ["calls", seed, count] => Some(calls::compare(seed.parse().ok()?, count.parse().ok()?)),
+        ["checklists", seed, count] => {
+            Some(checklists::compare(seed.parse().ok()?, count.parse().ok()?))
+        }
         ["sheets", program, seed, count] => Some(sheets::compare(
             program,
             seed.parse().ok()?,

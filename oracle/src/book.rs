@@ -1,8 +1,12 @@
 //! The plain book: pages of rules, fed the calls' arguments as they came.
 //!
 //! It asks its questions in its own words and shares with the calls only what a rule, a loop
-//! through a negation and a file are, so that a list of calls can be held against it.
+//! through a negation, a file and the frame of a checklist are, so that a list of calls can be
+//! held against it.
 
+mod checklist;
+
+use crate::calls::{Answer, Call};
 use crate::file;
 use crate::limits::{ATOMS, ENTRIES, SLOTS};
 use crate::loops::has_loop_through_negation;
@@ -105,6 +109,27 @@ impl Book {
             }
         }
     }
+
+    /// What the book answers to a call that changes a table, once it has made it; `None` for the
+    /// other calls, which it does not have.
+    pub fn make(&mut self, call: &Call) -> Option<Result<Answer, u32>> {
+        let answer = match call {
+            Call::Add {
+                head,
+                positives,
+                negatives,
+            } => return Some(self.add(*head, positives, negatives).map(Answer::Slot)),
+            Call::Remove { slot } => self.remove(*slot),
+            Call::Load { bytes } => self.load(bytes),
+            Call::Open { files } => self.open(*files),
+            Call::FileSent { file } => self.file_sent(*file),
+            Call::FileSkipped { file } => self.file_skipped(*file),
+            Call::SkipWithdrawn { file } => self.skip_withdrawn(*file),
+            _ => return None,
+        };
+        Some(answer.map(|()| Answer::Accepted))
+    }
+
     /// Puts the rule of each record on the page of its slot, all other pages being free, and
     /// answers that it was accepted; or answers the number of the first "no", and every page
     /// is free. What the pages held before plays no part.

@@ -1,6 +1,7 @@
-//! The calls over a raw table. A refused call leaves the table and the lent buffer as they are; loading takes no table,
-//! and refused it hands back the empty one.
+//! The calls over a raw table; those of a checklist are in checklist.rs. A refused call leaves the table and the lent
+//! buffer as they are; loading and opening a checklist take no table, and refused they hand back the empty one.
 
+use crate::checklist;
 use crate::file;
 use crate::labels::{Label, Labelled};
 use crate::limits::{ATOMS, SLOTS};
@@ -19,7 +20,7 @@ pub enum Validity {
 }
 
 /// Question 15.
-fn ask_sound(table: &RawTable) -> Result<Labelled, Refusal> {
+pub(crate) fn ask_sound(table: &RawTable) -> Result<Labelled, Refusal> {
     sound_content(table).ok_or(Refusal::TableUnsound)
 }
 
@@ -42,7 +43,7 @@ fn ask_atom(table: &RawTable, atom: u32) -> Result<Labelled, Refusal> {
 }
 
 /// Question 11; then the list is written from the start of the buffer and its count answered.
-fn lend<T: Copy>(list: &[T], buffer: &mut [T]) -> Result<u32, Refusal> {
+pub(crate) fn lend<T: Copy>(list: &[T], buffer: &mut [T]) -> Result<u32, Refusal> {
     let count = list.len() as u32;
     let room = buffer
         .get_mut(..list.len())
@@ -170,6 +171,20 @@ pub enum Call {
     Load {
         bytes: Vec<u8>,
     },
+    Open {
+        files: u32,
+    },
+    FileSent {
+        file: u32,
+    },
+    FileSkipped {
+        file: u32,
+    },
+    SkipWithdrawn {
+        file: u32,
+    },
+    Missing,
+    Complete,
 }
 
 /// What is lent to a call: a buffer of numbers, and one of bytes for a file.
@@ -187,20 +202,54 @@ pub enum Answer {
     Label(Label),
     Spoiler(Validity),
     Count(u32),
+    Complete(bool),
+}
+
+/// The answer of a call that has no other to give.
+fn accepted(answer: Result<(), Refusal>) -> Result<Answer, Refusal> {
+    answer.map(|()| Answer::Accepted)
 }
 
 impl Call {
+    /// What the call is called where calls are counted.
+    pub fn name(&self) -> &'static str {
+        match self {
+            Call::Add { .. } => "add",
+            Call::Remove { .. } => "remove",
+            Call::Label { .. } => "label",
+            Call::Spoiler { .. } => "spoiler",
+            Call::Justifications { .. } => "justifications",
+            Call::Consequences { .. } => "consequences",
+            Call::Repercussions { .. } => "repercussions",
+            Call::Reason { .. } => "reason",
+            Call::Save => "save",
+            Call::Load { .. } => "load",
+            Call::Open { .. } => "open",
+            Call::FileSent { .. } => "file sent",
+            Call::FileSkipped { .. } => "file skipped",
+            Call::SkipWithdrawn { .. } => "skip withdrawn",
+            Call::Missing => "missing",
+            Call::Complete => "complete",
+        }
+    }
+
     /// Makes the call. It leaves a buffer alone that it doesn't ask for. The table is the one
     /// that is handed back, where one is.
     pub fn make(&self, table: &mut RawTable, lent: &mut Lent) -> Result<Answer, Refusal> {
         let buffer = &mut lent.numbers;
+        let mut handed_back = |(answer, after)| {
+            *table = after;
+            accepted(answer)
+        };
         match self {
+            Call::Load { bytes } => handed_back(load(bytes)),
+            Call::Open { files } => handed_back(checklist::open(*files)),
             Call::Add {
                 head,
                 positives,
                 negatives,
             } => add(table, *head, positives, negatives).map(Answer::Slot),
-            Call::Remove { slot } => remove(table, *slot).map(|()| Answer::Accepted),
+            Call::Remove { slot } => accepted(remove(table, *slot)),
             Call::Label { atom } => label(table, *atom).map(Answer::Label),
             Call::Spoiler { slot } => spoiler(table, *slot).map(Answer::Spoiler),
             Call::Justifications { atom } => {
@@ -210,11 +259,11 @@ impl Call {
             Call::Repercussions { atom } => repercussions(table, *atom, buffer).map(Answer::Count),
             Call::Reason { atom } => reason(table, *atom, buffer).map(Answer::Count),
             Call::Save => save(table, &mut lent.bytes).map(Answer::Count),
-            Call::Load { bytes } => {
-                let (answer, handed_back) = load(bytes);
-                *table = handed_back;
-                answer.map(|()| Answer::Accepted)
-            }
+            Call::FileSent { file } => accepted(checklist::file_sent(table, *file)),
+            Call::FileSkipped { file } => accepted(checklist::file_skipped(table, *file)),
+            Call::SkipWithdrawn { file } => accepted(checklist::skip_withdrawn(table, *file)),
+            Call::Missing => checklist::missing(table, buffer).map(Answer::Count),
+            Call::Complete => checklist::complete(table).map(Answer::Complete),
         }
     }
 }

@@ -9,6 +9,9 @@ pub const ATOMS: usize = 256;
 /// How many entries both lists of a rule have together at most.
 pub const ENTRIES: usize = 8;
 
+/// How many files a checklist has at most.
+pub const FILES: u32 = 60;
+
 /// How many bytes a line of a sheet has at most, its newline not counted.
 pub const LINE_BYTES: usize = 120;
 

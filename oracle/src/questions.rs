@@ -16,13 +16,20 @@ pub enum Refusal {
     SlotTooLarge,
     SlotFree,
     AtomTooLarge,
-    BufferTooShort { needed: u32 },
+    BufferTooShort {
+        needed: u32,
+    },
     AtomNotIn,
+    /// Not sound; or, of a call of a checklist, with rules that are none.
     TableUnsound,
     FileLength,
     FileSums,
     FileCounts,
     FileRecords,
+    FileNotListed,
+    FileCount,
+    /// Sending or skipping what stands already, or withdrawing what does not stand.
+    MarkUnchanged,
 }
 
 impl Refusal {
@@ -46,6 +53,9 @@ impl Refusal {
             Refusal::FileSums => 17,
             Refusal::FileCounts => 18,
             Refusal::FileRecords => 19,
+            Refusal::FileNotListed => 20,
+            Refusal::FileCount => 21,
+            Refusal::MarkUnchanged => 22,
         }
     }
 

@@ -2,13 +2,14 @@
 //!
 //! 0 and a slot is a removal. 1, a head, how many positives, how many negatives, then these: an addition. 2 and two
 //! numbers: a file is loaded, the bytes from the first number on and below the second, of the bytes that come beside
-//! the list. Any other number ends the list, and so does a call that is cut short, one whose file does not lie within
-//! those bytes, or one for whose answer there is no room.
+//! the list. 3 and how many files: a checklist is opened. 4, 5 or 6 and a file: it is sent, it is skipped, its skip is
+//! withdrawn. Any other number ends the list, and so does a call that is cut short, a load from beyond those bytes, or
+//! a call for whose answer there is no room.
 
 use crate::book::Book;
 
-/// The answer of an accepted removal or load. A refusal's is this and its number; an addition's is its slot, which is
-/// smaller.
+/// The answer of an accepted call that is no addition. A refusal's is this and its number; an addition's is its slot,
+/// which is smaller.
 const ACCEPTED: u32 = 65_536;
 
 /// What is left of a list of numbers, and the bytes beside it.
@@ -47,6 +48,10 @@ impl<'a> Rest<'a> {
                 let file = self.files.get(from as usize..to as usize)?;
                 book.load(file).map(|()| ACCEPTED)
             }
+            3 => book.open(self.number()?).map(|()| ACCEPTED),
+            4 => book.file_sent(self.number()?).map(|()| ACCEPTED),
+            5 => book.file_skipped(self.number()?).map(|()| ACCEPTED),
+            6 => book.skip_withdrawn(self.number()?).map(|()| ACCEPTED),
             _ => return None,
         };
         Some(answer.unwrap_or_else(|refusal| ACCEPTED + refusal))

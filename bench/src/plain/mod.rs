@@ -1,8 +1,9 @@
-//! The engine's algorithm, the calls that save and load, and the sheet program in plain Rust, for the ratio: the same
-//! passes over the same arrays, no proof.
+//! The engine's algorithm, the calls that save and load, those of a checklist, and the sheet program in plain Rust, for
+//! the ratio: the same passes over the same arrays, no proof.
 
 mod blocks;
 mod calls;
+pub mod checklist;
 mod labels;
 mod lines;
 mod load;

@@ -4,6 +4,8 @@
 //! a saved table in a file that a program which is ended does not leave half written. What holds after a power failure
 //! is said at [`Table::save_to`].
 //!
+//! A screen that shows whether all files of a folder were sent needs no rules of its own: that is [`Checklist`].
+//!
 //! ```
 //! use yeqontur::{Label, Table};
 //!
@@ -14,6 +16,7 @@
 //! # Ok::<(), yeqontur::Refusal>(())
 //! ```
 
+mod checklist;
 mod disk;
 mod label;
 mod layout;
@@ -23,6 +26,7 @@ mod rule;
 mod table;
 mod why;
 
+pub use checklist::{Atoms, Checklist, FileState};
 pub use disk::LoadError;
 pub use label::Label;
 pub use raw::List;

@@ -10,6 +10,9 @@ pub const SLOTS: usize = 256;
 pub const ATOMS: usize = 256;
 pub const ENTRIES: usize = 8;
 
+/// The most files of a checklist.
+pub const MOST_FILES: usize = 60;
+
 /// The most bytes that a saved table has: 256 rules, 22 to a block, are 12 blocks of 512 bytes.
 pub const FILE_BYTES: usize = 6144;
 
@@ -96,11 +99,20 @@ pub struct ListAnswer {
     pub count: usize,
 }
 
-/// `refused` is 0, or the refusal's number and the table the empty one.
+/// That a call was accepted, of one that has nothing else to tell. Refused, the table is as it came, or the empty one
+/// where the call takes none.
 #[repr(C)]
-pub struct Loaded {
+pub struct Accepted {
     pub refused: u32,
     pub table: Table,
+}
+
+/// `complete` is 1 or 0; 0 where refused.
+#[repr(C)]
+#[derive(Clone, Copy, PartialEq, Eq, Debug)]
+pub struct Completeness {
+    pub refused: u32,
+    pub complete: u32,
 }
 
 extern "C" {
@@ -136,7 +148,13 @@ extern "C" {
     ) -> ListAnswer;
     fn yeqontur_reason(table: Table, atom: u32, buffer: *mut u32, length: usize) -> ListAnswer;
     fn yeqontur_save(table: Table, bytes: *mut u8, length: usize) -> ListAnswer;
-    fn yeqontur_load(bytes: *const u8, length: usize) -> Loaded;
+    fn yeqontur_load(bytes: *const u8, length: usize) -> Accepted;
+    fn yeqontur_checklist_open(files: u32) -> Accepted;
+    fn yeqontur_checklist_sent(table: Table, file: u32) -> Accepted;
+    fn yeqontur_checklist_skipped(table: Table, file: u32) -> Accepted;
+    fn yeqontur_checklist_withdraw(table: Table, file: u32) -> Accepted;
+    fn yeqontur_checklist_missing(table: Table, buffer: *mut u32, length: usize) -> ListAnswer;
+    fn yeqontur_checklist_complete(table: Table) -> Completeness;
 }
 
 #[inline(never)]
@@ -206,7 +224,43 @@ pub fn save(table: &Table, bytes: &mut [u8]) -> ListAnswer {
 }
 
 #[inline(never)]
-pub fn load(bytes: &[u8]) -> Loaded {
+pub fn load(bytes: &[u8]) -> Accepted {
     // SAFETY: the pointer has as many bytes behind it as the length says.
     unsafe { yeqontur_load(bytes.as_ptr(), bytes.len()) }
+}
+
+#[inline(never)]
+pub fn checklist_open(files: u32) -> Accepted {
+    // SAFETY: a number by value.
+    unsafe { yeqontur_checklist_open(files) }
+}
+
+#[inline(never)]
+pub fn checklist_sent(table: &Table, file: u32) -> Accepted {
+    // SAFETY: numbers by value.
+    unsafe { yeqontur_checklist_sent(*table, file) }
+}
+
+#[inline(never)]
+pub fn checklist_skipped(table: &Table, file: u32) -> Accepted {
+    // SAFETY: numbers by value.
+    unsafe { yeqontur_checklist_skipped(*table, file) }
+}
+
+#[inline(never)]
+pub fn checklist_withdraw(table: &Table, file: u32) -> Accepted {
+    // SAFETY: numbers by value.
+    unsafe { yeqontur_checklist_withdraw(*table, file) }
+}
+
+#[inline(never)]
+pub fn checklist_missing(table: &Table, buffer: &mut [u32]) -> ListAnswer {
+    // SAFETY: the buffer has as many entries as the length says, and is lent to this call alone.
+    unsafe { yeqontur_checklist_missing(*table, buffer.as_mut_ptr(), buffer.len()) }
+}
+
+#[inline(never)]
+pub fn checklist_complete(table: &Table) -> Completeness {
+    // SAFETY: numbers by value.
+    unsafe { yeqontur_checklist_complete(*table) }
 }

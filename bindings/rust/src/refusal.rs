@@ -21,7 +21,8 @@ pub enum Refusal {
         needed: usize,
     },
     AtomNotIn,
-    /// Also of a table in which a rule's list does not ascend.
+    /// Also of a table in which a rule's list does not ascend, and of a sound one that is no checklist where one is
+    /// asked for.
     TableUnsound,
     /// Of a file, as the next three are: it is not 1 to 12 blocks long.
     WrongLength,
@@ -33,11 +34,17 @@ pub enum Refusal {
     /// Every checksum, index and count is right, but the records are not the rules of a table by ascending slots, or a
     /// byte that is not used is not 0. Likely another version or another program wrote the file.
     WrongRecord,
+    /// Of a checklist: the file number is 0, or more than it has files.
+    FileNotListed,
+    /// A checklist is opened for 1 to 60 files.
+    WrongFileCount,
+    /// Sent or skipped already, or no skip to withdraw: the call would change nothing.
+    MarkUnchanged,
 }
 
 impl Refusal {
     /// Every refusal by number; of 11 the one that needs no entry stands for all.
-    pub const ALL: [Refusal; 17] = [
+    pub const ALL: [Refusal; 20] = [
         Refusal::HeadTooLarge,
         Refusal::TooManyEntries,
         Refusal::EntryTooLarge,
@@ -55,6 +62,9 @@ impl Refusal {
         Refusal::WrongChecksum,
         Refusal::WrongBlock,
         Refusal::WrongRecord,
+        Refusal::FileNotListed,
+        Refusal::WrongFileCount,
+        Refusal::MarkUnchanged,
     ];
 
     /// The refusal of a number, which 0 is not. `needed` goes with 11.
@@ -148,8 +158,8 @@ impl Refusal {
             ),
             Refusal::TableUnsound => (
                 15,
-                "the table handed in is not sound",
-                "start from the empty table and add the rules again: this library does not write such bytes",
+                "the table handed in is not sound, or not a checklist where the call asks for one",
+                "begin again, or load a copy: the bytes are not this library's, or a checklist's rules were changed",
             ),
             Refusal::WrongLength => (
                 16,
@@ -170,6 +180,21 @@ impl Refusal {
                 19,
                 "unused bytes are not 0, slots do not ascend below 256, or the records are not the rules of a table",
                 "likely another version or program wrote it: keep it aside, and load it with the one that did",
+            ),
+            Refusal::FileNotListed => (
+                20,
+                "the file number is not on the list",
+                "number the files from 1, in the order in which the checklist was opened for them",
+            ),
+            Refusal::WrongFileCount => (
+                21,
+                "the number of files is not 1 to 60",
+                "give each folder, or each 60 files, a checklist of its own; for no file open none",
+            ),
+            Refusal::MarkUnchanged => (
+                22,
+                "the file is marked so already, or has no skip to withdraw",
+                "nothing to do: the checklist says it already",
             ),
         }
     }

@@ -6,10 +6,10 @@ use crate::{Label, Refusal, Validity};
 /// A table of rules with the labels of their atoms. It is always sound: it starts empty or as it was saved, calls keep
 /// it sound, and raw fields become one only if they are sound. It is a few kilobytes, so a copy is asked for by name.
 #[derive(Clone, PartialEq, Eq, Hash, Debug)]
-pub struct Table(raw::Table);
+pub struct Table(pub(crate) raw::Table);
 
 /// The refusal that the numbers say, or the value.
-fn answered<T>(refused: u32, needed: usize, value: T) -> Result<T, Refusal> {
+pub(crate) fn answered<T>(refused: u32, needed: usize, value: T) -> Result<T, Refusal> {
     match Refusal::from_number(refused, needed) {
         Some(refusal) => Err(refusal),
         None => Ok(value),

@@ -1,4 +1,4 @@
-//! What the guide shows is what stands in the files, and what its commands print.
+//! What the guide and the README show is what stands in the files, and what the guide's commands print.
 
 use std::path::PathBuf;
 use std::process::Command;
@@ -23,9 +23,10 @@ fn blocks(kind: &str) -> Vec<String> {
 
 #[test]
 fn the_programs_of_the_guide_are_the_files() {
-    let rust = ["guide", "restart"].map(|name| file(&format!("bindings/rust/examples/{name}.rs")));
+    let rust = ["checklist", "guide", "restart"];
+    let rust = rust.map(|name| file(&format!("bindings/rust/examples/{name}.rs")));
     assert_eq!(blocks("rust"), rust);
-    let c = ["guide", "restart"].map(|name| file(&format!("bindings/c/{name}.c")));
+    let c = ["deposit", "guide", "restart"].map(|name| file(&format!("bindings/c/{name}.c")));
     assert_eq!(blocks("c"), c);
 }
 
@@ -35,7 +36,8 @@ fn the_programs_of_the_guide_are_the_files() {
 fn the_commands_of_the_guide_print_what_it_says() {
     let shown = blocks("text");
     let commands = blocks("sh");
-    assert_eq!((shown.len(), commands.len()), (2, 5));
+    assert_eq!((shown.len(), commands.len()), (3, 7));
+    assert_eq!(shown[0], file("examples/checklist.out"));
     assert_eq!(commands[0], "rt staticlib yeqontur\n");
     for (i, command) in commands[1..].iter().enumerate() {
         let mut shell = Command::new("sh");
@@ -46,6 +48,15 @@ fn the_commands_of_the_guide_print_what_it_says() {
         let printed = String::from_utf8_lossy(&ran.stdout);
         assert_eq!(printed, shown[i / 2], "{command}");
     }
+}
+
+/// The lines in which the two clients differ.
+#[test]
+fn the_readme_quotes_the_story() {
+    let story = file("examples/checklist.out");
+    let lines = story.lines().skip(3).take(4);
+    let quoted: String = lines.map(|line| format!("    {line}\n")).collect();
+    assert!(file("README.md").contains(&format!("prints:\n\n{quoted}\n")));
 }
 
 /// The program with a file has those of a file.
@@ -64,14 +75,17 @@ fn guide_header_and_c_programs_have_the_words_of_each_refusal() {
         );
         let line = format!("    \"{words}\",\n");
         assert!(program.contains(&line), "{number}");
-        assert_eq!(with_a_file.contains(&line), number >= 16, "{number}");
+        let of_a_file = (16..=19).contains(&number);
+        assert_eq!(with_a_file.contains(&line), of_a_file, "{number}");
     }
 }
 
 #[test]
 fn a_refusal_prints_its_number_its_words_and_what_to_do() {
     let numbers = Refusal::ALL.map(Refusal::number);
-    let calls = [1, 2, 3, 4, 5, 6, 7, 8, 9, 10, 11, 12, 15, 16, 17, 18, 19];
+    let calls = [
+        1, 2, 3, 4, 5, 6, 7, 8, 9, 10, 11, 12, 15, 16, 17, 18, 19, 20, 21, 22,
+    ];
     assert_eq!(numbers, calls);
     assert_eq!(
         Refusal::TableFull.to_string(),

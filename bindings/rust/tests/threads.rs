@@ -1,7 +1,8 @@
-//! Threads with small stacks, as the guide claims: 128 KB for calls, more for the tree of the deepest table.
+//! Threads with small stacks, as the guide claims: 128 KB for calls (160 KB for those of a checklist in a debug build),
+//! more for the tree of the deepest table.
 
 use std::thread::{Builder, JoinHandle};
-use yeqontur::{Label, Table};
+use yeqontur::{Checklist, Label, Table};
 
 /// The longest chain: each atom from the one before, atom 0 a fact.
 fn chain() -> Table {
@@ -36,6 +37,18 @@ fn calls() {
     assert_eq!(table.labels().filter(|(_, l)| l.is_in()).count(), 0);
 }
 
+/// Every call of the longest checklist.
+fn checklist_calls() {
+    let mut checklist = Checklist::open(60).expect("60 files");
+    for file in 1..=60 {
+        assert_eq!(checklist.sent(file), Ok(()));
+    }
+    assert_eq!(checklist.skipped(60), Ok(()));
+    assert_eq!(checklist.missing(), [60]);
+    assert_eq!(checklist.withdraw(60), Ok(()));
+    assert!(checklist.complete());
+}
+
 fn tree() {
     let why = chain().why(255).expect("a tree");
     assert_eq!(why.atom, 255);
@@ -50,6 +63,8 @@ fn joined(threads: Vec<JoinHandle<()>>) {
 #[test]
 fn calls_from_8_threads_of_128_kb() {
     joined((0..8).map(|_| with_stack(128 << 10, calls)).collect());
+    let kb = if cfg!(debug_assertions) { 160 } else { 128 };
+    joined(vec![with_stack(kb << 10, checklist_calls)]);
 }
 
 #[test]

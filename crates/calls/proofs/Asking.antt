@@ -30,7 +30,7 @@ use Rattle.calls.specs.declared.AskedSlot.{AskedSlot}
 use Rattle.calls.specs.declared.AskedSlot.the-variants as slot
 use Rattle.calls.specs.declared.LabelAnswer.the-variants as label
 use Rattle.calls.specs.declared.ListAnswer.the-variants as listed
-use Rattle.calls.specs.declared.RemoveAnswer.the-variants as removed
+use Rattle.calls.specs.declared.ChangeAnswer.the-variants as changed
 use Rattle.calls.specs.declared.SpoilerAnswer.the-variants as spoilt
 use Rattle.calls.specs.Asking.{AskEnds, AskSlotEnds, unsound, refused, passed}
 use Rattle.calls.specs.Contracts.{held, LabelEnds, ListEnds, RemoveEnds, SpoilerEnds}
@@ -145,10 +145,10 @@ module _ (t : Table) (s : ℕ) (r : AskedSlot) (E : AskSlotEnds t s r) where
 
   -- One was answered no: so ends a call that starts with these questions.
   module _ (f : Refusal) (e : r ≡ slot.Refused f) where
-    pub remove-refused : RemoveEnds t s (removed.Refused f) t
+    pub remove-refused : RemoveEnds t s (changed.Refused f) t
     remove-refused = go f (subst (AskSlotEnds t s) e E)
       where
-        go : (f : Refusal) → AskSlotEnds t s (slot.Refused f) → RemoveEnds t s (removed.Refused f) t
+        go : (f : Refusal) → AskSlotEnds t s (slot.Refused f) → RemoveEnds t s (changed.Refused f) t
         go f (unsound n) = contract.unsound n
         go f (refused g S q) = contract.refused g S q
 

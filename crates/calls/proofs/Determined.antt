@@ -30,16 +30,14 @@ use Rattle.calls.specs.declared.Refusal.{Refusal}
 use Rattle.calls.specs.declared.Refusal.the-variants.{Buffer}
 use Rattle.calls.specs.declared.AddAnswer.{AddAnswer}
 use Rattle.calls.specs.declared.AddAnswer.the-variants as added
-use Rattle.calls.specs.declared.RemoveAnswer.{RemoveAnswer}
-use Rattle.calls.specs.declared.RemoveAnswer.the-variants as removed
+use Rattle.calls.specs.declared.ChangeAnswer.{ChangeAnswer}
+use Rattle.calls.specs.declared.ChangeAnswer.the-variants as changed
 use Rattle.calls.specs.declared.LabelAnswer.{LabelAnswer}
 use Rattle.calls.specs.declared.LabelAnswer.the-variants as label
 use Rattle.calls.specs.declared.SpoilerAnswer.{SpoilerAnswer}
 use Rattle.calls.specs.declared.SpoilerAnswer.the-variants as spoilt
 use Rattle.calls.specs.declared.ListAnswer.{ListAnswer}
 use Rattle.calls.specs.declared.ListAnswer.the-variants as listed
-use Rattle.calls.specs.declared.LoadAnswer.{LoadAnswer}
-use Rattle.calls.specs.declared.LoadAnswer.the-variants as loaded
 use Rattle.blocks.specs.Questions.{file-questions}
 use Rattle.calls.specs.Answers.{numberOf, tellLabel, tellSpoiler}
 use Rattle.calls.specs.Contracts as contract
@@ -50,7 +48,7 @@ use Rattle.calls.proofs.OneTable.{table-unique, same-label}
 use Rattle.calls.proofs.Refusals.{refusalOf, refusal-number}
 
 -- A refusal by questions that do not ask 11 is determined by its number.
-refusal-unique :
+pub refusal-unique :
     (qs : List Question) → every (λ k. not (eqb k 11)) (map (λ q. q .number) qs) ≡ true → (f g : Refusal)
     → first-no qs ≡ some (numberOf f) → first-no qs ≡ some (numberOf g) → f ≡ g
 refusal-unique qs t f g d e =
@@ -63,7 +61,7 @@ refusal-unique qs t f g d e =
         (λ k. not (eqb k 11)) (map (λ q. q .number) qs) t (numberOf h) (first-no-asked qs (numberOf h) u)))
 
 -- Refused and accepted at once cannot be.
-both : (qs : List Question) (k : ℕ) → first-no qs ≡ some k → first-no qs ≡ none → ⊥
+pub both : (qs : List Question) (k : ℕ) → first-no qs ≡ some k → first-no qs ≡ none → ⊥
 both qs k d e = Option·none-ne-some k (sym e ∙ d)
 
 -- The admissible model of a sound table's rules is one set.
@@ -91,7 +89,7 @@ add-determined t r x y u v (contract.accepted s w S d l Z h U) (contract.accepte
     (ap added.Taken slot, table-unique w z Z Y U W rules)
 
 pub remove-determined :
-    (t : Table) (s : ℕ) (x y : RemoveAnswer) (u v : Table) → RemoveEnds t s x u → RemoveEnds t s y v
+    (t : Table) (s : ℕ) (x y : ChangeAnswer) (u v : Table) → RemoveEnds t s x u → RemoveEnds t s y v
     → (x ≡ y) × (u ≡ v)
 unfolding every
 remove-determined t s x y u v (contract.unsound n) (contract.unsound m) = (refl, refl)
@@ -99,7 +97,7 @@ remove-determined t s x y u v (contract.unsound n) (contract.refused g S e) = ab
 remove-determined t s x y u v (contract.unsound n) (contract.accepted w S e Z h U) = absurd (n S)
 remove-determined t s x y u v (contract.refused f S d) (contract.unsound n) = absurd (n S)
 remove-determined t s x y u v (contract.refused f S d) (contract.refused g T e) =
-    (ap removed.Refused (refusal-unique (slot-questions document (held t) s) refl f g d e), refl)
+    (ap changed.Refused (refusal-unique (slot-questions document (held t) s) refl f g d e), refl)
 remove-determined t s x y u v (contract.refused f S d) (contract.accepted w T e Z h U) = absurd (both _ _ d e)
 remove-determined t s x y u v (contract.accepted w S d Z h U) (contract.unsound n) = absurd (n S)
 remove-determined t s x y u v (contract.accepted w S d Z h U) (contract.refused g T e) = absurd (both _ _ e d)
@@ -207,10 +205,10 @@ unfolding every
 save-determined t = list-determined [] refl _ (λ M xs ys X Y. X ∙ sym Y) t
 
 pub load-determined :
-    (bytes : List ℕ) (x y : LoadAnswer) (u v : Table) → LoadEnds bytes x u → LoadEnds bytes y v → (x ≡ y) × (u ≡ v)
+    (bytes : List ℕ) (x y : ChangeAnswer) (u v : Table) → LoadEnds bytes x u → LoadEnds bytes y v → (x ≡ y) × (u ≡ v)
 unfolding every
 load-determined bytes x y u v (contract.refused f d) (contract.refused g e) =
-    (ap loaded.Refused (refusal-unique (file-questions document bytes) refl f g d e), refl)
+    (ap changed.Refused (refusal-unique (file-questions document bytes) refl f g d e), refl)
 load-determined bytes x y u v (contract.refused f d) (contract.accepted w e Z h U) = absurd (both _ _ d e)
 load-determined bytes x y u v (contract.accepted w d Z h U) (contract.refused g e) = absurd (both _ _ e d)
 load-determined bytes x y u v (contract.accepted w d Z h U) (contract.accepted z e Y i W) =

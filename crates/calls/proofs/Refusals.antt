@@ -8,14 +8,16 @@ use lib.ListN.{getD}
 use Rattle.calls.specs.declared.Refusal.{Refusal}
 use Rattle.calls.specs.declared.Refusal.the-variants.{Head, Entries, Entry, Repeated, Same, Full, NegativeCycle}
 use Rattle.calls.specs.declared.Refusal.the-variants.{SlotNumber, Free, AtomNumber, Buffer, NotIn, Unsound}
-use Rattle.calls.specs.declared.Refusal.the-variants.{FileLength, Sums, BlockNumbers, Record}
+use Rattle.calls.specs.declared.Refusal.the-variants.{FileLength, Sums, BlockNumbers, Record, FileNumber}
+use Rattle.calls.specs.declared.Refusal.the-variants.{FileCount, Mark}
 use Rattle.calls.specs.Answers.{numberOf, neededBy}
 
--- The refusals in the order of their numbers; 0, 11, 13, 14 and those past 19 have none of their own here.
+-- The refusals in the order of their numbers; 0, 11, 13, 14 and those past 22 have none of their own here.
 abbrev by-number : List Refusal
 by-number =
     Unsound ∷ Head ∷ Entries ∷ Entry ∷ Repeated ∷ Same ∷ Full ∷ NegativeCycle ∷ SlotNumber ∷ Free ∷ AtomNumber
-    ∷ Unsound ∷ NotIn ∷ Unsound ∷ Unsound ∷ Unsound ∷ FileLength ∷ Sums ∷ BlockNumbers ∷ Record ∷ []
+    ∷ Unsound ∷ NotIn ∷ Unsound ∷ Unsound ∷ Unsound ∷ FileLength ∷ Sums ∷ BlockNumbers ∷ Record
+    ∷ FileNumber ∷ FileCount ∷ Mark ∷ []
 
 abbrev pub refusalOf : ℕ → Refusal
 refusalOf k = getD by-number k Unsound
@@ -23,11 +25,11 @@ refusalOf k = getD by-number k Unsound
 -- A refusal without a length: its number is one of the list, and determines it.
 pub record Plain (f : Refusal) : Type 0 where
   pub known : refusalOf (numberOf f) ≡ f
-  pub low : numberOf f ≤ 19
+  pub low : numberOf f ≤ 22
   pub none : neededBy f ≡ 0
 
 -- Each refusal is one, or it is 11.
-plain : (f : Refusal) → refusalOf (numberOf f) ≡ f → numberOf f ≤ 19 → neededBy f ≡ 0
+plain : (f : Refusal) → refusalOf (numberOf f) ≡ f → numberOf f ≤ 22 → neededBy f ≡ 0
     → Plain f ⊎ ((n : ℕ) × (f ≡ Buffer n))
 plain f e l z = inl (record { known = e; low = l; none = z })
 
@@ -49,6 +51,9 @@ plain-or-11 FileLength = plain FileLength refl (omega arith) refl
 plain-or-11 Sums = plain Sums refl (omega arith) refl
 plain-or-11 BlockNumbers = plain BlockNumbers refl (omega arith) refl
 plain-or-11 Record = plain Record refl (omega arith) refl
+plain-or-11 FileNumber = plain FileNumber refl (omega arith) refl
+plain-or-11 FileCount = plain FileCount refl (omega arith) refl
+plain-or-11 Mark = plain Mark refl (omega arith) refl
 
 pub refusal-number : (f : Refusal) → (numberOf f ≡ 11 → ⊥) → refusalOf (numberOf f) ≡ f
 refusal-number f n = ⊎-elim
@@ -56,7 +61,7 @@ refusal-number f n = ⊎-elim
     (λ (b : (m : ℕ) × (f ≡ Buffer m)). absurd (n (ap numberOf (b .1))))
     (plain-or-11 f)
 
-pub number-small : (f : Refusal) → numberOf f ≤ 19
+pub number-small : (f : Refusal) → numberOf f ≤ 22
 number-small f = ⊎-elim
     (λ (p : Plain f). p .low)
     (λ (b : (m : ℕ) × (f ≡ Buffer m)). omega (arith, ap numberOf (b .1)))

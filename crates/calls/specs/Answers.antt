@@ -7,19 +7,18 @@ use Rattle.theory.specs.Book as book
 use Rattle.calls.specs.declared.Refusal.{Refusal}
 use Rattle.calls.specs.declared.Refusal.the-variants.{Head, Entries, Entry, Repeated, Same, Full, NegativeCycle}
 use Rattle.calls.specs.declared.Refusal.the-variants.{SlotNumber, Free, AtomNumber, Buffer, NotIn, Unsound}
-use Rattle.calls.specs.declared.Refusal.the-variants.{FileLength, Sums, BlockNumbers, Record}
+use Rattle.calls.specs.declared.Refusal.the-variants.{FileLength, Sums, BlockNumbers, Record, FileNumber}
+use Rattle.calls.specs.declared.Refusal.the-variants.{FileCount, Mark}
 use Rattle.calls.specs.declared.AddAnswer.{AddAnswer}
 use Rattle.calls.specs.declared.AddAnswer.the-variants as added
-use Rattle.calls.specs.declared.RemoveAnswer.{RemoveAnswer}
-use Rattle.calls.specs.declared.RemoveAnswer.the-variants as removed
+use Rattle.calls.specs.declared.ChangeAnswer.{ChangeAnswer}
+use Rattle.calls.specs.declared.ChangeAnswer.the-variants as changed
 use Rattle.calls.specs.declared.LabelAnswer.{LabelAnswer}
 use Rattle.calls.specs.declared.LabelAnswer.the-variants as labelled
 use Rattle.calls.specs.declared.SpoilerAnswer.{SpoilerAnswer}
 use Rattle.calls.specs.declared.SpoilerAnswer.the-variants as spoilt
-use Rattle.calls.specs.declared.LoadAnswer.{LoadAnswer}
-use Rattle.calls.specs.declared.LoadAnswer.the-variants as loaded
 
--- What a refusal tells: its number, document 01's or request #103's, and the length that is needed, which 11 carries.
+-- What a refusal tells: its number, by document 01 or by request #103 or #106, and the length needed, which 11 carries.
 abbrev pub told : Refusal → ℕ × ℕ
 told Head = (1, 0)
 told Entries = (2, 0)
@@ -38,6 +37,9 @@ told FileLength = (16, 0)
 told Sums = (17, 0)
 told BlockNumbers = (18, 0)
 told Record = (19, 0)
+told FileNumber = (20, 0)
+told FileCount = (21, 0)
+told Mark = (22, 0)
 
 abbrev pub numberOf : Refusal → ℕ
 numberOf f = told f .0
@@ -51,13 +53,9 @@ abbrev pub bookAdd : AddAnswer → book.Answer
 bookAdd (added.Taken s) = book.slot (s .0)
 bookAdd (added.Refused f) = book.refused (numberOf f)
 
-abbrev pub bookRemove : RemoveAnswer → book.Answer
-bookRemove removed.Removed = book.accepted
-bookRemove (removed.Refused f) = book.refused (numberOf f)
-
-abbrev pub bookLoad : LoadAnswer → book.Answer
-bookLoad loaded.Loaded = book.accepted
-bookLoad (loaded.Refused f) = book.refused (numberOf f)
+abbrev pub bookChange : ChangeAnswer → book.Answer
+bookChange changed.Accepted = book.accepted
+bookChange (changed.Refused f) = book.refused (numberOf f)
 
 -- The answer that tells a label.
 abbrev pub tellLabel : theory.Label → LabelAnswer

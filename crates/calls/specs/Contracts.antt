@@ -27,16 +27,14 @@ use Rattle.calls.specs.declared.Refusal.{Refusal}
 use Rattle.calls.specs.declared.Refusal.the-variants.{Buffer, Unsound}
 use Rattle.calls.specs.declared.AddAnswer.{AddAnswer}
 use Rattle.calls.specs.declared.AddAnswer.the-variants as added
-use Rattle.calls.specs.declared.RemoveAnswer.{RemoveAnswer}
-use Rattle.calls.specs.declared.RemoveAnswer.the-variants as removed
+use Rattle.calls.specs.declared.ChangeAnswer.{ChangeAnswer}
+use Rattle.calls.specs.declared.ChangeAnswer.the-variants as changed
 use Rattle.calls.specs.declared.LabelAnswer.{LabelAnswer}
 use Rattle.calls.specs.declared.LabelAnswer.the-variants as label
 use Rattle.calls.specs.declared.SpoilerAnswer.{SpoilerAnswer}
 use Rattle.calls.specs.declared.SpoilerAnswer.the-variants as spoilt
 use Rattle.calls.specs.declared.ListAnswer.{ListAnswer}
 use Rattle.calls.specs.declared.ListAnswer.the-variants as listed
-use Rattle.calls.specs.declared.LoadAnswer.{LoadAnswer}
-use Rattle.calls.specs.declared.LoadAnswer.the-variants as loaded
 use Rattle.calls.specs.Answers.{numberOf, tellLabel, tellSpoiler}
 
 -- The rules that a table holds.
@@ -62,14 +60,14 @@ pub data AddEnds (t : Table) (r : theory.Rule) : AddAnswer → Table → Type 0 
       → AddEnds t r (added.Taken s) u
 
 -- Remove: 15, 8, 9. That slot becomes free; every other keeps its rule.
-pub data RemoveEnds (t : Table) (s : ℕ) : RemoveAnswer → Table → Type 0 where
-  unsound : (Sound t → ⊥) → RemoveEnds t s (removed.Refused Unsound) t
+pub data RemoveEnds (t : Table) (s : ℕ) : ChangeAnswer → Table → Type 0 where
+  unsound : (Sound t → ⊥) → RemoveEnds t s (changed.Refused Unsound) t
   refused :
       (f : Refusal) → Sound t → first-no (slot-questions document (held t) s) ≡ some (numberOf f)
-      → RemoveEnds t s (removed.Refused f) t
+      → RemoveEnds t s (changed.Refused f) t
   accepted :
       (u : Table) → Sound t → first-no (slot-questions document (held t) s) ≡ none → Sized u
-      → held u ≡ set (held t) s none → Sound u → RemoveEnds t s removed.Removed u
+      → held u ≡ set (held t) s none → Sound u → RemoveEnds t s changed.Accepted u
 
 -- Label: 15, 10. Answers absent, out, or in with depth and supporting slot.
 pub data LabelEnds (t : Table) (a : ℕ) : LabelAnswer → Type 0 where
@@ -129,10 +127,10 @@ SaveEnds t = ListEnds [] (λ M bs. bs ≡ fileOf (held t)) t
 
 -- Load: 16, 17, 18, 19. It takes no table, and a refusal hands back the empty one. The records of a file that is
 -- accepted are the rules of the table.
-pub data LoadEnds (bytes : List ℕ) : LoadAnswer → Table → Type 0 where
+pub data LoadEnds (bytes : List ℕ) : ChangeAnswer → Table → Type 0 where
   refused :
       (f : Refusal) → first-no (file-questions document bytes) ≡ some (numberOf f)
-      → LoadEnds bytes (loaded.Refused f) emptyTable
+      → LoadEnds bytes (changed.Refused f) emptyTable
   accepted :
       (u : Table) → first-no (file-questions document bytes) ≡ none → Sized u → held u ≡ pagesOf document bytes
-      → Sound u → LoadEnds bytes loaded.Loaded u
+      → Sound u → LoadEnds bytes changed.Accepted u

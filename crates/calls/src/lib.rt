@@ -30,6 +30,9 @@ pub enum Refusal {
     Sums,
     BlockNumbers,
     Record,
+    FileNumber,
+    FileCount,
+    Mark,
 }
 
 // The slot that an addition took.
@@ -43,13 +46,14 @@ pub struct Added {
     pub table: Table,
 }
 
-pub enum RemoveAnswer {
-    Removed,
+// What a call that changes a table, or hands one back, and has no answer named, answers: that it was accepted.
+pub enum ChangeAnswer {
+    Accepted,
     Refused(Refusal),
 }
 
-pub struct Removal {
-    pub answer: RemoveAnswer,
+pub struct Changed {
+    pub answer: ChangeAnswer,
     pub table: Table,
 }
 
@@ -73,17 +77,6 @@ pub enum SpoilerAnswer {
 pub enum ListAnswer {
     Count(usize),
     Refused(Refusal),
-}
-
-// That a file was loaded.
-pub enum LoadAnswer {
-    Loaded,
-    Refused(Refusal),
-}
-
-pub struct Loading {
-    pub answer: LoadAnswer,
-    pub table: Table,
 }
 
 // What questions 15 and 10 answer: the atom asked about, or the refusal.
@@ -134,5 +127,8 @@ pub fn refusal_number(f: Refusal) -> u32
         Refusal::Sums => 17,
         Refusal::BlockNumbers => 18,
         Refusal::Record => 19,
+        Refusal::FileNumber => 20,
+        Refusal::FileCount => 21,
+        Refusal::Mark => 22,
     }
 }

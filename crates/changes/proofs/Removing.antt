@@ -18,7 +18,7 @@ use Rattle.table.specs.Rules.{programOf, slotOf}
 use Rattle.table.specs.Clean.{freeRule}
 use Rattle.table.specs.Sound.{Sound}
 use Rattle.table.proofs.Empty.{free-clean}
-use Rattle.calls.specs.declared.RemoveAnswer.the-variants as removed
+use Rattle.calls.specs.declared.ChangeAnswer.the-variants as changed
 use Rattle.calls.specs.Contracts as contract
 use Rattle.calls.specs.Contracts.{held, Sized, RemoveEnds}
 use Rattle.calls.proofs.Asking.{PassesSlot, slot-low}
@@ -52,7 +52,7 @@ module _ (t : Table) (S : Sound t) (s : ℕ) (inside : s < document .slots) wher
   freed :
       first-no (slot-questions document (held t) s) ≡ none → (l : Labelling)
       → LabellingOf (programOf (set (t .rules) s freeRule)) l → Sized t → length (l .labels) ≡ document .atoms
-      → RemoveEnds t s removed.Removed (record { rules = set (t .rules) s freeRule; labels = l .labels })
+      → RemoveEnds t s changed.Accepted (record { rules = set (t .rules) s freeRule; labels = l .labels })
   freed asked l L Z m =
       let w = L .acyclic (not-cyclic (l .acyclic) refl) in
       contract.accepted _ S asked (sized-after t S s inside freeRule Z refl (l .labels) m)
@@ -76,7 +76,7 @@ module _
 
     pub remove-ends :
         (l : Labelling) → LabellingOf (programOf rest) l → Sized t → length (l .labels) ≡ document .atoms
-        → RemoveEnds t s removed.Removed (record { rules = rest; labels = l .labels })
+        → RemoveEnds t s changed.Accepted (record { rules = rest; labels = l .labels })
     remove-ends l L Z m =
         let L′ : LabellingOf (programOf (set (t .rules) s freeRule)) l = rw left at L in
         rw left (freed t (Q .sound) s (slot-low t s x Q) (Q .yes) l L′ Z m)

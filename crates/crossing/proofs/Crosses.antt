@@ -11,10 +11,8 @@ use Rattle.calls.specs.declared.Refusal.{Refusal}
 use Rattle.calls.specs.declared.Refusal.the-variants.{Buffer}
 use Rattle.calls.specs.declared.AddAnswer.{AddAnswer}
 use Rattle.calls.specs.declared.AddAnswer.the-variants as added
-use Rattle.calls.specs.declared.RemoveAnswer.{RemoveAnswer}
-use Rattle.calls.specs.declared.RemoveAnswer.the-variants as removed
-use Rattle.calls.specs.declared.LoadAnswer.{LoadAnswer}
-use Rattle.calls.specs.declared.LoadAnswer.the-variants as loaded
+use Rattle.calls.specs.declared.ChangeAnswer.{ChangeAnswer}
+use Rattle.calls.specs.declared.ChangeAnswer.the-variants as changed
 use Rattle.calls.specs.declared.LabelAnswer.{LabelAnswer}
 use Rattle.calls.specs.declared.LabelAnswer.the-variants as label
 use Rattle.calls.specs.declared.SpoilerAnswer.{SpoilerAnswer}
@@ -22,15 +20,18 @@ use Rattle.calls.specs.declared.SpoilerAnswer.the-variants as spoilt
 use Rattle.calls.specs.declared.ListAnswer.{ListAnswer}
 use Rattle.calls.specs.declared.ListAnswer.the-variants as listed
 use Rattle.calls.specs.Answers.{numberOf, neededBy}
+use Rattle.checklist.specs.declared.CompleteAnswer.{CompleteAnswer}
+use Rattle.checklist.specs.declared.CompleteAnswer.the-variants as complete
 use Rattle.calls.proofs.Refusals.{Plain, plain-or-11}
 use Rattle.calls.proofs.Refusal.{the-type}
 use Rattle.crossing.specs.declared.Change.{Change}
 use Rattle.crossing.specs.declared.AtomLabel.{AtomLabel}
 use Rattle.crossing.specs.declared.RuleSpoiler.{RuleSpoiler}
 use Rattle.crossing.specs.declared.Written.{Written}
-use Rattle.crossing.specs.declared.Loaded.{Loaded}
+use Rattle.crossing.specs.declared.Accepted.{Accepted}
+use Rattle.crossing.specs.declared.Completeness.{Completeness}
 use Rattle.crossing.specs.Numbers.{crossedAdd, crossedRemove, crossedLabel, crossedSpoiler, crossedList}
-use Rattle.crossing.specs.Numbers.{crossedLoad}
+use Rattle.crossing.specs.Numbers.{crossedChange, crossedComplete}
 
 -- An answer crosses as its case does; and a refusal as its number n says, where `made` is the struct of a number.
 case-crosses : {A B : Type 0} (cross : A → B) (x y : A) → x ≡ y → cross y ≡ cross x
@@ -54,29 +55,38 @@ pub add-refused :
 add-refused x f u n =
     refusal-crosses (λ (y : AddAnswer). crossedAdd y u) (λ k. change k 0 u) x (added.Refused f) f n refl
 
-pub remove-accepted : (k : ℕ) (x : RemoveAnswer) (u : Table) → x ≡ removed.Removed → change 0 k u ≡ crossedRemove k x u
-remove-accepted k x u = case-crosses (λ (y : RemoveAnswer). crossedRemove k y u) x removed.Removed
+pub remove-accepted : (k : ℕ) (x : ChangeAnswer) (u : Table) → x ≡ changed.Accepted → change 0 k u ≡ crossedRemove k x u
+remove-accepted k x u = case-crosses (λ (y : ChangeAnswer). crossedRemove k y u) x changed.Accepted
 
 pub remove-refused :
-    (k : ℕ) (x : RemoveAnswer) (f : Refusal) (u : Table) (n : ℕ) → x ≡ removed.Refused f → n ≡ numberOf f
+    (k : ℕ) (x : ChangeAnswer) (f : Refusal) (u : Table) (n : ℕ) → x ≡ changed.Refused f → n ≡ numberOf f
     → change n 0 u ≡ crossedRemove k x u
 remove-refused k x f u n =
-    refusal-crosses (λ (y : RemoveAnswer). crossedRemove k y u) (λ j. change j 0 u) x (removed.Refused f) f n refl
+    refusal-crosses (λ (y : ChangeAnswer). crossedRemove k y u) (λ j. change j 0 u) x (changed.Refused f) f n refl
 
--- A loaded table: the number n of a refusal, or 0.
-abbrev handed : ℕ → Table → Loaded
+-- A table handed back: the number n of a refusal, or 0.
+abbrev handed : ℕ → Table → Accepted
 handed n u = record { refused = n; table = u }
 
-pub load-accepted : (x : LoadAnswer) (u : Table) → x ≡ loaded.Loaded → handed 0 u ≡ crossedLoad x u
-load-accepted x u = case-crosses (λ (y : LoadAnswer). crossedLoad y u) x loaded.Loaded
+pub change-accepted : (x : ChangeAnswer) (u : Table) → x ≡ changed.Accepted → handed 0 u ≡ crossedChange x u
+change-accepted x u = case-crosses (λ (y : ChangeAnswer). crossedChange y u) x changed.Accepted
 
-pub load-refused :
-    (x : LoadAnswer) (f : Refusal) (u : Table) (n : ℕ) → x ≡ loaded.Refused f → n ≡ numberOf f
-    → handed n u ≡ crossedLoad x u
-load-refused x f u n =
-    refusal-crosses (λ (y : LoadAnswer). crossedLoad y u) (λ k. handed k u) x (loaded.Refused f) f n refl
+pub change-refused :
+    (x : ChangeAnswer) (f : Refusal) (u : Table) (n : ℕ) → x ≡ changed.Refused f → n ≡ numberOf f
+    → handed n u ≡ crossedChange x u
+change-refused x f u n =
+    refusal-crosses (λ (y : ChangeAnswer). crossedChange y u) (λ k. handed k u) x (changed.Refused f) f n refl
 
--- A label, a spoiler, a list: any case but a refusal by its equation, a refusal by its number too.
+-- Complete or not, a label, a spoiler, a list: any case but a refusal by its equation, a refusal by its number too.
+
+pub complete-told : (x y : CompleteAnswer) → x ≡ y → crossedComplete y ≡ crossedComplete x
+complete-told = case-crosses crossedComplete
+
+pub complete-refused :
+    (x : CompleteAnswer) (f : Refusal) (n : ℕ) → x ≡ complete.Refused f → n ≡ numberOf f
+    → _≡_ {A = Completeness} (record { refused = n; complete = 0 }) (crossedComplete x)
+complete-refused x f n =
+    refusal-crosses crossedComplete (λ k. record { refused = k; complete = 0 }) x (complete.Refused f) f n refl
 
 pub label-told : (x y : LabelAnswer) → x ≡ y → crossedLabel y ≡ crossedLabel x
 label-told = case-crosses crossedLabel
@@ -114,7 +124,7 @@ buffer-needed f n e = ap neededBy (sym e)
 -- Every refusal but 11, whose place in the enum is 10, needs no entries.
 
 abbrev pub others : List ℕ
-others = 0 ∷ 1 ∷ 2 ∷ 3 ∷ 4 ∷ 5 ∷ 6 ∷ 7 ∷ 8 ∷ 9 ∷ 11 ∷ 12 ∷ 13 ∷ 14 ∷ 15 ∷ 16 ∷ []
+others = 0 ∷ 1 ∷ 2 ∷ 3 ∷ 4 ∷ 5 ∷ 6 ∷ 7 ∷ 8 ∷ 9 ∷ 11 ∷ 12 ∷ 13 ∷ 14 ∷ 15 ∷ 16 ∷ 17 ∷ 18 ∷ 19 ∷ []
 
 pub none-needed : (f : Refusal) → OneOf others (tagOf the-type f) → 0 ≡ neededBy f
 none-needed f h = ⊎-elim

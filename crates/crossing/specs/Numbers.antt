@@ -3,31 +3,32 @@ use Prim.Native.Nat.{ℕ}
 use Rattle.table.specs.declared.Table.{Table}
 use Rattle.calls.specs.declared.AddAnswer.{AddAnswer}
 use Rattle.calls.specs.declared.AddAnswer.the-variants as added
-use Rattle.calls.specs.declared.RemoveAnswer.{RemoveAnswer}
-use Rattle.calls.specs.declared.RemoveAnswer.the-variants as removed
+use Rattle.calls.specs.declared.ChangeAnswer.{ChangeAnswer}
+use Rattle.calls.specs.declared.ChangeAnswer.the-variants as changed
 use Rattle.calls.specs.declared.LabelAnswer.{LabelAnswer}
 use Rattle.calls.specs.declared.LabelAnswer.the-variants as label
 use Rattle.calls.specs.declared.SpoilerAnswer.{SpoilerAnswer}
 use Rattle.calls.specs.declared.SpoilerAnswer.the-variants as spoilt
 use Rattle.calls.specs.declared.ListAnswer.{ListAnswer}
 use Rattle.calls.specs.declared.ListAnswer.the-variants as listed
-use Rattle.calls.specs.declared.LoadAnswer.{LoadAnswer}
-use Rattle.calls.specs.declared.LoadAnswer.the-variants as loaded
 use Rattle.calls.specs.Answers.{numberOf, neededBy}
+use Rattle.checklist.specs.declared.CompleteAnswer.{CompleteAnswer}
+use Rattle.checklist.specs.declared.CompleteAnswer.the-variants as complete
 use Rattle.crossing.specs.declared.Change.{Change}
 use Rattle.crossing.specs.declared.AtomLabel.{AtomLabel}
 use Rattle.crossing.specs.declared.RuleSpoiler.{RuleSpoiler}
 use Rattle.crossing.specs.declared.Written.{Written}
-use Rattle.crossing.specs.declared.Loaded.{Loaded}
+use Rattle.crossing.specs.declared.Accepted.{Accepted}
+use Rattle.crossing.specs.declared.Completeness.{Completeness}
 
 abbrev pub crossedAdd : AddAnswer → Table → Change
 crossedAdd (added.Taken s) u = record { refused = 0; slot = s .0; table = u }
 crossedAdd (added.Refused f) u = record { refused = numberOf f; slot = 0; table = u }
 
 -- A removal that was accepted names its slot.
-abbrev pub crossedRemove : ℕ → RemoveAnswer → Table → Change
-crossedRemove s removed.Removed u = record { refused = 0; slot = s; table = u }
-crossedRemove s (removed.Refused f) u = record { refused = numberOf f; slot = 0; table = u }
+abbrev pub crossedRemove : ℕ → ChangeAnswer → Table → Change
+crossedRemove s changed.Accepted u = record { refused = 0; slot = s; table = u }
+crossedRemove s (changed.Refused f) u = record { refused = numberOf f; slot = 0; table = u }
 
 abbrev pub crossedLabel : LabelAnswer → AtomLabel
 crossedLabel label.Absent = record { refused = 0; state = 0; depth = 0; slot = 0 }
@@ -46,6 +47,11 @@ abbrev pub crossedList : ListAnswer → Written
 crossedList (listed.Count n) = record { refused = 0; count = n }
 crossedList (listed.Refused f) = record { refused = numberOf f; count = neededBy f }
 
-abbrev pub crossedLoad : LoadAnswer → Table → Loaded
-crossedLoad loaded.Loaded u = record { refused = 0; table = u }
-crossedLoad (loaded.Refused f) u = record { refused = numberOf f; table = u }
+abbrev pub crossedChange : ChangeAnswer → Table → Accepted
+crossedChange changed.Accepted u = record { refused = 0; table = u }
+crossedChange (changed.Refused f) u = record { refused = numberOf f; table = u }
+
+abbrev pub crossedComplete : CompleteAnswer → Completeness
+crossedComplete complete.Complete = record { refused = 0; complete = 1 }
+crossedComplete complete.Incomplete = record { refused = 0; complete = 0 }
+crossedComplete (complete.Refused f) = record { refused = numberOf f; complete = 0 }

@@ -1,17 +1,17 @@
 // The calls' answers as they cross to C: structs of numbers, where `refused` is 0 or the number of the refusal.
 use calls::AddAnswer;
+use calls::ChangeAnswer;
 use calls::LabelAnswer;
 use calls::ListAnswer;
-use calls::LoadAnswer;
 use calls::Refusal;
-use calls::RemoveAnswer;
 use calls::SpoilerAnswer;
 use calls::refusal_number;
+use checklist::CompleteAnswer;
 use table::Table;
 ghost use mathlib.Core.Path.{_≡_};
 ghost use Rattle.crossing.specs.Numbers.{crossedAdd, crossedRemove, crossedLabel, crossedSpoiler, crossedList};
 ghost use Rattle.calls.specs.Answers.{neededBy};
-ghost use Rattle.crossing.specs.Numbers.{crossedLoad};
+ghost use Rattle.crossing.specs.Numbers.{crossedChange, crossedComplete};
 
 // What a call that changes a table answers: the slot that an addition took, and the table handed back.
 #[repr(C)]
@@ -48,11 +48,18 @@ pub struct Written {
     pub count: usize,
 }
 
-// What loading answers, and the table handed back: the empty one where it is refused.
+// What a call answers that has no answer named, and the table handed back.
 #[repr(C)]
-pub struct Loaded {
+pub struct Accepted {
     pub refused: u32,
     pub table: Table,
+}
+
+// `complete` is 1 if the last file's good is in, else 0.
+#[repr(C)]
+pub struct Completeness {
+    pub refused: u32,
+    pub complete: u32,
 }
 
 // How many entries a refusal says are needed: with 11 alone.
@@ -96,16 +103,16 @@ pub fn crossed_add(answer: AddAnswer, after: Table) -> Change
     }
 }
 
-pub fn crossed_remove(slot: u32, answer: RemoveAnswer, after: Table) -> Change
+pub fn crossed_remove(slot: u32, answer: ChangeAnswer, after: Table) -> Change
     ensures { λ r. ⌜ r ≡ crossedRemove slot answer after ⌝ }
 {
     match answer {
-        RemoveAnswer::Removed => Change {
+        ChangeAnswer::Accepted => Change {
             refused: 0,
             slot: slot,
             table: after,
         },
-        RemoveAnswer::Refused(f) => Change {
+        ChangeAnswer::Refused(f) => Change {
             refused: refusal_number(f),
             slot: 0,
             table: after,
@@ -175,17 +182,36 @@ pub fn crossed_spoiler(answer: SpoilerAnswer) -> RuleSpoiler
     }
 }
 
-pub fn crossed_load(answer: LoadAnswer, after: Table) -> Loaded
-    ensures { λ r. ⌜ r ≡ crossedLoad answer after ⌝ }
+pub fn crossed_change(answer: ChangeAnswer, after: Table) -> Accepted
+    ensures { λ r. ⌜ r ≡ crossedChange answer after ⌝ }
 {
     match answer {
-        LoadAnswer::Loaded => Loaded {
+        ChangeAnswer::Accepted => Accepted {
             refused: 0,
             table: after,
         },
-        LoadAnswer::Refused(f) => Loaded {
+        ChangeAnswer::Refused(f) => Accepted {
             refused: refusal_number(f),
             table: after,
+        },
+    }
+}
+
+pub fn crossed_complete(answer: CompleteAnswer) -> Completeness
+    ensures { λ r. ⌜ r ≡ crossedComplete answer ⌝ }
+{
+    match answer {
+        CompleteAnswer::Complete => Completeness {
+            refused: 0,
+            complete: 1,
+        },
+        CompleteAnswer::Incomplete => Completeness {
+            refused: 0,
+            complete: 0,
+        },
+        CompleteAnswer::Refused(f) => Completeness {
+            refused: refusal_number(f),
+            complete: 0,
         },
     }
 }

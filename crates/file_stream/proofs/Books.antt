@@ -26,8 +26,8 @@ use Rattle.blocks.specs.Questions.{file-questions, pagesOf, whole}
 use Rattle.blocks.proofs.Reading.{whole-parts}
 use Rattle.blocks.proofs.RoundTrips.{file-accepted, file-pages}
 use Rattle.calls.specs.declared.ListAnswer.{ListAnswer}
-use Rattle.calls.specs.declared.LoadAnswer.{LoadAnswer}
-use Rattle.calls.specs.declared.LoadAnswer.the-variants as loaded
+use Rattle.calls.specs.declared.ChangeAnswer.{ChangeAnswer}
+use Rattle.calls.specs.declared.ChangeAnswer.the-variants as changed
 use Rattle.calls.specs.declared.Refusal.the-variants.{FileLength}
 use Rattle.calls.specs.Answers.{numberOf}
 use Rattle.calls.specs.Contracts as contract
@@ -48,12 +48,13 @@ use Rattle.file_stream.specs.Loads.{KEPT, refusedLine, tellLoad, LoadPri
 pub load-prints-unique : {file out more : List ℕ} → LoadPrints file out → LoadPrints file more → out ≡ more
 load-prints-unique {file} p q =
     let same = load-determined file (p .answer) (q .answer) (p .table) (q .table) (p .ends) (q .ends) in
-    p .told ∙ ap (λ (x : LoadAnswer). tellLoad x (p .table)) (same .0) ∙ ap (tellLoad (q .answer)) (same .1)
+    p .told ∙ ap (λ (x : ChangeAnswer). tellLoad x (p .table)) (same .0) ∙ ap (tellLoad (q .answer)) (same .1)
     ∙ sym (q .told)
 
 -- The labels that a sound table keeps are those that the book shows of its rules.
 table-labels :
-    {P : Program} {out : List ℕ} (u : Table) → Sound u → held u ≡ P → out ≡ tellLoad loaded.Loaded u → SeesLabels P out
+    {P : Program} {out : List ℕ} (u : Table) → Sound u → held u ≡ P → out ≡ tellLoad changed.Accepted u
+    → SeesLabels P out
 table-labels {P} u S h told =
     let model = S .labels .model in
     record {
@@ -65,7 +66,7 @@ table-labels {P} u S h told =
     }
 
 load-seen :
-    (file out : List ℕ) (x : LoadAnswer) (u : Table) → LoadEnds file x u → out ≡ tellLoad x u → BookLoads file out
+    (file out : List ℕ) (x : ChangeAnswer) (u : Table) → LoadEnds file x u → out ≡ tellLoad x u → BookLoads file out
 load-seen file out x u (contract.refused f e) told = subst (λ (o : Option ℕ). LoadSeen file o out) (sym e) told
 load-seen file out x u (contract.accepted w e Z h S) told =
     subst (λ (o : Option ℕ). LoadSeen file o out) (sym e) (table-labels w S h told)
@@ -86,7 +87,7 @@ longer-16 file l = first-no-here _ _ (unless (whole file) (λ t. omega (arith, l
 longer-prints : (file : List ℕ) → LONGEST < length file → LoadPrints file (refusedLine 16)
 longer-prints file l =
     record {
-      answer = loaded.Refused FileLength;
+      answer = changed.Refused FileLength;
       table = emptyTable;
       ends = contract.refused FileLength (longer-16 file l);
       told = refl;

@@ -6,7 +6,7 @@ use mathlib.Core.List.{List}
 use lib.ListN.{length, take, drop, replicate, length-append}
 use Rattle.table.specs.declared.Table.{Table}
 use Rattle.calls.specs.declared.ListAnswer.{ListAnswer}
-use Rattle.calls.specs.declared.LoadAnswer.{LoadAnswer}
+use Rattle.calls.specs.declared.ChangeAnswer.{ChangeAnswer}
 use Rattle.calls.specs.Contracts as contract
 use Rattle.calls.specs.Contracts.{SaveEnds, LoadEnds}
 use Rattle.fields.specs.Written.{Wrote}
@@ -32,14 +32,14 @@ saved-count {r} s =
 
 -- The lines that tell how a load ended were written.
 pub told-lines :
-    {file before after : List ℕ} {n : ℕ} {x : LoadAnswer} {u : Table} (y : LoadAnswer) {bs : List ℕ}
+    {file before after : List ℕ} {n : ℕ} {x : ChangeAnswer} {u : Table} (y : ChangeAnswer) {bs : List ℕ}
     → ROOM ≤ length before → LoadEnds file x u → x ≡ y → bs ≡ tellLoad y u → Wrote bs before 0 after n
     → LoadWrites file before after n
 told-lines {x = x} {u = u} y {bs} room ends e d wrote =
     record {
       fits = λ _. (
         bs,
-        record { answer = x; table = u; ends = ends; told = d ∙ ap (λ (z : LoadAnswer). tellLoad z u) (sym e) },
+        record { answer = x; table = u; ends = ends; told = d ∙ ap (λ (z : ChangeAnswer). tellLoad z u) (sym e) },
         wrote,
       );
       full = λ s. absurd (omega (arith, room, s));

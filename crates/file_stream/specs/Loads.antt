@@ -10,8 +10,8 @@ use Rattle.theory.specs.Questions.{first-no}
 use Rattle.table.specs.declared.Table.{Table}
 use Rattle.table.specs.Labels.{labelAt}
 use Rattle.blocks.specs.Questions.{file-questions, pagesOf}
-use Rattle.calls.specs.declared.LoadAnswer.{LoadAnswer}
-use Rattle.calls.specs.declared.LoadAnswer.the-variants as loaded
+use Rattle.calls.specs.declared.ChangeAnswer.{ChangeAnswer}
+use Rattle.calls.specs.declared.ChangeAnswer.the-variants as changed
 use Rattle.calls.specs.Answers.{numberOf}
 use Rattle.calls.specs.Contracts.{LoadEnds}
 use Rattle.fields.specs.Texts.{bytes}
@@ -29,13 +29,13 @@ refusedLine k = named (bytes "refused") k
 
 -- The lines that tell how a load ended: those of the labels of the table handed back, as `L` prints them, or that of
 -- the refusal.
-abbrev pub tellLoad : LoadAnswer → Table → List ℕ
-tellLoad loaded.Loaded u = labelLines (labelAt (u .labels)) (document .atoms)
-tellLoad (loaded.Refused f) u = refusedLine (numberOf f)
+abbrev pub tellLoad : ChangeAnswer → Table → List ℕ
+tellLoad changed.Accepted u = labelLines (labelAt (u .labels)) (document .atoms)
+tellLoad (changed.Refused f) u = refusedLine (numberOf f)
 
 -- What is printed of a file's bytes, whatever they are.
 pub record LoadPrints (file out : List ℕ) : Type 0 where
-  pub answer : LoadAnswer
+  pub answer : ChangeAnswer
   pub table : Table
   pub ends : LoadEnds file answer table
   pub told : out ≡ tellLoad answer table

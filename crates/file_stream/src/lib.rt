@@ -1,8 +1,8 @@
 // The programs that keep a table on disk (request #103): one reads a sheet and writes the file of the table that it
 // leaves; the other reads a file and writes the labels of its table as `L` does, or `refused` and the number.
 use blocks::LONGEST;
+use calls::ChangeAnswer;
 use calls::ListAnswer;
-use calls::LoadAnswer;
 use calls::refusal_number;
 use files::load;
 use files::save;
@@ -98,8 +98,8 @@ pub fn load_lines(bytes: &[u8], out: &mut [u8]) -> usize
     let table = loading.table;
     let labels = table.labels;
     match answer {
-        LoadAnswer::Loaded => write_labels(out, 0, labels),
-        LoadAnswer::Refused(f) => write_named(out, 0, b"refused", refusal_number(f)),
+        ChangeAnswer::Accepted => write_labels(out, 0, labels),
+        ChangeAnswer::Refused(f) => write_named(out, 0, b"refused", refusal_number(f)),
     }
 }
 

@@ -26,8 +26,8 @@ use Rattle.blocks.specs.Questions.{distinctRules, recordsRight, pagesOf}
 use Rattle.blocks.proofs.Sequences.{places-eight}
 use Rattle.blocks.proofs.Records.{distinct-rules}
 use Rattle.loading.specs.Reading.{allRight}
-use Rattle.calls.specs.declared.LoadAnswer.{LoadAnswer}
-use Rattle.calls.specs.declared.LoadAnswer.the-variants.{Loaded, Refused}
+use Rattle.calls.specs.declared.ChangeAnswer.{ChangeAnswer}
+use Rattle.calls.specs.declared.ChangeAnswer.the-variants.{Accepted, Refused}
 use Rattle.calls.specs.declared.Refusal.the-variants.{FileLength, Sums, BlockNumbers, Record}
 use Rattle.calls.specs.Contracts as contract
 use Rattle.calls.specs.Contracts.{LoadEnds}
@@ -81,7 +81,7 @@ module _ (bs : List ℕ) where
                   (subst (λ (P : Program). (s t : ℕ) (q r : Rule) → Held P s q → Held P t r → same q r ≡ true → s ≡ t)
                   read (rules-single slots well long U))
 
-              pub rules-end : (x : LoadAnswer) (u : Table) → RulesLoad slots x u → LoadEnds bs x u
+              pub rules-end : (x : ChangeAnswer) (u : Table) → RulesLoad slots x u → LoadEnds bs x u
               rules-end x u (twice n) =
                   not-records (unless _ (λ t. n (subst Single (sym read) (once (placesOf (blocks bs)) (places-eight (blocks bs)) a (split (placesOf (blocks bs)) t .1)))))
               rules-end x u (cyclic U c) =

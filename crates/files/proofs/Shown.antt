@@ -22,8 +22,8 @@ use Rattle.blocks.proofs.Damage.{one-byte-17}
 use Rattle.calls.specs.declared.Refusal.the-variants.{Sums}
 use Rattle.calls.specs.declared.ListAnswer.{ListAnswer}
 use Rattle.calls.specs.declared.ListAnswer.the-variants.{Count}
-use Rattle.calls.specs.declared.LoadAnswer.{LoadAnswer}
-use Rattle.calls.specs.declared.LoadAnswer.the-variants.{Loaded, Refused}
+use Rattle.calls.specs.declared.ChangeAnswer.{ChangeAnswer}
+use Rattle.calls.specs.declared.ChangeAnswer.the-variants.{Accepted, Refused}
 use Rattle.calls.specs.Contracts as contract
 use Rattle.calls.specs.Contracts.{held, Sized, SaveEnds, LoadEnds}
 use Rattle.calls.proofs.Determined.{load-determined}
@@ -46,26 +46,26 @@ saved-file {t} {before} (contract.accepted M xs S q A i l) n e =
 
 -- Loading what a sound table saves gives that table, every field.
 pub load-file :
-    (t : Table) → Sized t → Sound t → (x : LoadAnswer) (u : Table) → LoadEnds (fileOf (held t)) x u
-    → (x ≡ Loaded) × (u ≡ t)
+    (t : Table) → Sized t → Sound t → (x : ChangeAnswer) (u : Table) → LoadEnds (fileOf (held t)) x u
+    → (x ≡ Accepted) × (u ≡ t)
 load-file t Z S x u E =
-    load-determined (fileOf (held t)) x Loaded u t E
+    load-determined (fileOf (held t)) x Accepted u t E
     (contract.accepted t (file-accepted (held t) _ (S .labels)) Z (sym (file-pages (held t) _ (S .labels))) S)
 
 pub load-saved :
     (t : Table) → Sized t → Sound t → (before after : List ℕ) (n : ℕ) → SaveEnds t before (Count n) after
-    → (x : LoadAnswer) (u : Table) → LoadEnds (take n after) x u → (x ≡ Loaded) × (u ≡ t)
+    → (x : ChangeAnswer) (u : Table) → LoadEnds (take n after) x u → (x ≡ Accepted) × (u ≡ t)
 load-saved t Z S before after n E x u L =
     load-file t Z S x u (subst (λ (bs : List ℕ). LoadEnds bs x u) (saved-file E n refl) L)
 
 -- Each accepted file is, byte for byte, the one that its table saves.
 pub loaded-file :
-    {bs : List ℕ} {x : LoadAnswer} {u : Table} → AreBytes bs → LoadEnds bs x u → x ≡ Loaded → fileOf (held u) ≡ bs
+    {bs : List ℕ} {x : ChangeAnswer} {u : Table} → AreBytes bs → LoadEnds bs x u → x ≡ Accepted → fileOf (held u) ≡ bs
 loaded-file b (contract.refused f q) e = (let z : _≡_ {A = ℕ} 0 1 = cc in absurd (omega arith))
 loaded-file {bs} b (contract.accepted u q Z h S) e = ap fileOf h ∙ pages-file bs b q
 
 pub loaded-saves :
-    (bs : List ℕ) → AreBytes bs → (u : Table) → LoadEnds bs Loaded u → (before after : List ℕ) (n : ℕ)
+    (bs : List ℕ) → AreBytes bs → (u : Table) → LoadEnds bs Accepted u → (before after : List ℕ) (n : ℕ)
     → SaveEnds u before (Count n) after → take n after ≡ bs
 loaded-saves bs b u L before after n E = saved-file E n refl ∙ loaded-file b L refl
 
@@ -82,7 +82,7 @@ accepted-file bs b = (
 -- A saved file with any one byte changed is refused by 17, and the empty table is handed back.
 pub changed-byte :
     (t : Table) → Sound t → (i b : ℕ) → i < length (fileOf (held t)) → b < 256 → (b ≡ getD (fileOf (held t)) i 0 → ⊥)
-    → (x : LoadAnswer) (u : Table) → LoadEnds (set (fileOf (held t)) i b) x u
+    → (x : ChangeAnswer) (u : Table) → LoadEnds (set (fileOf (held t)) i b) x u
     → (x ≡ Refused Sums) × (u ≡ emptyTable)
 changed-byte t S i b l k n x u E =
     load-determined (set (fileOf (held t)) i b) x (Refused Sums) u emptyTable E

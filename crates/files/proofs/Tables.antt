@@ -20,22 +20,22 @@ use Rattle.labels.specs.Labelling.{LabellingOf}
 use Rattle.sound.proofs.Soundness.{well-formed-bounded, well-formed-single, sound-labelled}
 use Rattle.calls.specs.declared.Refusal.{Refusal}
 use Rattle.calls.specs.declared.Refusal.the-variants.{Record}
-use Rattle.calls.specs.declared.LoadAnswer.the-variants.{Loaded, Refused}
-use Rattle.calls.specs.declared.Loading.{Loading}
+use Rattle.calls.specs.declared.ChangeAnswer.the-variants.{Accepted, Refused}
+use Rattle.calls.specs.declared.Changed.{Changed}
 use Rattle.calls.specs.Contracts.{Sized, LoadEnds}
 use Rattle.files.specs.Rules.{WellFormedSlots, RulesLoad}
 use Rattle.files.specs.Rules as rules-load
 
 -- What is handed back, where it is known which case it is.
 pub load-handed :
-    (bs : List ℕ) (f : Refusal) (r : Loading) → r ≡ record { answer = Refused f; table = emptyTable }
+    (bs : List ℕ) (f : Refusal) (r : Changed) → r ≡ record { answer = Refused f; table = emptyTable }
     → LoadEnds bs (Refused f) emptyTable → LoadEnds bs (r .answer) (r .table)
-load-handed bs f r e E = subst (λ (x : Loading). LoadEnds bs (x .answer) (x .table)) (sym e) E
+load-handed bs f r e E = subst (λ (x : Changed). LoadEnds bs (x .answer) (x .table)) (sym e) E
 
 pub rules-handed :
-    (rules : List Rule) (f : Refusal) (r : Loading) → r ≡ record { answer = Refused f; table = emptyTable }
+    (rules : List Rule) (f : Refusal) (r : Changed) → r ≡ record { answer = Refused f; table = emptyTable }
     → RulesLoad rules (Refused f) emptyTable → RulesLoad rules (r .answer) (r .table)
-rules-handed rules f r e E = subst (λ (x : Loading). RulesLoad rules (x .answer) (x .table)) (sym e) E
+rules-handed rules f r e E = subst (λ (x : Changed). RulesLoad rules (x .answer) (x .table)) (sym e) E
 
 module _ (rules : List Rule) (well : WellFormedSlots rules) (long : length rules ≡ document .slots) where
   -- what holds of the rules, whatever the labels
@@ -60,14 +60,14 @@ module _ (rules : List Rule) (well : WellFormedSlots rules) (long : length rules
       rules-cyclic u = rules-load.cyclic (told .0 (not-false b once)) (L .cyclic (not-true (l .acyclic) u))
 
       pub rules-loaded :
-          not (l .acyclic) ≡ false → (r : Loading)
-          → r ≡ record { answer = Loaded; table = record { rules = rules; labels = l .labels } }
+          not (l .acyclic) ≡ false → (r : Changed)
+          → r ≡ record { answer = Accepted; table = record { rules = rules; labels = l .labels } }
           → Sized (record { rules = rules; labels = l .labels }) → RulesLoad rules (r .answer) (r .table)
       rules-loaded u r e Z =
           let w = L .acyclic (not-false (l .acyclic) u) in
           let K = w .1 .1 in
           let U = told .0 (not-false b once) in
-          subst (λ (x : Loading). RulesLoad rules (x .answer) (x .table)) (sym e)
+          subst (λ (x : Changed). RulesLoad rules (x .answer) (x .table)) (sym e)
           (rules-load.loads _ U (w .0) Z refl
           (sound-labelled (record { rules = rules; labels = l .labels }) (Z .slots) (Z .atoms) well (K .clean) U (w .0)
           (w .1 .0) (K .admissible) (λ a i. K .labelled a)))

@@ -12,8 +12,8 @@ use Rattle.table.specs.Clean.{emptyTable, WellFormed}
 use Rattle.table.specs.Sound.{Sound}
 use Rattle.slots.specs.Slots.{Single}
 use Rattle.calls.specs.declared.Refusal.the-variants.{Record}
-use Rattle.calls.specs.declared.LoadAnswer.{LoadAnswer}
-use Rattle.calls.specs.declared.LoadAnswer.the-variants.{Loaded, Refused}
+use Rattle.calls.specs.declared.ChangeAnswer.{ChangeAnswer}
+use Rattle.calls.specs.declared.ChangeAnswer.the-variants.{Accepted, Refused}
 use Rattle.calls.specs.Contracts.{held, Sized}
 
 -- Every slot is one that a sound table can have.
@@ -21,10 +21,10 @@ abbrev pub WellFormedSlots : List Rule → Type 0
 WellFormedSlots rules = (s : ℕ) → s < document .slots → WellFormed (getD rules s pastRule)
 
 -- The table of such rules; there is none if a rule stands in two slots or if there is a negative cycle.
-pub data RulesLoad (rules : List Rule) : LoadAnswer → Table → Type 0 where
+pub data RulesLoad (rules : List Rule) : ChangeAnswer → Table → Type 0 where
   twice : (Single (programOf rules) → ⊥) → RulesLoad rules (Refused Record) emptyTable
   cyclic :
       Single (programOf rules) → NegativeCycle (programOf rules) → RulesLoad rules (Refused Record) emptyTable
   loads :
       (u : Table) → Single (programOf rules) → (NegativeCycle (programOf rules) → ⊥) → Sized u
-      → held u ≡ programOf rules → Sound u → RulesLoad rules Loaded u
+      → held u ≡ programOf rules → Sound u → RulesLoad rules Accepted u

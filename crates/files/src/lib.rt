@@ -1,8 +1,8 @@
 // The calls that keep a table on disk: save writes its file into a lent buffer, load makes a table of a file's bytes.
 use blocks::BLOCK;
+use calls::ChangeAnswer;
+use calls::Changed;
 use calls::ListAnswer;
-use calls::LoadAnswer;
-use calls::Loading;
 use calls::Refusal;
 use labels::labels_of;
 use loading::check_blocks;
@@ -17,7 +17,7 @@ use table::Rule;
 use table::Table;
 ghost use mathlib.Core.Path.{_≡_};
 ghost use Rattle.table.specs.Clean.{emptyTable};
-ghost use Rattle.calls.specs.declared.LoadAnswer.the-variants.{Refused};
+ghost use Rattle.calls.specs.declared.ChangeAnswer.the-variants.{Refused};
 ghost use Rattle.calls.specs.Contracts.{Sized, SaveEnds, LoadEnds};
 ghost use Rattle.files.specs.Rules.{WellFormedSlots, RulesLoad};
 
@@ -41,25 +41,25 @@ pub fn save(table: Table, buffer: &mut [u8]) -> ListAnswer
 }
 
 // An answer, and a table handed back with it.
-fn hand_back(answer: LoadAnswer, table: Table) -> Loading
+fn hand_back(answer: ChangeAnswer, table: Table) -> Changed
     ensures { λ r. ⌜ (r ≡ record { answer = answer; table = table }) × Sized table ⌝ }
 {
-    Loading {
+    Changed {
         answer: answer,
         table: table,
     }
 }
 
 // A refusal hands back the empty table.
-fn refuse(why: Refusal) -> Loading
+fn refuse(why: Refusal) -> Changed
     ensures { λ r. ⌜ r ≡ record { answer = Refused why; table = emptyTable } ⌝ }
 {
     let nothing = Table::empty();
-    hand_back(LoadAnswer::Refused(why), nothing)
+    hand_back(ChangeAnswer::Refused(why), nothing)
 }
 
 // The table of the rules that were read, if they pass questions 5 and 7; else the empty one.
-fn load_rules(rules: [Rule; Table::SLOTS]) -> Loading
+fn load_rules(rules: [Rule; Table::SLOTS]) -> Changed
     requires { ⌜ WellFormedSlots rules ⌝ }
     ensures { λ r. ⌜ RulesLoad rules (r .answer) (r .table) ⌝ }
 {
@@ -74,13 +74,13 @@ fn load_rules(rules: [Rule; Table::SLOTS]) -> Loading
         labels: labels,
     };
     if !found.acyclic {
-        return hand_back(LoadAnswer::Refused(Refusal::Record), nothing);
+        return hand_back(ChangeAnswer::Refused(Refusal::Record), nothing);
     }
-    hand_back(LoadAnswer::Loaded, table)
+    hand_back(ChangeAnswer::Accepted, table)
 }
 
 // The table that the file records, or the empty one and a refusal by the first question answered no.
-pub fn load(bytes: &[u8]) -> Loading
+pub fn load(bytes: &[u8]) -> Changed
     ensures { λ r. ⌜ LoadEnds (now (bytes .entry)) (r .answer) (r .table) ⌝ }
 {
     if !whole(bytes) {

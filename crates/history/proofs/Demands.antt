@@ -1,6 +1,6 @@
--- Demand 2: after an addition, a removal or a load an atom is in if and only if it is in the admissible model of the
--- rules now held; a rule that closes a loop through a negation is refused by 7, and no other is. Request #102, of the
--- calls. Assumes nothing.
+-- Demand 2: after an addition, a removal, a load or a call of a checklist an atom is in if and only if it is in the
+-- admissible model of the rules now held; a rule that closes a loop through a negation is refused by 7, and no other
+-- is. Request #102, of the calls. Assumes nothing.
 use Prim.Native.Nat.{ℕ, _<_}
 use native.Mathlib.Omega.{arith}
 use mathlib.Core.Path.{_≡_, refl, sym, _∙_, ap, subst}
@@ -32,15 +32,17 @@ use Rattle.table.specs.Sound.{Sound}
 use Rattle.table.proofs.Empty.{empty-sound}
 use Rattle.calls.specs.declared.AddAnswer.{AddAnswer}
 use Rattle.calls.specs.declared.AddAnswer.the-variants as added
-use Rattle.calls.specs.declared.RemoveAnswer.{RemoveAnswer}
-use Rattle.calls.specs.declared.RemoveAnswer.the-variants as removed
-use Rattle.calls.specs.declared.LoadAnswer.{LoadAnswer}
+use Rattle.calls.specs.declared.ChangeAnswer.{ChangeAnswer}
+use Rattle.calls.specs.declared.ChangeAnswer.the-variants as changed
 use Rattle.calls.specs.declared.Refusal.{Refusal}
 use Rattle.calls.specs.declared.Refusal.the-variants as refusal
 use Rattle.calls.specs.Answers.{numberOf}
 use Rattle.calls.specs.Contracts as contract
 use Rattle.calls.specs.Contracts.{held, AddEnds, RemoveEnds, LoadEnds}
 use Rattle.calls.proofs.Refusals.{refusalOf, refusal-number}
+use Rattle.checklist.specs.Questions.{FileCall}
+use Rattle.checklist.specs.Contracts as list
+use Rattle.checklist.specs.Contracts.{OpenEnds, FileEnds}
 use Rattle.history.specs.Claim.{InModel}
 use Rattle.history.proofs.Sequence.{sound-model}
 
@@ -60,21 +62,30 @@ sound-in-model u S = record {
       ((λ t. sym e ∙ t), (λ t. e ∙ t)));
 }
 
--- Demand 2, of an addition and of a removal, on a sound table; of a load, which takes none: a refusal hands back the
--- empty table.
+-- Demand 2, of an addition, of a removal and of a call on a file, on a sound table; of a load and of an opening, which
+-- take none: a refusal hands back the empty table.
 pub demand-2-add : (t u : Table) (r : Rule) (x : AddAnswer) → AddEnds t r x u → Sound t → InModel u
 demand-2-add t u r x (contract.unsound n) S = absurd (n S)
 demand-2-add t u r x (contract.refused f T e) S = sound-in-model t S
 demand-2-add t u r x (contract.accepted s w T e l Z h U) S = sound-in-model w U
 
-pub demand-2-remove : (t u : Table) (s : ℕ) (x : RemoveAnswer) → RemoveEnds t s x u → Sound t → InModel u
+pub demand-2-remove : (t u : Table) (s : ℕ) (x : ChangeAnswer) → RemoveEnds t s x u → Sound t → InModel u
 demand-2-remove t u s x (contract.unsound n) S = absurd (n S)
 demand-2-remove t u s x (contract.refused f T e) S = sound-in-model t S
 demand-2-remove t u s x (contract.accepted w T e Z h U) S = sound-in-model w U
 
-pub demand-2-load : (bytes : List ℕ) (u : Table) (x : LoadAnswer) → LoadEnds bytes x u → InModel u
+pub demand-2-load : (bytes : List ℕ) (u : Table) (x : ChangeAnswer) → LoadEnds bytes x u → InModel u
 demand-2-load bytes u x (contract.refused f e) = sound-in-model emptyTable empty-sound
 demand-2-load bytes u x (contract.accepted w e Z h U) = sound-in-model w U
+
+pub demand-2-open : (n : ℕ) (u : Table) (x : ChangeAnswer) → OpenEnds n x u → InModel u
+demand-2-open n u x (list.refused f e) = sound-in-model emptyTable empty-sound
+demand-2-open n u x (list.accepted w e Z h U) = sound-in-model w U
+
+pub demand-2-file : (t u : Table) (c : FileCall) (x : ChangeAnswer) → FileEnds t c x u → Sound t → InModel u
+demand-2-file t u c x (list.unsound n) S = sound-in-model t S
+demand-2-file t u c x (list.refused f T e) S = sound-in-model t S
+demand-2-file t u c x (list.accepted w T e Z h U) S = sound-in-model w U
 
 -- The table with the rule, as it is kept.
 abbrev with-rule : Table → Rule → Program
@@ -140,7 +151,7 @@ same-refused-5 t u r x E S four s q h y =
     ∙ first-no-here _ _ (ap not (any-rule-of (same r) (held t) s q h y)))
 
 pub removed-none-left :
-    (t u : Table) (s : ℕ) (y : RemoveAnswer) → RemoveEnds t s y u → y ≡ removed.Removed → (q r : Rule)
+    (t u : Table) (s : ℕ) (y : ChangeAnswer) → RemoveEnds t s y u → y ≡ changed.Accepted → (q r : Rule)
     → Held (held t) s q → same r q ≡ true → any-rule (same r) (held u) ≡ false
 removed-none-left t u s y (contract.unsound n) e q r h v = (let z : _≡_ {A = ℕ} 0 1 = cc in absurd (omega arith))
 removed-none-left t u s y (contract.refused f S a) e q r h v = (let z : _≡_ {A = ℕ} 0 1 = cc in absurd (omega arith))
@@ -149,7 +160,7 @@ removed-none-left t u s y (contract.accepted w S a Z i U) e q r h v =
 
 -- And where the removed rule was the only one of its head, in whatever order, that atom's label is not in any more.
 pub removed-label-gone :
-    (t u : Table) (s : ℕ) (y : RemoveAnswer) → RemoveEnds t s y u → y ≡ removed.Removed → (q r : Rule)
+    (t u : Table) (s : ℕ) (y : ChangeAnswer) → RemoveEnds t s y u → y ≡ changed.Accepted → (q r : Rule)
     → Held (held t) s q → same r q ≡ true
     → ((k : ℕ) (p : Rule) → Held (held t) k p → p .head ≡ r .head → same r p ≡ true)
     → is-in-label (labelAt (u .labels) (r .head)) ≡ false

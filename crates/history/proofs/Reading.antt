@@ -4,7 +4,7 @@ use native.Mathlib.Omega.{arith}
 use mathlib.Core.Path.{_≡_, refl, sym, _∙_, ap, ap₂, subst}
 use mathlib.Core.Bool.{Bool, true, false, true≢false, _&&_}
 use mathlib.Core.List.{List}
-use mathlib.Core.Option.{none, some}
+use mathlib.Core.Option.{Option, none, some}
 use lib.Dec.{leb}
 use lib.ListN.{length, getD, take, drop}
 use Rattle.theory.specs.Book.{add, remove}
@@ -12,24 +12,27 @@ use Rattle.theory.proofs.Lists.{unless, leb-le, le-leb, and-l, and-r, and-of}
 use Rattle.calls.specs.declared.Refusal.{Refusal}
 use Rattle.calls.specs.declared.AddAnswer.{AddAnswer}
 use Rattle.calls.specs.declared.AddAnswer.the-variants as added
-use Rattle.calls.specs.declared.RemoveAnswer.{RemoveAnswer}
-use Rattle.calls.specs.declared.RemoveAnswer.the-variants as removed
-use Rattle.calls.specs.declared.LoadAnswer.{LoadAnswer}
-use Rattle.calls.specs.declared.LoadAnswer.the-variants as loaded
-use Rattle.calls.specs.Answers.{numberOf, bookAdd, bookRemove, bookLoad}
+use Rattle.calls.specs.declared.ChangeAnswer.{ChangeAnswer}
+use Rattle.calls.specs.declared.ChangeAnswer.the-variants as changed
+use Rattle.calls.specs.Answers.{numberOf, bookAdd, bookChange}
 use Rattle.calls.proofs.Refusals.{number-small}
 use Rattle.history.specs.declared.Next.{Next}
 use Rattle.history.specs.declared.Next.the-variants as next
 use Rattle.history.specs.declared.Stepped.{Stepped}
-use Rattle.history.specs.Calls.{change, load}
-use Rattle.history.specs.Encoding.{addition-at, between, load-at, when, in-files, encode}
+use Rattle.history.specs.Calls.{change, load, checklist}
+use Rattle.history.specs.Encoding.{Placed, addition-at, between, load-at, when, in-files, encode}
 use Rattle.history.specs.Encoding.{placed-load, placed-kind, placed}
 use Rattle.table.specs.declared.Table.{Table}
 use Rattle.calls.specs.Contracts.{AddEnds, RemoveEnds}
-use Rattle.history.specs.Claim.{adds, removes, loads}
-use Rattle.history.specs.Steps.{callOf, InOrder, NextLoad, NextOf, LoadMade, StepOf}
+use Rattle.checklist.specs.Questions.{file-sent, file-skipped, skip-withdrawn}
+use Rattle.checklist.specs.Book.{opening, of-file}
+use Rattle.checklist.specs.Book as list
+use Rattle.checklist.specs.Contracts.{OpenEnds, FileEnds}
+use Rattle.history.specs.Claim.{Step, adds, removes, loads, opens, marks}
+use Rattle.history.specs.Steps.{callOf, InOrder, NextLoad, NextChecklist, below, above, among, NextOf, LoadMade}
+use Rattle.history.specs.Steps.{StepOf, checklistCall, ChecklistEnds, ChecklistMade}
 
-pub small : (f : Refusal) (n : ℕ) → n ≡ numberOf f → n ≤ 19
+pub small : (f : Refusal) (n : ℕ) → n ≡ numberOf f → n ≤ 22
 small f n e = omega (arith, number-small f)
 
 pub added-refused :
@@ -37,16 +40,11 @@ pub added-refused :
 added-refused x f n e d =
     ap (λ (k : ℕ). 65536 + k) d ∙ ap (λ (y : AddAnswer). encode (bookAdd y)) (sym e)
 
-pub removed-refused :
-    (x : RemoveAnswer) (f : Refusal) (n : ℕ) → x ≡ removed.Refused f → n ≡ numberOf f
-    → 65536 + n ≡ encode (bookRemove x)
-removed-refused x f n e d =
-    ap (λ (k : ℕ). 65536 + k) d ∙ ap (λ (y : RemoveAnswer). encode (bookRemove y)) (sym e)
-
-pub loaded-refused :
-    (x : LoadAnswer) (f : Refusal) (n : ℕ) → x ≡ loaded.Refused f → n ≡ numberOf f → 65536 + n ≡ encode (bookLoad x)
-loaded-refused x f n e d =
-    ap (λ (k : ℕ). 65536 + k) d ∙ ap (λ (y : LoadAnswer). encode (bookLoad y)) (sym e)
+pub accepted-refused :
+    (x : ChangeAnswer) (f : Refusal) (n : ℕ) → x ≡ changed.Refused f → n ≡ numberOf f
+    → 65536 + n ≡ encode (bookChange x)
+accepted-refused x f n e d =
+    ap (λ (k : ℕ). 65536 + k) d ∙ ap (λ (y : ChangeAnswer). encode (bookChange y)) (sym e)
 
 module _ (ws files : List ℕ) (at : ℕ) where
   pub short : length ws < at + 2 → placed ws files at ≡ none
@@ -87,17 +85,6 @@ module _ (ws files : List ℕ) (at : ℕ) where
 
   pub end-short : length ws < at + 2 → NextOf ws files at next.End
   end-short l = record { read = sym (short l); order = tt }
-
-  pub end-other :
-      at + 2 ≤ length ws → (getD ws at 0 ≡ 0 → ⊥) → (getD ws at 0 ≡ 1 → ⊥) → (getD ws at 0 ≡ 2 → ⊥)
-      → NextOf ws files at next.End
-  end-other l f g h = record { read = sym (other (getD ws at 0) refl); order = tt }
-    where
-      other : (k : ℕ) → getD ws at 0 ≡ k → placed ws files at ≡ none
-      other zero e = absurd (f e)
-      other (suc zero) e = absurd (g e)
-      other (suc (suc zero)) e = absurd (h e)
-      other (suc (suc (suc k))) e = by-kind l (suc (suc (suc k))) e
 
   pub end-cut :
       at + 2 ≤ length ws → getD ws at 0 ≡ 1 → length ws < at + 4 + getD ws (at + 2) 0 + getD ws (at + 3) 0
@@ -148,6 +135,51 @@ module _ (ws files : List ℕ) (at : ℕ) where
       (r : Next) → at + 2 ≤ length ws → getD ws at 0 ≡ 2 → NextLoad ws files at r → NextOf ws files at r
   reads-other r l e N = record { read = N .read ∙ sym (by-kind l 2 e); order = N .order }
 
+  abbrev this : ℕ → Option Placed
+  this j = some (record { call = checklist (checklistCall j (getD ws (at + 1) 0)); behind = at + 2 })
+
+  -- What a kind that is neither 0, 1 nor 2 says, from 7 on nothing.
+  pub reads-checklist :
+      (r : Next) → at + 2 ≤ length ws → (getD ws at 0 ≡ 0 → ⊥) → (getD ws at 0 ≡ 1 → ⊥) → (getD ws at 0 ≡ 2 → ⊥)
+      → NextChecklist (getD ws at 0) (getD ws (at + 1) 0) (at + 2) r → NextOf ws files at r
+  reads-checklist r l f g h (below k) = absurd (low (getD ws at 0) refl k)
+    where
+      low : (k : ℕ) → getD ws at 0 ≡ k → k < 3 → ⊥
+      low zero e k = f e
+      low (suc zero) e k = g e
+      low (suc (suc zero)) e k = h e
+      low (suc (suc (suc j))) e k = omega arith
+  reads-checklist r l f g h (above k) = record { read = sym (other (getD ws at 0) refl k); order = tt }
+    where
+      other : (k : ℕ) → getD ws at 0 ≡ k → 6 < k → placed ws files at ≡ none
+      other zero e k = absurd (omega arith)
+      other (suc zero) e k = absurd (omega arith)
+      other (suc (suc zero)) e k = absurd (omega arith)
+      other (suc (suc (suc zero))) e k = absurd (omega arith)
+      other (suc (suc (suc (suc zero)))) e k = absurd (omega arith)
+      other (suc (suc (suc (suc (suc zero))))) e k = absurd (omega arith)
+      other (suc (suc (suc (suc (suc (suc zero)))))) e k = absurd (omega arith)
+      other (suc (suc (suc (suc (suc (suc (suc j))))))) e k = by-kind l (suc (suc (suc (suc (suc (suc (suc j))))))) e
+  reads-checklist r l f g h (among k m) = record {
+    read = sym (which (getD ws at 0) refl k m);
+    order = l;
+  }
+    where
+      told : (j : ℕ) → j ≡ getD ws at 0 - 3 → this j ≡ this (getD ws at 0 - 3)
+      told j e = ap this e
+
+      which :
+          (k : ℕ) → getD ws at 0 ≡ k → 3 ≤ k → k ≤ 6
+          → placed ws files at ≡ this (getD ws at 0 - 3)
+      which zero e k m = absurd (omega arith)
+      which (suc zero) e k m = absurd (omega arith)
+      which (suc (suc zero)) e k m = absurd (omega arith)
+      which (suc (suc (suc zero))) e k m = by-kind l 3 e ∙ told 0 (omega arith)
+      which (suc (suc (suc (suc zero)))) e k m = by-kind l 4 e ∙ told 1 (omega arith)
+      which (suc (suc (suc (suc (suc zero))))) e k m = by-kind l 5 e ∙ told 2 (omega arith)
+      which (suc (suc (suc (suc (suc (suc zero)))))) e k m = by-kind l 6 e ∙ told 3 (omega arith)
+      which (suc (suc (suc (suc (suc (suc (suc j))))))) e k m = absurd (omega arith)
+
   pub reads-addition :
       at + 4 + getD ws (at + 2) 0 + getD ws (at + 3) 0 ≤ length ws → getD ws at 0 ≡ 1
       → NextOf ws files at (next.Add (getD ws (at + 1) 0) (at + 4) (at + 4 + getD ws (at + 2) 0)
@@ -180,6 +212,38 @@ pub load-order :
     (n k : ℕ) (x : Next) (f e b : ℕ) → x ≡ next.Load f e b → InOrder n k x → (f ≤ e) × (e ≤ k)
 load-order n k x f e b q o = subst (InOrder n k) q o
 
+-- Which call of a checklist was made.
+
+pub made-opening :
+    (t : Table) (w n : ℕ) (y : ChangeAnswer) (u : Table) → w ≡ 0 → OpenEnds n y u
+    → ChecklistEnds t (checklistCall w n) y u
+made-opening t w n y u e E = subst (λ (k : ℕ). ChecklistEnds t (checklistCall k n) y u) (sym e) E
+
+pub made-sent :
+    (t : Table) (w i : ℕ) (y : ChangeAnswer) (u : Table) → w ≡ 1 → FileEnds t (file-sent i) y u
+    → ChecklistEnds t (checklistCall w i) y u
+made-sent t w i y u e E = subst (λ (k : ℕ). ChecklistEnds t (checklistCall k i) y u) (sym e) E
+
+pub made-skipped :
+    (t : Table) (w i : ℕ) (y : ChangeAnswer) (u : Table) → w ≡ 2 → FileEnds t (file-skipped i) y u
+    → ChecklistEnds t (checklistCall w i) y u
+made-skipped t w i y u e E = subst (λ (k : ℕ). ChecklistEnds t (checklistCall k i) y u) (sym e) E
+
+pub made-withdrawn :
+    (t : Table) (w i : ℕ) (y : ChangeAnswer) (u : Table) → 3 ≤ w → FileEnds t (skip-withdrawn i) y u
+    → ChecklistEnds t (checklistCall w i) y u
+made-withdrawn t zero i y u l E = absurd (omega arith)
+made-withdrawn t (suc zero) i y u l E = absurd (omega arith)
+made-withdrawn t (suc (suc zero)) i y u l E = absurd (omega arith)
+made-withdrawn t (suc (suc (suc k))) i y u l E = E
+
+-- A call of a checklist is a step.
+checklist-step :
+    {t : Table} (c : list.Call) (y : ChangeAnswer) (u : Table) → ChecklistEnds t c y u
+    → Step t (checklist c) (bookChange y) u
+checklist-step (opening n) y u E = opens E
+checklist-step (of-file c) y u E = marks E
+
 -- One step, by the call that was read.
 module _ (ws files : List ℕ) (at : ℕ) (t : Table) (x : Next) (N : NextOf ws files at x) where
   pub step-end : x ≡ next.End → StepOf ws files at t (record { more = false; answer = 0; at = at; table = t })
@@ -189,13 +253,13 @@ module _ (ws files : List ℕ) (at : ℕ) (t : Table) (x : Next) (N : NextOf ws 
   }
 
   pub step-removal :
-      (s b n : ℕ) (y : RemoveAnswer) (u : Table) → x ≡ next.Remove s b → RemoveEnds t s y u
-      → n ≡ encode (bookRemove y) → StepOf ws files at t (record { more = true; answer = n; at = b; table = u })
+      (s b n : ℕ) (y : ChangeAnswer) (u : Table) → x ≡ next.Remove s b → RemoveEnds t s y u
+      → n ≡ encode (bookChange y) → StepOf ws files at t (record { more = true; answer = n; at = b; table = u })
   step-removal s b n y u e E d = record {
     over = λ q. absurd (true≢false q);
     made = λ q. record {
       call = change (remove s);
-      told = bookRemove y;
+      told = bookChange y;
       stands = sym (N .read) ∙ ap (callOf ws files) e;
       step = removes E;
       number = d;
@@ -223,10 +287,25 @@ module _ (ws files : List ℕ) (at : ℕ) (t : Table) (x : Next) (N : NextOf ws 
     over = λ z. absurd (true≢false (sym (L .more) ∙ z));
     made = λ z. record {
       call = load (between files f e);
-      told = bookLoad (L .told);
+      told = bookChange (L .told);
       stands = sym (N .read) ∙ ap (callOf ws files) q
           ∙ ap (λ (k : ℕ). some (record { call = load (between files f e); behind = k })) (sym (L .at));
       step = loads (L .ends);
+      number = L .number;
+    };
+  }
+
+  pub step-listing :
+      (w i b : ℕ) (r : Stepped) → x ≡ next.Checklist w i b → ChecklistMade t (checklistCall w i) b r
+      → StepOf ws files at t r
+  step-listing w i b r q L = record {
+    over = λ z. absurd (true≢false (sym (L .more) ∙ z));
+    made = λ z. record {
+      call = checklist (checklistCall w i);
+      told = bookChange (L .told);
+      stands = sym (N .read) ∙ ap (callOf ws files) q
+          ∙ ap (λ (k : ℕ). some (record { call = checklist (checklistCall w i); behind = k })) (sym (L .at));
+      step = checklist-step (checklistCall w i) (L .told) (r .table) (L .ends);
       number = L .number;
     };
   }

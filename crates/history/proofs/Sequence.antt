@@ -1,6 +1,6 @@
 -- Demand 3 holds after any list of calls from the empty table, each meeting its contract; and demand 2 after each.
 -- Assumes nothing.
-use Prim.Native.Nat.{ℕ, zero, suc, _<_}
+use Prim.Native.Nat.{ℕ, _<_}
 use native.Mathlib.Omega.{arith}
 use mathlib.Core.Path.{_≡_, refl, sym, _∙_, ap, ap₂, subst}
 use mathlib.Core.Logic.{⊎-elim}
@@ -8,7 +8,7 @@ use mathlib.Core.Bool.{true, false}
 use mathlib.Core.List.{List, [], _∷_, map}
 use mathlib.Core.Option.{Option, none, some}
 use lib.Dec.{ltb}
-use lib.ListN.{length, getD, replicate}
+use lib.ListN.{length, getD}
 use Rattle.theory.specs.Rules.{Rule, Program, Held}
 use Rattle.theory.specs.Rules as theory
 use Rattle.theory.specs.Models.{AtomSet, valid, Admissible, OnlyModel}
@@ -29,9 +29,8 @@ use Rattle.theory.proofs.Depths.{depth-count}
 use Rattle.theory.proofs.Labels.{in-occurs, spoils, spoiler-exists}
 use Rattle.theory.proofs.Explanations.{list-below}
 use Rattle.table.specs.declared.Table.{Table}
-use Rattle.table.specs.Rules.{programOf}
 use Rattle.table.specs.Labels.{labelAt}
-use Rattle.table.specs.Clean.{emptyTable, freeRule}
+use Rattle.table.specs.Clean.{emptyTable}
 use Rattle.table.specs.Sound.{Sound}
 use Rattle.table.proofs.Empty.{empty-sound, free-program}
 use Rattle.blocks.specs.Questions.{file-questions, pagesOf}
@@ -42,9 +41,13 @@ use Rattle.calls.specs.Answers.{tellLabel, tellSpoiler}
 use Rattle.calls.specs.Contracts as contract
 use Rattle.calls.specs.Contracts.{held, LabelEnds, SpoilerEnds}
 use Rattle.calls.proofs.Determined.{label-determined, spoiler-determined}
+use Rattle.checklist.specs.Book.{opening, of-file, checklistAnswer, checklistAfter}
+use Rattle.checklist.specs.Book as list-book
+use Rattle.checklist.specs.Contracts as list-contract
+use Rattle.checklist.proofs.Ends.{no-list}
 use Rattle.history.specs.Calls.{Call, change, callAnswer, callAfter, callsAnswers, callsAfter}
-use Rattle.history.specs.Claim.{Step, adds, removes, loads, Trace, stop, call, bookAnswers, bookAfter, Supported}
-use Rattle.history.specs.Claim.{History}
+use Rattle.history.specs.Claim.{Step, adds, removes, loads, opens, marks, Trace, stop, call}
+use Rattle.history.specs.Claim.{bookAnswers, bookAfter, Supported, History}
 
 -- The rules of a sound table have one admissible model, and its atoms are below the limit.
 
@@ -111,6 +114,32 @@ load-pages-yes :
 unfolding loadPages
 load-pages-yes bytes e = rw (e, loadPages)
 
+-- The same of a checklist's call.
+
+checklist-answer-no :
+    (P : Program) (c : list-book.Call) (k : ℕ) → list-book.refusal document P c ≡ some k
+    → checklistAnswer document P c ≡ refused k
+unfolding checklistAnswer
+checklist-answer-no P c k e = rw (e, checklistAnswer)
+
+checklist-answer-yes :
+    (P : Program) (c : list-book.Call) → list-book.refusal document P c ≡ none
+    → checklistAnswer document P c ≡ accepted
+unfolding checklistAnswer
+checklist-answer-yes P c e = rw (e, checklistAnswer)
+
+checklist-after-no :
+    (P : Program) (c : list-book.Call) (k : ℕ) → list-book.refusal document P c ≡ some k
+    → checklistAfter document P c ≡ list-book.left document P c
+unfolding checklistAfter
+checklist-after-no P c k e = rw (e, checklistAfter)
+
+checklist-after-yes :
+    (P : Program) (c : list-book.Call) → list-book.refusal document P c ≡ none
+    → checklistAfter document P c ≡ list-book.granted document P c
+unfolding checklistAfter
+checklist-after-yes P c e = rw (e, checklistAfter)
+
 pub step-follows : {t u : Table} {c : Call} {x : Answer} → Sound t → Step t c x u → Follows (held t) c x u
 step-follows {t} S (adds (contract.unsound n)) = absurd (n S)
 step-follows {t} S (adds {r} (contract.refused f T e)) = record {
@@ -142,6 +171,33 @@ step-follows {t} S (loads {bytes} (contract.refused f e)) = record {
 step-follows {t} S (loads {bytes} (contract.accepted u e Z h U)) = record {
   said = sym (load-answer-yes bytes e);
   holds = h ∙ sym (load-pages-yes bytes e);
+  still = U;
+}
+step-follows {t} S (opens {n} (list-contract.refused f e)) = record {
+  said = sym (checklist-answer-no (held t) (opening n) _ e);
+  holds = empty-held ∙ sym (checklist-after-no (held t) (opening n) _ e);
+  still = empty-sound;
+}
+step-follows {t} S (opens {n} (list-contract.accepted u e Z h U)) = record {
+  said = sym (checklist-answer-yes (held t) (opening n) e);
+  holds = h ∙ sym (checklist-after-yes (held t) (opening n) e);
+  still = U;
+}
+step-follows {t} S (marks {c} (list-contract.unsound n)) =
+    let e = no-list (held t) c (n S) in
+    record {
+      said = sym (checklist-answer-no (held t) (of-file c) 15 e);
+      holds = sym (checklist-after-no (held t) (of-file c) 15 e);
+      still = S;
+    }
+step-follows {t} S (marks {c} (list-contract.refused f T e)) = record {
+  said = sym (checklist-answer-no (held t) (of-file c) _ e);
+  holds = sym (checklist-after-no (held t) (of-file c) _ e);
+  still = S;
+}
+step-follows {t} S (marks {c} (list-contract.accepted u T e Z h U)) = record {
+  said = sym (checklist-answer-yes (held t) (of-file c) e);
+  holds = h ∙ sym (checklist-after-yes (held t) (of-file c) e);
   still = U;
 }
 

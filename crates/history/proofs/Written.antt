@@ -16,10 +16,14 @@ use Rattle.theory.specs.Book as book
 use Rattle.theory.specs.Book.{add, remove, Answer}
 use Rattle.theory.proofs.Lists.{le-leb}
 use Rattle.history.specs.declared.Replayed.{Replayed}
-use Rattle.history.specs.Calls.{Call, change, load}
+use Rattle.checklist.specs.Questions.{file-sent, file-skipped, skip-withdrawn}
+use Rattle.checklist.specs.Book.{opening, of-file}
+use Rattle.checklist.specs.Book as list
+use Rattle.history.specs.Calls.{Call, change, load, checklist}
 use Rattle.history.specs.Claim.{bookAnswers, History}
 use Rattle.history.specs.Encoding.{Placed, rule-at, addition-at, between, load-at, placed, decode, encode}
-use Rattle.history.specs.Encoding.{call-file, files-of, call-words, written-from, written}
+use Rattle.history.specs.Encoding.{checklist-at, placed-kind}
+use Rattle.history.specs.Encoding.{call-file, loaded-files, call-words, written-from, written}
 use Rattle.history.specs.Encoding.{Below, Words, Bytes, CallFits}
 use Rattle.history.specs.Replays.{Replays, ReplaysCalls, calls-in}
 use Rattle.history.proofs.Reading.{short, by-kind, counts, load-fits}
@@ -118,6 +122,33 @@ module _ (files xs rest : List ℕ) where
       ∙ placed-addition (r .head) (r .positives) (r .negatives)
       ∙ ap (λ (k : ℕ). some (record { call = change (add r); behind = k })) end
 
+  -- A call of a checklist: by its kind and its number.
+  module _ (kind i : ℕ) where
+    abbrev two : List ℕ
+    two = xs ++ (kind ∷ i ∷ rest)
+
+    listed :
+        (of : ℕ → list.Call) → placed-kind two files (length xs) kind ≡ some (checklist-at two (length xs) of)
+        → placed two files (length xs)
+        ≡ some (record { call = checklist (of i); behind = length (xs ++ (kind ∷ i ∷ [])) })
+    listed of e =
+        by-kind two files (length xs) (omega (arith, length-append xs (kind ∷ i ∷ rest))) kind
+        (getD-append-seam xs kind (i ∷ rest) 0)
+        ∙ e
+        ∙ ap (λ (k : ℕ). some (record { call = checklist (of k); behind = length xs + 2 }))
+        (getD-append-add xs (kind ∷ i ∷ rest) 1 0)
+        ∙ ap (λ (k : ℕ). some (record { call = checklist (of i); behind = k }))
+        (sym (length-append xs (kind ∷ i ∷ [])))
+
+  placed-checklist :
+      (passed : ℕ) (c : list.Call)
+      → placed (xs ++ (call-words passed (checklist c) ++ rest)) files (length xs)
+      ≡ some (record { call = checklist c; behind = length (xs ++ call-words passed (checklist c)) })
+  placed-checklist passed (opening n) = listed 3 n opening refl
+  placed-checklist passed (of-file (file-sent i)) = listed 4 i (λ j. of-file (file-sent j)) refl
+  placed-checklist passed (of-file (file-skipped i)) = listed 5 i (λ j. of-file (file-skipped j)) refl
+  placed-checklist passed (of-file (skip-withdrawn i)) = listed 6 i (λ j. of-file (skip-withdrawn j)) refl
+
 -- A load whose file stands behind other bytes.
 module _ (before file more xs rest : List ℕ) where
   abbrev loading : List ℕ
@@ -171,6 +202,7 @@ placed-call :
     ≡ some (record { call = c; behind = length (xs ++ call-words (length before) c) })
 placed-call before more xs rest (change c) = placed-change (before ++ more) xs rest (length before) c
 placed-call before more xs rest (load file) = placed-loading before file more xs rest
+placed-call before more xs rest (checklist c) = placed-checklist (before ++ more) xs rest (length before) c
 
 -- A list of calls that stands behind other words, and its files behind other bytes, is read.
 
@@ -184,42 +216,42 @@ words-behind :
 unfolding written-from
 words-behind n xs c cs = refl
 
-files-behind : (ys : List ℕ) (c : Call) (cs : List Call) → ys ++ files-of (c ∷ cs) ≡ ys ++ (call-file c ++ files-of cs)
-unfolding files-of
+files-behind : (ys : List ℕ) (c : Call) (cs : List Call) → ys ++ loaded-files (c ∷ cs) ≡ ys ++ (call-file c ++ loaded-files cs)
+unfolding loaded-files
 files-behind ys c cs = refl
 
 decode-behind :
     (cs : List Call) (most : ℕ) (xs ys : List ℕ) → length cs ≤ most
-    → decode most (xs ++ written-from (length ys) cs) (ys ++ files-of cs) (length xs) ≡ cs
+    → decode most (xs ++ written-from (length ys) cs) (ys ++ loaded-files cs) (length xs) ≡ cs
 decode-behind [] most xs ys l =
     let ws = xs ++ written-from (length ys) [] in
     let e : length ws ≡ length xs = ap length (nothing-behind (length ys) xs) in
-    decode-over most ws (ys ++ files-of []) (length xs) (short ws (ys ++ files-of []) (length xs) (omega (arith, e)))
+    decode-over most ws (ys ++ loaded-files []) (length xs) (short ws (ys ++ loaded-files []) (length xs) (omega (arith, e)))
 decode-behind (c ∷ cs) zero xs ys l = absurd (omega arith)
 decode-behind (c ∷ cs) (suc most) xs ys l =
     let n = length ys in
     let m = n + length (call-file c) in
-    let fs = ys ++ (call-file c ++ files-of cs) in
+    let fs = ys ++ (call-file c ++ loaded-files cs) in
     let word : m ≡ length (ys ++ call-file c) = sym (length-append ys (call-file c)) in
     ap₂ (λ (ws bs : List ℕ). decode (suc most) ws bs (length xs)) (words-behind n xs c cs) (files-behind ys c cs)
     ∙ decode-next most (xs ++ (call-words n c ++ written-from m cs)) fs (length xs) _
-    (placed-call ys (files-of cs) xs (written-from m cs) c)
+    (placed-call ys (loaded-files cs) xs (written-from m cs) c)
     ∙ ap (λ (ds : List Call). c ∷ ds)
     (ap₂ (λ (ws bs : List ℕ). decode most ws bs (length (xs ++ call-words n c)))
     (sym (append-assoc xs (call-words n c) (written-from m cs))
     ∙ ap (λ (k : ℕ). (xs ++ call-words n c) ++ written-from k cs) word)
-    (sym (append-assoc ys (call-file c) (files-of cs)))
+    (sym (append-assoc ys (call-file c) (loaded-files cs)))
     ∙ decode-behind cs most (xs ++ call-words n c) (ys ++ call-file c) (omega arith))
 
 -- Written and read back, a list of calls is the same, given room for its answers.
 pub decode-written :
-    (cs : List Call) (before : List ℕ) → length cs ≤ length before → calls-in (written cs) (files-of cs) before ≡ cs
+    (cs : List Call) (before : List ℕ) → length cs ≤ length before → calls-in (written cs) (loaded-files cs) before ≡ cs
 decode-written cs before l = decode-behind cs (length before) [] [] l
 
 -- So `replay` can be asked for any list of calls.
 pub replay-written :
     (cs : List Call) {before after : List ℕ} {r : Replayed} → length cs ≤ length before
-    → Replays (written cs) (files-of cs) before r after → ReplaysCalls cs before r after
+    → Replays (written cs) (loaded-files cs) before r after → ReplaysCalls cs before r after
 replay-written cs {before} {after} {r} l R =
     let same = decode-written cs before l in
     let claim : History cs (R .told) (r .table) =
@@ -251,31 +283,39 @@ change-fits n (remove s) f = below-cons (omega arith) (below-cons f below-nil)
 change-fits n (add r) (h, p, k, ps, ns) =
     below-cons (omega arith) (below-cons h (below-cons p (below-cons k (below-append (r .positives) ps ns))))
 
+checklist-fits : (n : ℕ) (c : list.Call) → CallFits (checklist c) → Words (call-words n (checklist c))
+checklist-fits n (opening k) f = below-cons (omega arith) (below-cons f below-nil)
+checklist-fits n (of-file (file-sent i)) f = below-cons (omega arith) (below-cons f below-nil)
+checklist-fits n (of-file (file-skipped i)) f = below-cons (omega arith) (below-cons f below-nil)
+checklist-fits n (of-file (skip-withdrawn i)) f = below-cons (omega arith) (below-cons f below-nil)
+
 call-fits : (n : ℕ) (c : Call) → CallFits c → n + length (call-file c) < 2 ^ 32 → Words (call-words n c)
 call-fits n (change c) f l = change-fits n c f
 call-fits n (load bytes) f l = below-cons (omega arith) (below-cons (omega arith) (below-cons l below-nil))
+call-fits n (checklist c) f l = checklist-fits n c f
 
 written-from-fits :
-    (n : ℕ) (cs : List Call) → ((c : Call) → List·Memᴰ c cs → CallFits c) → n + length (files-of cs) < 2 ^ 32
+    (n : ℕ) (cs : List Call) → ((c : Call) → List·Memᴰ c cs → CallFits c) → n + length (loaded-files cs) < 2 ^ 32
     → Words (written-from n cs)
-unfolding written-from files-of
+unfolding written-from loaded-files
 written-from-fits n [] f l = below-nil
 written-from-fits n (c ∷ cs) f l =
-    let e = length-append (call-file c) (files-of cs) in
+    let e = length-append (call-file c) (loaded-files cs) in
     below-append (call-words n c) (call-fits n c (f c (List·Memᴰ·head refl)) (omega (arith, e)))
     (written-from-fits _ cs (λ d m. f d (List·Memᴰ·tail m)) (omega (arith, e)))
 
 pub written-fits :
-    (cs : List Call) → ((c : Call) → List·Memᴰ c cs → CallFits c) → length (files-of cs) < 2 ^ 32
+    (cs : List Call) → ((c : Call) → List·Memᴰ c cs → CallFits c) → length (loaded-files cs) < 2 ^ 32
     → Words (written cs)
 written-fits cs f l = written-from-fits 0 cs f (omega arith)
 
 file-bytes : (c : Call) → CallFits c → Bytes (call-file c)
 file-bytes (change c) f = below-nil
 file-bytes (load bytes) f = f
+file-bytes (checklist c) f = below-nil
 
-pub files-fit : (cs : List Call) → ((c : Call) → List·Memᴰ c cs → CallFits c) → Bytes (files-of cs)
-unfolding files-of
+pub files-fit : (cs : List Call) → ((c : Call) → List·Memᴰ c cs → CallFits c) → Bytes (loaded-files cs)
+unfolding loaded-files
 files-fit [] f = below-nil
 files-fit (c ∷ cs) f =
     below-append (call-file c) (file-bytes c (f c (List·Memᴰ·head refl)))

@@ -19,20 +19,26 @@ use Rattle.table.specs.declared.Table.{Table}
 use Rattle.table.specs.Labels.{labelAt}
 use Rattle.table.specs.Sound.{Sound}
 use Rattle.calls.specs.declared.AddAnswer.{AddAnswer}
-use Rattle.calls.specs.declared.RemoveAnswer.{RemoveAnswer}
+use Rattle.calls.specs.declared.ChangeAnswer.{ChangeAnswer}
 use Rattle.calls.specs.declared.LabelAnswer.{LabelAnswer}
 use Rattle.calls.specs.declared.SpoilerAnswer.{SpoilerAnswer}
-use Rattle.calls.specs.declared.LoadAnswer.{LoadAnswer}
-use Rattle.calls.specs.Answers.{bookAdd, bookRemove, bookLoad, tellLabel, tellSpoiler}
+use Rattle.calls.specs.Answers.{bookAdd, bookChange, tellLabel, tellSpoiler}
 use Rattle.calls.specs.Contracts.{held, AddEnds, RemoveEnds, LabelEnds, SpoilerEnds, LoadEnds}
-use Rattle.history.specs.Calls.{Call, change, load, callsAnswers, callsAfter}
+use Rattle.checklist.specs.Questions.{FileCall}
+use Rattle.checklist.specs.Book.{opening, of-file}
+use Rattle.checklist.specs.Contracts.{OpenEnds, FileEnds}
+use Rattle.history.specs.Calls.{Call, change, load, checklist, callsAnswers, callsAfter}
 
--- A call that meets its contract: on the table t it answers and hands back a table. A load takes no table, so t is
--- given up.
+-- A call that meets its contract: on the table t it answers and hands back a table. A load and the opening of a
+-- checklist take no table, so t is given up.
 pub data Step (t : Table) : Call → Answer → Table → Type 0 where
   adds : {r : Rule} {x : AddAnswer} {u : Table} → AddEnds t r x u → Step t (change (add r)) (bookAdd x) u
-  removes : {s : ℕ} {x : RemoveAnswer} {u : Table} → RemoveEnds t s x u → Step t (change (remove s)) (bookRemove x) u
-  loads : {bytes : List ℕ} {x : LoadAnswer} {u : Table} → LoadEnds bytes x u → Step t (load bytes) (bookLoad x) u
+  removes : {s : ℕ} {x : ChangeAnswer} {u : Table} → RemoveEnds t s x u → Step t (change (remove s)) (bookChange x) u
+  loads : {bytes : List ℕ} {x : ChangeAnswer} {u : Table} → LoadEnds bytes x u → Step t (load bytes) (bookChange x) u
+  opens :
+      {n : ℕ} {x : ChangeAnswer} {u : Table} → OpenEnds n x u → Step t (checklist (opening n)) (bookChange x) u
+  marks :
+      {c : FileCall} {x : ChangeAnswer} {u : Table} → FileEnds t c x u → Step t (checklist (of-file c)) (bookChange x) u
 
 -- A list of such calls.
 pub data Trace : Table → List Call → List Answer → Table → Type 0 where

@@ -8,7 +8,10 @@ use lib.ListN.{length, getD, take, drop}
 use Rattle.theory.specs.Lists.{_∈_}
 use Rattle.theory.specs.Rules.{Rule}
 use Rattle.theory.specs.Book.{add, remove, Answer, refused, slot, accepted}
-use Rattle.history.specs.Calls.{Call, change, load}
+use Rattle.checklist.specs.Questions.{file, file-sent, file-skipped, skip-withdrawn}
+use Rattle.checklist.specs.Book.{opening, of-file}
+use Rattle.checklist.specs.Book as list
+use Rattle.history.specs.Calls.{Call, change, load, checklist}
 
 -- A call that stands at a place of the list, and the place behind it.
 pub record Placed : Type 0 where
@@ -37,6 +40,10 @@ abbrev pub load-at : List ℕ → List ℕ → ℕ → Placed
 load-at ws files at =
     record { call = load (between files (getD ws (at + 1) 0) (getD ws (at + 2) 0)); behind = at + 3 }
 
+-- A call of a checklist whose number stands at the place after its kind.
+abbrev pub checklist-at : List ℕ → ℕ → (ℕ → list.Call) → Placed
+checklist-at ws at of = record { call = checklist (of (getD ws (at + 1) 0)); behind = at + 2 }
+
 abbrev pub when : Bool → Option Placed → Option Placed
 when true o = o
 when false o = none
@@ -51,13 +58,19 @@ placed-load ws files at =
     (some (load-at ws files at))
 
 -- 0 and a slot: a removal. 1, a head, how many positives and how many negatives, then these: an addition. 2 and two
--- places: a load of the bytes of the files from the first to below the second. Any other number is no call; what is cut
+-- places: a load of the bytes of the files from the first to below the second. 3 and a number of files: the opening of
+-- a checklist. 4, 5, 6 and a file: file sent, file skipped, skip withdrawn. Any other number is no call; what is cut
 -- short is none, and neither is a load of bytes that the files do not have.
 abbrev pub placed-kind : List ℕ → List ℕ → ℕ → ℕ → Option Placed
 placed-kind ws files at zero = some (record { call = change (remove (getD ws (at + 1) 0)); behind = at + 2 })
 placed-kind ws files at (suc zero) = when (leb (addition-at ws at .behind) (length ws)) (some (addition-at ws at))
 placed-kind ws files at (suc (suc zero)) = placed-load ws files at
-placed-kind ws files at (suc (suc (suc k))) = none
+placed-kind ws files at (suc (suc (suc zero))) = some (checklist-at ws at opening)
+placed-kind ws files at (suc (suc (suc (suc zero)))) = some (checklist-at ws at (λ i. of-file (file-sent i)))
+placed-kind ws files at (suc (suc (suc (suc (suc zero))))) = some (checklist-at ws at (λ i. of-file (file-skipped i)))
+placed-kind ws files at (suc (suc (suc (suc (suc (suc zero)))))) =
+    some (checklist-at ws at (λ i. of-file (skip-withdrawn i)))
+placed-kind ws files at (suc (suc (suc (suc (suc (suc (suc k))))))) = none
 
 unfoldable pub placed : List ℕ → List ℕ → ℕ → Option Placed
 placed ws files at = when (leb (at + 2) (length ws)) (placed-kind ws files at (getD ws at 0))
@@ -72,18 +85,23 @@ decode (suc most) ws files at =
 abbrev pub call-file : Call → List ℕ
 call-file (change c) = []
 call-file (load bytes) = bytes
+call-file (checklist c) = []
 
 -- The files of a list of calls, one behind another; and the words that are read as this list: each call's, one after
 -- another, where so many bytes of the files stand before those of the first.
-unfoldable pub files-of : List Call → List ℕ
-files-of [] = []
-files-of (c ∷ cs) = call-file c ++ files-of cs
+unfoldable pub loaded-files : List Call → List ℕ
+loaded-files [] = []
+loaded-files (c ∷ cs) = call-file c ++ loaded-files cs
 
 abbrev pub call-words : ℕ → Call → List ℕ
 call-words passed (change (remove s)) = 0 ∷ s ∷ []
 call-words passed (change (add r)) =
     1 ∷ r .head ∷ length (r .positives) ∷ length (r .negatives) ∷ (r .positives ++ r .negatives)
 call-words passed (load bytes) = 2 ∷ passed ∷ (passed + length bytes) ∷ []
+call-words passed (checklist (opening n)) = 3 ∷ n ∷ []
+call-words passed (checklist (of-file (file-sent i))) = 4 ∷ i ∷ []
+call-words passed (checklist (of-file (file-skipped i))) = 5 ∷ i ∷ []
+call-words passed (checklist (of-file (skip-withdrawn i))) = 6 ∷ i ∷ []
 
 unfoldable pub written-from : ℕ → List Call → List ℕ
 written-from passed [] = []
@@ -109,6 +127,8 @@ CallFits (change (add r)) =
     (r .head < 2 ^ 32) × (length (r .positives) < 2 ^ 32) × (length (r .negatives) < 2 ^ 32) × Words (r .positives)
     × Words (r .negatives)
 CallFits (load bytes) = Bytes bytes
+CallFits (checklist (opening n)) = n < 2 ^ 32
+CallFits (checklist (of-file c)) = file c < 2 ^ 32
 
 -- An answer as a number: the slot taken; 65,536 for accepted; 65,536 and its number for a refusal.
 abbrev pub encode : Answer → ℕ

@@ -1,5 +1,5 @@
 -- Private: what the functions behind `replay` tell each other. No exported contract speaks of it. Assumes nothing.
-use Prim.Native.Nat.{ℕ, _≤_}
+use Prim.Native.Nat.{ℕ, zero, suc, _-_, _≤_, _<_}
 use mathlib.Core.Path.{_≡_}
 use mathlib.Core.Bool.{true, false}
 use mathlib.Core.List.{List}
@@ -7,15 +7,26 @@ use mathlib.Core.Option.{Option, none, some}
 use lib.ListN.{length}
 use Rattle.theory.specs.Book.{add, remove, Answer}
 use Rattle.table.specs.declared.Table.{Table}
-use Rattle.calls.specs.declared.LoadAnswer.{LoadAnswer}
-use Rattle.calls.specs.Answers.{bookLoad}
+use Rattle.calls.specs.declared.ChangeAnswer.{ChangeAnswer}
+use Rattle.calls.specs.Answers.{bookChange}
 use Rattle.calls.specs.Contracts.{LoadEnds}
+use Rattle.checklist.specs.Questions.{file-sent, file-skipped, skip-withdrawn}
+use Rattle.checklist.specs.Book.{opening, of-file}
+use Rattle.checklist.specs.Book as list
+use Rattle.checklist.specs.Contracts.{OpenEnds, FileEnds}
 use Rattle.history.specs.declared.Next.{Next}
 use Rattle.history.specs.declared.Next.the-variants as next
 use Rattle.history.specs.declared.Stepped.{Stepped}
-use Rattle.history.specs.Calls.{Call, change, load}
+use Rattle.history.specs.Calls.{Call, change, load, checklist}
 use Rattle.history.specs.Claim.{Step}
 use Rattle.history.specs.Encoding.{Placed, between, placed-load, placed, encode}
+
+-- Which call of a checklist, by its kind less 3.
+abbrev pub checklistCall : ℕ → ℕ → list.Call
+checklistCall zero n = opening n
+checklistCall (suc zero) i = of-file (file-sent i)
+checklistCall (suc (suc zero)) i = of-file (file-skipped i)
+checklistCall (suc (suc (suc k))) i = of-file (skip-withdrawn i)
 
 -- The call that is read at a place, and the place behind it.
 abbrev pub callOf : List ℕ → List ℕ → Next → Option Placed
@@ -31,6 +42,8 @@ callOf ws files (next.Add head from middle to) =
       behind = to;
     })
 callOf ws files (next.Load from to behind) = some (record { call = load (between files from to); behind = behind })
+callOf ws files (next.Checklist which number behind) =
+    some (record { call = checklist (checklistCall which number); behind = behind })
 
 -- The parts of the lists lie in the list, and a file in the files.
 abbrev pub InOrder : ℕ → ℕ → Next → Type 0
@@ -38,6 +51,7 @@ InOrder words bytes next.End = Unit {0}
 InOrder words bytes (next.Remove s behind) = behind ≤ words
 InOrder words bytes (next.Add head from middle to) = (from ≤ middle) × (middle ≤ to) × (to ≤ words)
 InOrder words bytes (next.Load from to behind) = (from ≤ to) × (to ≤ bytes)
+InOrder words bytes (next.Checklist which number behind) = behind ≤ words
 
 -- What was read is this call, or that there is none.
 pub record ReadAs (ws files : List ℕ) (call : Option Placed) (r : Next) : Type 0 where
@@ -50,6 +64,12 @@ NextLoad ws files at r = ReadAs ws files (placed-load ws files at) r
 
 abbrev pub NextOf : List ℕ → List ℕ → ℕ → Next → Type 0
 NextOf ws files at r = ReadAs ws files (placed ws files at) r
+
+-- Kinds 3 to 6 are a checklist's, no other from 3 on is a call's.
+pub data NextChecklist (kind number behind : ℕ) : Next → Type 0 where
+  below : kind < 3 → NextChecklist kind number behind next.End
+  above : 6 < kind → NextChecklist kind number behind next.End
+  among : 3 ≤ kind → kind ≤ 6 → NextChecklist kind number behind (next.Checklist (kind - 3) number behind)
 
 -- The call that stands at a place was made: it meets its contract on the table t, and its answer is told as a number.
 pub record CallMade (ws files : List ℕ) (at : ℕ) (t : Table) (answer behind : ℕ) (u : Table) : Type 0 where
@@ -66,8 +86,20 @@ pub record StepOf (ws files : List ℕ) (at : ℕ) (t : Table) (r : Stepped) : T
 
 -- A load of these bytes was made, and the place behind it is told.
 pub record LoadMade (bytes : List ℕ) (behind : ℕ) (r : Stepped) : Type 0 where
-  pub told : LoadAnswer
+  pub told : ChangeAnswer
   pub more : r .more ≡ true
   pub at : r .at ≡ behind
   pub ends : LoadEnds bytes told (r .table)
-  pub number : r .answer ≡ encode (bookLoad told)
+  pub number : r .answer ≡ encode (bookChange told)
+
+-- A call of a checklist, as its contract says; that one was made, and the place behind it is told.
+abbrev pub ChecklistEnds : Table → list.Call → ChangeAnswer → Table → Type 0
+ChecklistEnds t (opening n) x u = OpenEnds n x u
+ChecklistEnds t (of-file c) x u = FileEnds t c x u
+
+pub record ChecklistMade (t : Table) (c : list.Call) (behind : ℕ) (r : Stepped) : Type 0 where
+  pub told : ChangeAnswer
+  pub more : r .more ≡ true
+  pub at : r .at ≡ behind
+  pub ends : ChecklistEnds t c told (r .table)
+  pub number : r .answer ≡ encode (bookChange told)

@@ -1,19 +1,23 @@
 // A list of calls, written as numbers, made one after another from the empty table.
 use calls::AddAnswer;
-use calls::LoadAnswer;
-use calls::RemoveAnswer;
+use calls::ChangeAnswer;
+use calls::Changed;
 use calls::refusal_number;
 use changes::add;
 use changes::remove;
+use checklist::file_sent;
+use checklist::file_skipped;
+use checklist::open;
+use checklist::skip_withdrawn;
 use files::load;
 use table::Table;
 ghost use mathlib.Core.Path.{_≡_};
-ghost use Prim.Native.Nat.{_+_, _≤_};
-ghost use lib.ListN.{length};
-ghost use Rattle.calls.specs.Answers.{bookAdd, bookRemove, bookLoad};
+ghost use Prim.Native.Nat.{_+_};
+ghost use Rattle.calls.specs.Answers.{bookAdd, bookChange};
 ghost use Rattle.history.specs.Encoding.{encode};
 ghost use Rattle.history.specs.Replays.{Replays};
-ghost use Rattle.history.specs.Steps.{NextLoad, NextOf, LoadMade, StepOf};
+ghost use Rattle.history.specs.Steps.{NextLoad, NextChecklist, NextOf, LoadMade, StepOf};
+ghost use Rattle.history.specs.Steps.{checklistCall, ChecklistEnds, ChecklistMade};
 
 // How many calls were made, and the table that the last handed back.
 #[repr(C)]
@@ -22,13 +26,15 @@ pub struct Replayed {
     pub table: Table,
 }
 
-// The call at a place: none, a removal and the place behind it, an addition with the ends of its two lists, or a load
-// with the ends of its file and the place behind it.
+// The call at a place: none, a removal and the place behind it, an addition with the ends of its two lists, a load with
+// the ends of its file and the place behind it, or a call of a checklist: which (its kind less 3), its number and the
+// place behind it.
 enum Next {
     End,
     Remove(u32, usize),
     Add(u32, usize, usize, usize),
     Load(usize, usize, usize),
+    Checklist(u32, u32, usize),
 }
 
 // One step: was there a call, what did it answer, where does the next stand, and the table.
@@ -49,23 +55,13 @@ fn added(answer: AddAnswer) -> u32
     }
 }
 
-// What a removal answered, as a number.
-fn removed(answer: RemoveAnswer) -> u32
-    ensures { λ r. ⌜ r ≡ encode (bookRemove answer) ⌝ }
+// What a removal, a load or a call of a checklist answered, as a number.
+fn accepted(answer: ChangeAnswer) -> u32
+    ensures { λ r. ⌜ r ≡ encode (bookChange answer) ⌝ }
 {
     match answer {
-        RemoveAnswer::Removed => 65536,
-        RemoveAnswer::Refused(f) => 65536 + refusal_number(f),
-    }
-}
-
-// What a load answered, as a number.
-fn loaded(answer: LoadAnswer) -> u32
-    ensures { λ r. ⌜ r ≡ encode (bookLoad answer) ⌝ }
-{
-    match answer {
-        LoadAnswer::Loaded => 65536,
-        LoadAnswer::Refused(f) => 65536 + refusal_number(f),
+        ChangeAnswer::Accepted => 65536,
+        ChangeAnswer::Refused(f) => 65536 + refusal_number(f),
     }
 }
 
@@ -91,6 +87,19 @@ fn next_load(words: &[u32], files: &[u8], at: usize) -> Next
     Next::Load(from, to, at + 3)
 }
 
+// The call of a checklist that a kind says, if it says one.
+fn next_checklist(kind: u32, number: u32, behind: usize) -> Next
+    ensures { λ r. ⌜ NextChecklist kind number behind r ⌝ }
+{
+    if kind < 3 {
+        return Next::End;
+    }
+    if kind > 6 {
+        return Next::End;
+    }
+    Next::Checklist(kind - 3, number, behind)
+}
+
 // Reads the call at a place of the list.
 fn next_call(words: &[u32], files: &[u8], at: usize) -> Next
     ensures { λ r. ⌜ NextOf (now (words .entry)) (now (files .entry)) at r ⌝ }
@@ -110,7 +119,7 @@ fn next_call(words: &[u32], files: &[u8], at: usize) -> Next
         return next_load(words, files, at);
     }
     if kind != 1 {
-        return Next::End;
+        return next_checklist(kind, words[at + 1], at + 2);
     }
     if n - at < 4 {
         return Next::End;
@@ -137,9 +146,40 @@ fn step_load(file: &[u8], behind: usize) -> Stepped
     let after = done.table;
     Stepped {
         more: true,
-        answer: loaded(answer),
+        answer: accepted(answer),
         at: behind,
         table: after,
+    }
+}
+
+// Makes the call of a checklist.
+fn call_checklist(which: u32, number: u32, table: Table) -> Changed
+    ensures { λ r. ⌜ ChecklistEnds table (checklistCall which number) (r .answer) (r .table) ⌝ }
+{
+    if which == 0 {
+        return open(number);
+    }
+    if which == 1 {
+        return file_sent(table, number);
+    }
+    if which == 2 {
+        return file_skipped(table, number);
+    }
+    skip_withdrawn(table, number)
+}
+
+// Makes it; the next call stands behind.
+fn step_checklist(which: u32, number: u32, table: Table, behind: usize) -> Stepped
+    ensures { λ r. ⌜ ChecklistMade table (checklistCall which number) behind r ⌝ }
+{
+    let done = call_checklist(which, number, table);
+    let answer = done.answer;
+    let list = done.table;
+    Stepped {
+        more: true,
+        answer: accepted(answer),
+        at: behind,
+        table: list,
     }
 }
 
@@ -161,7 +201,7 @@ fn step(words: &[u32], files: &[u8], at: usize, table: Table) -> Stepped
             let after = done.table;
             Stepped {
                 more: true,
-                answer: removed(answer),
+                answer: accepted(answer),
                 at: behind,
                 table: after,
             }
@@ -178,6 +218,7 @@ fn step(words: &[u32], files: &[u8], at: usize, table: Table) -> Stepped
             }
         },
         Next::Load(from, to, behind) => step_load(&files[from..to], behind),
+        Next::Checklist(which, number, behind) => step_checklist(which, number, table, behind),
     }
 }
 

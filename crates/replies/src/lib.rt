@@ -1,9 +1,9 @@
 // The reply to a line of a sheet: the table after it, and the bytes that it prints, written into a lent buffer.
 use calls::AddAnswer;
 use calls::Added;
+use calls::ChangeAnswer;
 use calls::ListAnswer;
 use calls::Refusal;
-use calls::RemoveAnswer;
 use calls::refusal_number;
 use changes::add;
 use changes::remove;
@@ -104,8 +104,8 @@ fn removed(table: Table, place: Place, slot: u32, out: &mut [u8], at: usize) -> 
     let answer = done.answer;
     let after = done.table;
     match answer {
-        RemoveAnswer::Removed => named(after, place, b"removed", slot, out, at),
-        RemoveAnswer::Refused(f) => refused(after, place, refusal_number(f), out, at),
+        ChangeAnswer::Accepted => named(after, place, b"removed", slot, out, at),
+        ChangeAnswer::Refused(f) => refused(after, place, refusal_number(f), out, at),
     }
 }
 

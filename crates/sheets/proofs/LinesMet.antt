@@ -24,10 +24,10 @@ use Rattle.table.specs.Labels.{labelAt}
 use Rattle.table.specs.Sound.{Sound}
 use Rattle.calls.specs.declared.AddAnswer.{AddAnswer}
 use Rattle.calls.specs.declared.AddAnswer.the-variants as added
-use Rattle.calls.specs.declared.RemoveAnswer.{RemoveAnswer}
-use Rattle.calls.specs.declared.RemoveAnswer.the-variants as removed
+use Rattle.calls.specs.declared.ChangeAnswer.{ChangeAnswer}
+use Rattle.calls.specs.declared.ChangeAnswer.the-variants as changed
 use Rattle.calls.specs.declared.ListAnswer.{ListAnswer}
-use Rattle.calls.specs.Answers.{numberOf, bookAdd, bookRemove}
+use Rattle.calls.specs.Answers.{numberOf, bookAdd, bookChange}
 use Rattle.calls.specs.Contracts as contract
 use Rattle.calls.specs.Contracts.{held, ReasonEnds}
 use Rattle.calls.proofs.Determined.{same-model}
@@ -54,9 +54,9 @@ add-told : (n : ℕ) (x : AddAnswer) → tellAdd n x ≡ addLine n (bookAdd x)
 add-told n (added.Taken s) = refl
 add-told n (added.Refused f) = refl
 
-remove-told : (n s : ℕ) (x : RemoveAnswer) → tellRemove n s x ≡ removeLine n s (bookRemove x)
-remove-told n s removed.Removed = refl
-remove-told n s (removed.Refused f) = refl
+remove-told : (n s : ℕ) (x : ChangeAnswer) → tellRemove n s x ≡ removeLine n s (bookChange x)
+remove-told n s changed.Accepted = refl
+remove-told n s (changed.Refused f) = refl
 
 -- A reason. Question 10 is answered by the number alone, so a number past the limit needs no label.
 module _ (t : Table) (S : Sound t) (n a : ℕ) where
@@ -156,7 +156,7 @@ line-done {t} {u} {n} {line} {printed} S p = go p
         })
     go (prints.remove slot x v e ends) =
         on (is (sheet.remove slot)) e (record {
-          told = bookRemove x ∷ [];
+          told = bookChange x ∷ [];
           trace = call (removes ends) stop;
           seen = remove-told n slot x ∙ ap (removeLine n slot) (step-follows S (removes ends) .said);
         })

@@ -12,7 +12,7 @@ use Rattle.table.specs.declared.Table.{Table}
 use Rattle.table.specs.Questions.{ruleFrom}
 use Rattle.table.specs.Sound.{Sound}
 use Rattle.calls.specs.declared.AddAnswer.{AddAnswer}
-use Rattle.calls.specs.declared.RemoveAnswer.{RemoveAnswer}
+use Rattle.calls.specs.declared.ChangeAnswer.{ChangeAnswer}
 use Rattle.calls.specs.declared.ListAnswer.{ListAnswer}
 use Rattle.calls.specs.declared.Refusal.the-variants.{Unsound}
 use Rattle.calls.specs.Answers.{numberOf}
@@ -44,7 +44,7 @@ Ends t n no-command bs u = (bs ≡ refusalLine n 13) × (u ≡ t)
 Ends t n (is (sheet.add head ps ns)) bs u =
     (answer : AddAnswer) × AddEnds t (ruleFrom head ps ns) answer u × (bs ≡ tellAdd n answer)
 Ends t n (is (sheet.remove slot)) bs u =
-    (answer : RemoveAnswer) × RemoveEnds t slot answer u × (bs ≡ tellRemove n slot answer)
+    (answer : ChangeAnswer) × RemoveEnds t slot answer u × (bs ≡ tellRemove n slot answer)
 Ends t n (is (sheet.why atom)) bs u =
     (answer : ListAnswer) × (buffer : List ℕ) × ReasonEnds t atom lent answer buffer
     × (bs ≡ tellReason n answer buffer) × (u ≡ t)

@@ -11,8 +11,8 @@ use Rattle.table.specs.Questions.{ruleFrom}
 use Rattle.table.specs.Sound.{Sound}
 use Rattle.calls.specs.declared.AddAnswer.{AddAnswer}
 use Rattle.calls.specs.declared.AddAnswer.the-variants as added
-use Rattle.calls.specs.declared.RemoveAnswer.{RemoveAnswer}
-use Rattle.calls.specs.declared.RemoveAnswer.the-variants as removed
+use Rattle.calls.specs.declared.ChangeAnswer.{ChangeAnswer}
+use Rattle.calls.specs.declared.ChangeAnswer.the-variants as changed
 use Rattle.calls.specs.declared.ListAnswer.{ListAnswer}
 use Rattle.calls.specs.declared.ListAnswer.the-variants as listed
 use Rattle.calls.specs.declared.Refusal.the-variants.{Unsound}
@@ -29,9 +29,9 @@ abbrev pub tellAdd : ℕ → AddAnswer → List ℕ
 tellAdd n (added.Taken s) = named (bytes "slot") (s .0)
 tellAdd n (added.Refused f) = refusalLine n (numberOf f)
 
-abbrev pub tellRemove : ℕ → ℕ → RemoveAnswer → List ℕ
-tellRemove n slot removed.Removed = named (bytes "removed") slot
-tellRemove n slot (removed.Refused f) = refusalLine n (numberOf f)
+abbrev pub tellRemove : ℕ → ℕ → ChangeAnswer → List ℕ
+tellRemove n slot changed.Accepted = named (bytes "removed") slot
+tellRemove n slot (changed.Refused f) = refusalLine n (numberOf f)
 
 abbrev pub tellReason : ℕ → ListAnswer → List ℕ → List ℕ
 tellReason n (listed.Count k) buffer = whyLine (take k buffer)
@@ -52,7 +52,7 @@ pub data Prints (t : Table) (n : ℕ) (line : List ℕ) : List ℕ → Table →
       (head : ℕ) (ps ns : List ℕ) (answer : AddAnswer) (u : Table) → reading line ≡ is (sheet.add head ps ns)
       → AddEnds t (ruleFrom head ps ns) answer u → Prints t n line (tellAdd n answer) u
   remove :
-      (slot : ℕ) (answer : RemoveAnswer) (u : Table) → reading line ≡ is (sheet.remove slot)
+      (slot : ℕ) (answer : ChangeAnswer) (u : Table) → reading line ≡ is (sheet.remove slot)
       → RemoveEnds t slot answer u → Prints t n line (tellRemove n slot answer) u
   why :
       (atom : ℕ) (answer : ListAnswer) (buffer : List ℕ) → reading line ≡ is (sheet.why atom)

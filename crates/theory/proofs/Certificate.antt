@@ -19,11 +19,11 @@ use Rattle.theory.specs.Labels.{absent, in-at, is-absent, is-in, is-out,
 use Rattle.theory.specs.Labels.{Supports}
 use Rattle.theory.specs.Questions.{is-in-label, rules}
 use Rattle.theory.specs.Certificate.{depth-in, greatest, kept-depth, kept-in, level}
-use Rattle.theory.proofs.Lists.{clash, in-mem, le-or-lt, mem, mem-in, test, unless}
+use Rattle.theory.proofs.Lists.{clash, in-mem, le-or-lt, mem, mem-in, test}
 use Rattle.theory.proofs.Rules.{rules-of, valid-positive}
 use Rattle.theory.proofs.Derivations.{entry, last}
 use Rattle.theory.proofs.Depths.{depth-unique, greatest-le, settled-depth}
-use Rattle.theory.proofs.Labels.{in-occurs}
+use Rattle.theory.proofs.Labels.{label-in}
 
 -- The greatest of some atoms' numbers.
 
@@ -295,12 +295,7 @@ module _ (P : Program) (label : ℕ → Label) where
 module _ (P : Program) (N : AtomSet) (label : ℕ → Label) (A : Admissible P N)
     (L : (a : ℕ) → Labelled P N a (label a)) where
   kept-model : (a : ℕ) → kept-in label a ≡ N a
-  kept-model a = go (label a) (L a)
-    where
-      go : (l : Label) → Labelled P N a l → is-in-label l ≡ N a
-      go absent (is-absent f) = sym (unless (N a) (λ t. f (in-occurs P N (A .founded) a t)))
-      go out (is-out o t) = sym t
-      go (in-at k s) (is-in t D S) = sym t
+  kept-model a = label-in P N A a (label a) (L a)
 
   same-set : kept-in label ≡ N
   same-set = fun-ext kept-model

@@ -11,14 +11,15 @@ use lib.ListN.{getD}
 use mathlib.Core.Option.{Option, none, some, Option·some-injective, Option·none-ne-some}
 use Rattle.theory.specs.Lists.{_∈_, before, every, first, FirstAt}
 use Rattle.theory.specs.Rules.{entries, Occurs, passes, Program, Rule}
-use Rattle.theory.specs.Models.{AtomSet, Founded, valid}
+use Rattle.theory.specs.Models.{AtomSet, Founded, Admissible, valid}
 use Rattle.theory.specs.Derivations.{Depth}
+use Rattle.theory.specs.Questions.{is-in-label}
 use Rattle.theory.specs.Labels.{absent, in-at, is-absent, is-in, is-out, Label, Labelled, out}
 use Rattle.theory.specs.Labels.{Supporting, Supports, Side, positive, negative, Spoiler, first-on, spoiler}
 use Rattle.theory.specs.Labels.{Spoils, needs, blocked}
 use Rattle.theory.proofs.Lists.{and-l, and-of, and-r, clash, eqb-eq, eqb-of, every-at, every-of, le-or-lt}
 use Rattle.theory.proofs.Lists.{first-exists, first-in, first-none, first-of, first-of-none, first-place, least}
-use Rattle.theory.proofs.Lists.{not-false, not-true, test}
+use Rattle.theory.proofs.Lists.{not-false, not-true, test, unless}
 use Rattle.theory.proofs.Rules.{occurs-at, occurs-of, occurs-test, rules-at, valid-negative, valid-of}
 use Rattle.theory.proofs.Rules.{valid-positive}
 use Rattle.theory.proofs.Derivations.{entry, last}
@@ -112,6 +113,13 @@ in-occurs P M F a t =
     let w = ordered-rule P M (F .order) (F .ordered) a (F .exactly a .0 t) in
     let h = rules-at P (w .0) (w .1) in
     record { slot = h .0; rule = w .0; held = h .1; there = List·Memᴰ·head (sym (w .2)) }
+
+-- A label says in exactly if the atom is in the model.
+pub label-in :
+    (P : Program) (M : AtomSet) → Admissible P M → (a : ℕ) (l : Label) → Labelled P M a l → is-in-label l ≡ M a
+label-in P M A a absent (is-absent f) = sym (unless (M a) (λ t. f (in-occurs P M (A .founded) a t)))
+label-in P M A a out (is-out o t) = sym t
+label-in P M A a (in-at k s) (is-in t D S) = sym t
 
 -- Every atom has a label.
 pub label-exists : (P : Program) (M : AtomSet) → Founded P M → (a : ℕ) → (l : Label) × Labelled P M a l

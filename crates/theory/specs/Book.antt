@@ -12,7 +12,7 @@ pub data Call : Type 0 where
   add : Rule → Call
   remove : ℕ → Call
 
--- An answer: a refusal's number, the slot that an addition took, or that a removal was accepted.
+-- An answer: a refusal's number, the slot that an addition took, or that the call was accepted.
 pub data Answer : Type 0 where
   refused : ℕ → Answer
   slot : ℕ → Answer

@@ -5,19 +5,21 @@ use mathlib.Core.List.{List}
 use Rattle.theory.specs.Rules as theory
 use Rattle.table.specs.declared.Table.{Table}
 use Rattle.calls.specs.declared.AddAnswer.{AddAnswer}
-use Rattle.calls.specs.declared.RemoveAnswer.{RemoveAnswer}
+use Rattle.calls.specs.declared.ChangeAnswer.{ChangeAnswer}
 use Rattle.calls.specs.declared.LabelAnswer.{LabelAnswer}
 use Rattle.calls.specs.declared.SpoilerAnswer.{SpoilerAnswer}
 use Rattle.calls.specs.declared.ListAnswer.{ListAnswer}
-use Rattle.calls.specs.declared.LoadAnswer.{LoadAnswer}
-use Rattle.calls.specs.Contracts.{AddEnds, RemoveEnds, LabelEnds, SpoilerEnds, LoadEnds}
+use Rattle.calls.specs.Contracts.{AddEnds, RemoveEnds, LabelEnds, SpoilerEnds}
+use Rattle.checklist.specs.declared.CompleteAnswer.{CompleteAnswer}
+use Rattle.checklist.specs.Contracts.{CompleteEnds}
 use Rattle.crossing.specs.declared.Change.{Change}
 use Rattle.crossing.specs.declared.AtomLabel.{AtomLabel}
 use Rattle.crossing.specs.declared.RuleSpoiler.{RuleSpoiler}
 use Rattle.crossing.specs.declared.Written.{Written}
-use Rattle.crossing.specs.declared.Loaded.{Loaded}
+use Rattle.crossing.specs.declared.Accepted.{Accepted}
+use Rattle.crossing.specs.declared.Completeness.{Completeness}
 use Rattle.crossing.specs.Numbers.{crossedAdd, crossedRemove, crossedLabel, crossedSpoiler, crossedList}
-use Rattle.crossing.specs.Numbers.{crossedLoad}
+use Rattle.crossing.specs.Numbers.{crossedChange, crossedComplete}
 
 -- What crosses is the answer of a call that meets its contract.
 
@@ -28,7 +30,7 @@ pub record AddCrosses (t : Table) (r : theory.Rule) (c : Change) : Type 0 where
   pub crosses : c ≡ crossedAdd answer after
 
 pub record RemoveCrosses (t : Table) (s : ℕ) (c : Change) : Type 0 where
-  pub answer : RemoveAnswer
+  pub answer : ChangeAnswer
   pub after : Table
   pub ends : RemoveEnds t s answer after
   pub crosses : c ≡ crossedRemove s answer after
@@ -49,8 +51,14 @@ pub record ListCrosses (Ends : ListAnswer → List ℕ → Type 0) (after : List
   pub ends : Ends answer after
   pub crosses : c ≡ crossedList answer
 
-pub record LoadCrosses (bytes : List ℕ) (c : Loaded) : Type 0 where
-  pub answer : LoadAnswer
+-- `Ends` is the call's contract of answer and table.
+pub record ChangeCrosses (Ends : ChangeAnswer → Table → Type 0) (c : Accepted) : Type 0 where
+  pub answer : ChangeAnswer
   pub after : Table
-  pub ends : LoadEnds bytes answer after
-  pub crosses : c ≡ crossedLoad answer after
+  pub ends : Ends answer after
+  pub crosses : c ≡ crossedChange answer after
+
+pub record CompleteCrosses (t : Table) (c : Completeness) : Type 0 where
+  pub answer : CompleteAnswer
+  pub ends : CompleteEnds t answer
+  pub crosses : c ≡ crossedComplete answer

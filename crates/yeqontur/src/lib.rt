@@ -2,15 +2,23 @@
 // the same for C.
 use changes::add;
 use changes::remove;
+use checklist::complete;
+use checklist::file_sent;
+use checklist::file_skipped;
+use checklist::missing;
+use checklist::open;
+use checklist::skip_withdrawn;
+use crossing::Accepted;
 use crossing::AtomLabel;
 use crossing::Change;
-use crossing::Loaded;
+use crossing::Completeness;
 use crossing::RuleSpoiler;
 use crossing::Written;
 use crossing::crossed_add;
+use crossing::crossed_change;
+use crossing::crossed_complete;
 use crossing::crossed_label;
 use crossing::crossed_list;
-use crossing::crossed_load;
 use crossing::crossed_remove;
 use crossing::crossed_spoiler;
 use files::load;
@@ -26,9 +34,11 @@ ghost use mathlib.Core.Path.{_≡_};
 ghost use Rattle.table.specs.Clean.{emptyTable};
 ghost use Rattle.table.specs.Questions.{ruleFrom};
 ghost use Rattle.calls.specs.Contracts.{JustificationsEnd, ConsequencesEnd, RepercussionsEnd, ReasonEnds};
-ghost use Rattle.calls.specs.Contracts.{SaveEnds};
+ghost use Rattle.calls.specs.Contracts.{SaveEnds, LoadEnds};
+ghost use Rattle.checklist.specs.Questions.{file-sent, file-skipped, skip-withdrawn};
+ghost use Rattle.checklist.specs.Contracts.{OpenEnds, FileEnds, MissingEnds};
 ghost use Rattle.yeqontur.specs.Crossing.{AddCrosses, RemoveCrosses, LabelCrosses, SpoilerCrosses, ListCrosses};
-ghost use Rattle.yeqontur.specs.Crossing.{LoadCrosses};
+ghost use Rattle.yeqontur.specs.Crossing.{ChangeCrosses, CompleteCrosses};
 
 // The table in which every slot is free.
 #[no_mangle]
@@ -120,11 +130,67 @@ pub extern "C" fn yeqontur_save(table: Table, bytes: &mut [u8]) -> Written
 }
 
 #[no_mangle]
-pub extern "C" fn yeqontur_load(bytes: &[u8]) -> Loaded
-    ensures { λ r. ⌜ LoadCrosses (now (bytes .entry)) r ⌝ }
+pub extern "C" fn yeqontur_load(bytes: &[u8]) -> Accepted
+    ensures { λ r. ⌜ ChangeCrosses (LoadEnds (now (bytes .entry))) r ⌝ }
 {
     let done = load(bytes);
     let answer = done.answer;
-    let after = done.table;
-    crossed_load(answer, after)
+    let loaded = done.table;
+    crossed_change(answer, loaded)
+}
+
+#[no_mangle]
+pub extern "C" fn yeqontur_checklist_open(files: u32) -> Accepted
+    ensures { λ r. ⌜ ChangeCrosses (OpenEnds files) r ⌝ }
+{
+    let done = open(files);
+    let answer = done.answer;
+    let opened = done.table;
+    crossed_change(answer, opened)
+}
+
+#[no_mangle]
+pub extern "C" fn yeqontur_checklist_sent(table: Table, file: u32) -> Accepted
+    ensures { λ r. ⌜ ChangeCrosses (FileEnds table (file-sent file)) r ⌝ }
+{
+    let done = file_sent(table, file);
+    let answer = done.answer;
+    let sent = done.table;
+    crossed_change(answer, sent)
+}
+
+#[no_mangle]
+pub extern "C" fn yeqontur_checklist_skipped(table: Table, file: u32) -> Accepted
+    ensures { λ r. ⌜ ChangeCrosses (FileEnds table (file-skipped file)) r ⌝ }
+{
+    let done = file_skipped(table, file);
+    let answer = done.answer;
+    let skipped = done.table;
+    crossed_change(answer, skipped)
+}
+
+#[no_mangle]
+pub extern "C" fn yeqontur_checklist_withdraw(table: Table, file: u32) -> Accepted
+    ensures { λ r. ⌜ ChangeCrosses (FileEnds table (skip-withdrawn file)) r ⌝ }
+{
+    let done = skip_withdrawn(table, file);
+    let answer = done.answer;
+    let withdrawn = done.table;
+    crossed_change(answer, withdrawn)
+}
+
+#[no_mangle]
+pub extern "C" fn yeqontur_checklist_missing(table: Table, buffer: &mut [u32]) -> Written
+    ensures { λ r. ⌜ ListCrosses (MissingEnds table (now (buffer .entry))) (now (buffer .exit)) r ⌝ }
+{
+    let answer = missing(table, buffer);
+    crossed_list(answer)
+}
+
+#[no_mangle]
+pub extern "C" fn yeqontur_checklist_complete(table: Table) -> Completeness
+    ensures { λ r. ⌜ CompleteCrosses table r ⌝ }
+{
+    let answer = complete(table);
+    crossed_complete(answer)
 }

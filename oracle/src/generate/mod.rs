@@ -2,6 +2,7 @@
 
 pub mod again;
 pub mod calls;
+pub mod checklists;
 pub mod damage;
 pub mod edges;
 pub mod faults;

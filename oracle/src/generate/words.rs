@@ -2,6 +2,7 @@
 
 use crate::calls::Call;
 use crate::generate::calls::Calls;
+use crate::generate::checklists::Checklists;
 use crate::generate::files::{file, Kind};
 use crate::random::Random;
 use crate::table::RawTable;
@@ -48,14 +49,33 @@ impl List {
                 self.files.extend(bytes);
                 self.words.extend([2, from, self.files.len() as u32]);
             }
+            Call::Open { files } => self.words.extend([3, *files]),
+            Call::FileSent { file } => self.words.extend([4, *file]),
+            Call::FileSkipped { file } => self.words.extend([5, *file]),
+            Call::SkipWithdrawn { file } => self.words.extend([6, *file]),
             _ => unreachable!("a call that changes no table"),
         }
     }
 }
 
-/// A list of up to 120 calls. Now and then they fill the table: some have 300 calls, nearly all additions, and of these
-/// half begin with a load of a full table.
-fn whole(random: &mut Random) -> List {
+/// A list of calls on a checklist and of others between, which starts with an opening for the most part.
+fn on_checklists(random: &mut Random) -> List {
+    let mut calls = Checklists::start();
+    let mut list = List::default();
+    if random.percent(80) {
+        let opening = calls.open(random);
+        list.push(random, &opening);
+    }
+    for _ in 0..random.between(0, 20 + 4 * calls.files() as usize) {
+        let call = calls.change(random);
+        list.push(random, &call);
+    }
+    list
+}
+
+/// A list of up to 120 calls that know of no checklist. Now and then they fill the table: some have 300 calls, nearly
+/// all additions, and of these half begin with a load of a full table.
+fn on_rules(random: &mut Random) -> List {
     let full = random.percent(5);
     let atoms = if full {
         256
@@ -84,10 +104,20 @@ fn whole(random: &mut Random) -> List {
     list
 }
 
-/// A number that a list may hold anywhere: a kind, a count, an atom, the end of a block, one that is far too large.
+/// A list of calls of either sort.
+fn whole(random: &mut Random) -> List {
+    if random.percent(40) {
+        on_checklists(random)
+    } else {
+        on_rules(random)
+    }
+}
+
+/// A number that a list may hold anywhere: a kind or the first that is none, a count, an atom, the end of a block, one
+/// that is far too large.
 fn any(random: &mut Random) -> u32 {
     match random.below(5) {
-        0 => random.below(3) as u32,
+        0 => random.below(8) as u32,
         1 => random.below(12) as u32,
         2 => 512 * random.below(14) as u32,
         3 => random.word() as u32,

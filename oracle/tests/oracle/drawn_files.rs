@@ -150,7 +150,7 @@ fn lists_of_numbers_load_good_and_damaged_files() {
     let mut random = Random::seeded(215);
     let mut with_files = 0;
     let mut answers: BTreeMap<u32, usize> = BTreeMap::new();
-    for _ in 0..300 {
+    for _ in 0..600 {
         let drawn = list(&mut random, Ending::Whole);
         with_files += usize::from(!drawn.files.is_empty());
         for answer in replay(&drawn.words, &drawn.files, 400).0 {

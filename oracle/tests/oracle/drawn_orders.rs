@@ -104,7 +104,7 @@ fn the_rules_of_a_table_are_named_again_in_another_order() {
 #[test]
 fn lists_of_numbers_and_sheets_name_rules_again_in_another_order() {
     let mut random = Random::seeded(108);
-    let lists = (0..100).map(|_| list(&mut random, Ending::Whole));
+    let lists = (0..200).map(|_| list(&mut random, Ending::Whole));
     let answers: Vec<u32> = lists
         .flat_map(|list| replay(&list.words, &list.files, 400).0)
         .collect();

@@ -1,8 +1,10 @@
 //! What the oracle is held to: the documents' examples, and brute force where it is possible.
 
+mod checklists;
 mod clingo;
 mod commands;
 mod depths;
+mod drawn_checklists;
 mod drawn_files;
 mod drawn_orders;
 mod file_refusals;

@@ -61,6 +61,11 @@ fn every_call_that_takes_a_table_asks_first_whether_it_is_sound() {
         Call::Repercussions { atom: large },
         Call::Reason { atom: large },
         Call::Save,
+        Call::FileSent { file: large },
+        Call::FileSkipped { file: large },
+        Call::SkipWithdrawn { file: large },
+        Call::Missing,
+        Call::Complete,
     ];
     for call in all {
         assert_eq!(

@@ -31,10 +31,40 @@ fn a_refusal_answers_its_number_above_accepted() {
 }
 
 #[test]
+fn a_checklist_is_opened_and_its_files_are_marked() {
+    let list = [3, 2, 4, 1, 5, 2, 4, 2, 6, 2, 6, 2, 4, 1, 4, 3, 4, 0];
+    let (answers, book) = replay(&list, &[], 100);
+    let refused = [22, 22, 20, 20].map(|number| 65_536 + number);
+    assert_eq!(answers, [&[65_536; 5][..], &refused].concat());
+    let mut other = Book::empty();
+    assert_eq!(other.open(2), Ok(()));
+    assert_eq!(other.add(1, &[], &[]), Ok(3));
+    assert_eq!(other.add(5, &[], &[]), Ok(4));
+    assert_eq!(other.add(4, &[], &[]), Ok(5));
+    assert_eq!(other.remove(4), Ok(()));
+    assert_eq!(book, other);
+}
+
+#[test]
+fn a_refused_opening_frees_every_page_and_pages_that_are_no_checklist_meet_15() {
+    for files in [0, 61, u32::MAX] {
+        let list = [1, 5, 0, 0, 3, files, 4, 1, 5, 1, 6, 1];
+        let (answers, book) = replay(&list, &[], 100);
+        let refused = [21, 15, 15, 15].map(|number| 65_536 + number);
+        assert_eq!(answers, [&[0][..], &refused].concat());
+        assert_eq!(book, Book::empty());
+    }
+}
+
+#[test]
 fn another_number_or_a_call_cut_short_ends_the_list() {
     for end in [
         &[][..],
-        &[3, 0],
+        &[7, 0],
+        &[3],
+        &[4],
+        &[5],
+        &[6],
         &[u32::MAX],
         &[0],
         &[1],
@@ -46,7 +76,7 @@ fn another_number_or_a_call_cut_short_ends_the_list() {
         assert_eq!(answers(&list), [0], "{end:?}");
     }
     assert_eq!(answers(&[1, 2, u32::MAX, u32::MAX, 0, 0]), []);
-    assert_eq!(answers(&[1, 9, 0, 0, 3, 0, 1, 8, 0, 0]), [0]);
+    assert_eq!(answers(&[1, 9, 0, 0, 7, 0, 1, 8, 0, 0]), [0]);
 }
 
 #[test]

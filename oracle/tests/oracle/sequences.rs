@@ -1,7 +1,7 @@
 //! Lists of calls, held against the plain book.
 
 use oracle::book::Book;
-use oracle::calls::{self, Answer, Call, Lent, Validity};
+use oracle::calls::{self, Lent, Validity};
 use oracle::generate::calls::Calls;
 use oracle::labels::Labelled;
 use oracle::model::admissible_models;
@@ -12,20 +12,6 @@ use oracle::rules::occurring;
 use oracle::sound::{sound, sound_rules};
 use oracle::table::RawTable;
 use std::collections::BTreeMap;
-
-/// What the book answers to a call that changes a table; `None` for the other calls.
-fn book_answer(book: &mut Book, call: &Call) -> Option<Result<Answer, u32>> {
-    match call {
-        Call::Add {
-            head,
-            positives,
-            negatives,
-        } => Some(book.add(*head, positives, negatives).map(Answer::Slot)),
-        Call::Remove { slot } => Some(book.remove(*slot).map(|()| Answer::Accepted)),
-        Call::Load { bytes } => Some(book.load(bytes).map(|()| Answer::Accepted)),
-        _ => None,
-    }
-}
 
 /// Each slot holds what the page of its number holds, and labels and spoilers are those
 /// defined for the book's rules.
@@ -66,7 +52,7 @@ fn follow(
     for _ in 0..calls {
         let call = drawn.call(random);
         let answer = call.make(table, &mut lent).map_err(Refusal::number);
-        if let Some(expected) = book_answer(book, &call) {
+        if let Some(expected) = book.make(&call) {
             assert_eq!(answer, expected, "{call:?} in {book:?}");
         }
         *answers.entry(answer.err().unwrap_or(0)).or_default() += 1;

@@ -1,29 +1,47 @@
 //! Draws why an atom has its label, as an SVG on standard output.
 //!
+//!     why checklist FILES [sent NUMBER..] [skipped NUMBER..] > PICTURE
 //!     why SHEET ATOM [NAMES] > PICTURE
 //!
-//! The sheet's additions and removals are made in order; its other lines only print, and are passed over. NAMES has a
-//! line `atom name` for each atom that has a name.
+//! Of a checklist it draws why it is complete or is not. Of a sheet the additions and removals are made in order; its
+//! other lines only print, and are passed over. NAMES has a line `atom name` for each atom that has a name.
 
 mod cards;
 mod layout;
+mod marks;
 mod sheet;
 mod svg;
 #[cfg(test)]
 mod tests;
 
 use cards::Drawing;
+use sheet::Names;
 use std::process::ExitCode;
+use yeqontur::{Table, Why};
 
-/// The picture, or a sentence that says what is wrong.
+fn drawn(why: &Why, table: &Table, names: &Names) -> String {
+    let drawing = Drawing::new(why, table, names);
+    svg::written(&layout::Picture::of(drawing))
+}
+
+/// The picture of a sheet's atom, or a sentence that says what is wrong.
 fn picture(sheet: &str, atom: &str, names: &str) -> Result<String, String> {
     let names = sheet::names(names)?;
     let table = sheet::table(sheet)?;
     let atom = atom.parse().map_err(|_| format!("not an atom: {atom}"))?;
     let why = table.why(atom).map_err(|refusal| refusal.to_string())?;
-    let drawing = Drawing::new(&why, &table, &names);
-    Ok(svg::written(&layout::Picture::of(drawing)))
+    Ok(drawn(&why, &table, &names))
 }
+
+/// The picture of a checklist, or such a sentence.
+fn checklist_picture(words: &[String]) -> Result<String, String> {
+    let checklist = marks::checklist(words)?;
+    let names = marks::names(&checklist);
+    Ok(drawn(&checklist.why(), checklist.table(), &names))
+}
+
+const USAGE: &str = "usage: why checklist FILES [sent NUMBER..] [skipped NUMBER..] > PICTURE
+       why SHEET ATOM [NAMES] > PICTURE";
 
 fn read(path: &str) -> Result<String, String> {
     std::fs::read_to_string(path).map_err(|error| format!("{path}: {error}"))
@@ -32,10 +50,11 @@ fn read(path: &str) -> Result<String, String> {
 fn main() -> ExitCode {
     let words: Vec<String> = std::env::args().skip(1).collect();
     let made = match &words[..] {
+        [first, marks @ ..] if first == "checklist" => checklist_picture(marks),
         [sheet, atom] => read(sheet).and_then(|sheet| picture(&sheet, atom, "")),
         [sheet, atom, names] => read(sheet)
             .and_then(|sheet| read(names).and_then(|names| picture(&sheet, atom, &names))),
-        _ => Err("usage: why SHEET ATOM [NAMES] > PICTURE".to_string()),
+        _ => Err(USAGE.to_string()),
     };
     match made {
         Ok(picture) => {

@@ -2,28 +2,68 @@
 
 use crate::cards::{Drawing, Link};
 use crate::layout::{Area, Picture, Wire, SAMPLE};
-use crate::{picture, sheet, svg};
+use crate::{checklist_picture, marks, picture, sheet, svg};
 use yeqontur::Table;
 
-const NAMES: &str = include_str!("../../../../examples/deposit.names");
+fn words(text: &str) -> Vec<String> {
+    text.split(' ').map(str::to_string).collect()
+}
 
-fn made(sheet: &str, atom: &str) -> String {
-    picture(sheet, atom, NAMES).expect("a picture")
+/// The two that the program of the story shows: after its scan, and at its end.
+#[test]
+fn the_pictures_of_the_repository_are_made_by_the_program() {
+    for (marks, kept) in [
+        (
+            "5 sent 1 2 3 skipped 4 sent 5",
+            include_str!("../../../../examples/complete.svg"),
+        ),
+        (
+            "5 sent 1 2 3 4 5",
+            include_str!("../../../../examples/complete_in.svg"),
+        ),
+    ] {
+        let made = checklist_picture(&words(marks));
+        assert!(made.expect("a picture") == kept, "{marks}");
+    }
 }
 
 #[test]
-fn the_pictures_of_the_repository_are_made_by_the_program() {
+fn a_sheet_is_drawn_with_the_names_of_its_atoms() {
     let skipped = include_str!("../../../../examples/skipped.sheet");
-    let complete = include_str!("../../../../examples/complete.svg");
-    assert!(made(skipped, "7") == complete);
-    let deposit = include_str!("../../../../examples/deposit.sheet");
-    let complete = include_str!("../../../../examples/complete_in.svg");
-    assert!(made(deposit, "7") == complete);
+    let names = include_str!("../../../../examples/deposit.names");
+    let text = picture(skipped, "7", names).expect("a picture");
+    for words in [
+        "Why complete is out",
+        ">second file skipped<",
+        ">blocked by<",
+    ] {
+        assert!(text.contains(words), "{words}");
+    }
+}
+
+#[test]
+fn checklists_that_cannot_be_read_are_told() {
+    for text in [
+        "",
+        "0",
+        "61",
+        "five",
+        "5 4",
+        "5 sent x",
+        "5 sent 6",
+        "5 sent 0",
+        "5 sent 1 1",
+        "5 lost 1",
+    ] {
+        assert!(checklist_picture(&words(text)).is_err(), "{text}");
+    }
+    assert!(checklist_picture(&[]).is_err());
+    assert!(checklist_picture(&words("60 skipped")).is_ok());
 }
 
 #[test]
 fn needs_and_blocked_by_differ_in_line_and_word() {
-    let text = made("A 1 : 2\nA 1 : ! 3\nA 3 :\n", "1");
+    let text = picture("A 1 : 2\nA 1 : ! 3\nA 3 :\n", "1", "").expect("a picture");
     for sign in [
         ">needs<",
         ">blocked by<",
@@ -160,5 +200,21 @@ fn nothing_overlaps_in_any_picture() {
             let why = table.why(atom).expect("an atom");
             nothing_overlaps(&Picture::of(Drawing::new(&why, &table, &names)));
         }
+    }
+}
+
+#[test]
+fn nothing_overlaps_in_the_picture_of_a_checklist() {
+    for text in [
+        "1",
+        "2 sent 1 2",
+        "9 sent 1 2 3 4 5 6 7 8 9 skipped 9",
+        "9 sent 1 2 3 4 5 6 7 8 9",
+        "60 skipped 1",
+    ] {
+        let checklist = marks::checklist(&words(text)).expect("a checklist");
+        let names = marks::names(&checklist);
+        let drawing = Drawing::new(&checklist.why(), checklist.table(), &names);
+        nothing_overlaps(&Picture::of(drawing));
     }
 }

@@ -1,4 +1,4 @@
--- `calls::refusal_number` meets its contract: what each of the 17 cases is told, and then that it answers its number.
+-- `calls::refusal_number` meets its contract: what each of the 20 cases is told, and then that it answers its number.
 -- Assumes nothing.
 use mathlib.Core.Path.{_≡_, sym, ap}
 use borrow.Author.Needs.{needs}
@@ -17,7 +17,7 @@ refusal-number-spec =
     (λ c. search needs) (λ c. search needs) (λ c. search needs) (λ c. search needs) (λ c. search needs)
     (λ c. search needs) (λ c. search needs) (λ c. search needs) (λ c. search needs) (λ c. search needs)
     (λ c. search needs) (λ c. search needs) (λ c. search needs) (λ c. search needs) (λ c. search needs)
-    (λ c. search needs) (λ c. search needs)
+    (λ c. search needs) (λ c. search needs) (λ c. search needs) (λ c. search needs) (λ c. search needs)
     (λ c. told _ _ (c .enum-told .given .1)) (λ c. told _ _ (c .enum-told2 .given .1))
     (λ c. told _ _ (c .enum-told3 .given .1)) (λ c. told _ _ (c .enum-told4 .given .1))
     (λ c. told _ _ (c .enum-told5 .given .1)) (λ c. told _ _ (c .enum-told6 .given .1))
@@ -26,4 +26,5 @@ refusal-number-spec =
     (λ c. told _ _ (c .before .f .given .1)) (λ c. told _ _ (c .enum-told11 .given .1))
     (λ c. told _ _ (c .enum-told12 .given .1)) (λ c. told _ _ (c .enum-told13 .given .1))
     (λ c. told _ _ (c .enum-told14 .given .1)) (λ c. told _ _ (c .enum-told15 .given .1))
-    (λ c. told _ _ (c .enum-told16 .given .1)))
+    (λ c. told _ _ (c .enum-told16 .given .1)) (λ c. told _ _ (c .enum-told17 .given .1))
+    (λ c. told _ _ (c .enum-told18 .given .1)) (λ c. told _ _ (c .enum-told19 .given .1)))

@@ -2,7 +2,7 @@
 use native.Mathlib.Omega.{arith}
 use mathlib.Core.Path.{refl, sym, _∙_, ap}
 use Rattle.fields.specs.Texts.{bytes}
-use Rattle.calls.specs.declared.LoadAnswer.the-variants.{Loaded, Refused}
+use Rattle.calls.specs.declared.ChangeAnswer.the-variants.{Accepted, Refused}
 use Rattle.file_stream.specs.Loads.{refusedLine}
 use Rattle.file_stream.proofs.Telling.{told-lines}
 use borrow.Author.Needs.{needs}
@@ -41,7 +41,7 @@ returns-2 c =
     let write = c .before .before in
     let told-step = write .before .before in
     let load = told-step .before .before .before .before in
-    told-lines Loaded (load .before .if1 .left) (load .load .ensures) (told-step .enum-told .given .1) refl
+    told-lines Accepted (load .before .if1 .left) (load .load .ensures) (told-step .enum-told .given .1) refl
     (write .write-labels .ensures .fits (omega arith))
 
 same-length-2 : tie.Need-same-length-2

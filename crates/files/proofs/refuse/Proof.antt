@@ -1,8 +1,8 @@
 -- `files::refuse` meets its contract. Assumes nothing.
 use mathlib.Core.Path.{_∙_, ap}
 use Rattle.table.specs.declared.Table.{Table}
-use Rattle.calls.specs.declared.Loading.{Loading}
-use Rattle.calls.specs.declared.LoadAnswer.the-variants.{Refused}
+use Rattle.calls.specs.declared.Changed.{Changed}
+use Rattle.calls.specs.declared.ChangeAnswer.the-variants.{Refused}
 use borrow.Author.Needs.{needs}
 use Rattle.files.proofs.refuse.Statement.{statement}
 use Rattle.files.proofs.refuse.Tie as tie
@@ -17,7 +17,7 @@ returns : tie.Need-returns
 returns c =
     let s = c .before .before in
     c .hand-back .ensures .0
-    ∙ ap (λ (t : Table). let r : Loading = record { answer = Refused (s .args .why); table = t } in r)
+    ∙ ap (λ (t : Table). let r : Changed = record { answer = Refused (s .args .why); table = t } in r)
     (c .before .empty .ensures)
 
 pub refuse-spec : {M : Type 1} → statement M

@@ -2,7 +2,8 @@
 use Prim.Native.Nat.{_+_}
 use native.Mathlib.Omega.{arith}
 use borrow.Author.Needs.{needs}
-use Rattle.history.proofs.Reading.{end-short, end-other, end-cut, reads-removal, reads-other, reads-addition}
+use Rattle.history.proofs.Reading.{end-short, end-cut, reads-removal, reads-other, reads-checklist}
+use Rattle.history.proofs.Reading.{reads-addition}
 use Rattle.history.proofs.next_call.Statement.{statement}
 use Rattle.history.proofs.next_call.Tie as tie
 
@@ -39,8 +40,24 @@ next-load-requires c κs = tt
 returns-4 : tie.Need-returns-4
 returns-4 c = reads-other _ _ _ _ (omega arith) (omega arith) (c .next-load .ensures)
 
+add-next-checklist : tie.Need-add-next-checklist
+add-next-checklist c = search needs
+
+mul-next-checklist : tie.Need-mul-next-checklist
+mul-next-checklist c = search needs
+
+shared-slice-read-next-checklist : tie.Need-shared-slice-read-next-checklist
+shared-slice-read-next-checklist c = search needs
+
+add-next-checklist-2 : tie.Need-add-next-checklist-2
+add-next-checklist-2 c = search needs
+
+next-checklist-requires : tie.Need-next-checklist-requires
+next-checklist-requires c κs = tt
+
 returns-5 : tie.Need-returns-5
-returns-5 c = end-other _ _ _ (omega arith) (λ e. omega arith) (λ e. omega arith) (λ e. omega arith)
+returns-5 c = reads-checklist _ _ _ _ (omega arith) (λ e. omega arith) (λ e. omega arith) (λ e. omega arith)
+    (c .next-checklist .ensures)
 
 returns-6 : tie.Need-returns-6
 returns-6 c = end-cut _ _ _ (omega arith) (omega arith) (omega arith)
@@ -60,7 +77,7 @@ shared-slice-read-positives c = search needs
 cast-positives : tie.Need-cast-positives
 cast-positives c = omega (
   arith,
-  c .shared-slice-known5 .given
+  c .shared-slice-known6 .given
       (c .before .before .before .before .before .before .before .before .before .before .args .at + 2),
 )
 
@@ -85,7 +102,7 @@ shared-slice-read-negatives c = search needs
 cast-negatives : tie.Need-cast-negatives
 cast-negatives c = omega (
   arith,
-  c .shared-slice-known6 .given
+  c .shared-slice-known7 .given
       (c .before .before .before .before .before .before .before .before .before .before .before .before .args .at + 3),
 )
 
@@ -98,14 +115,14 @@ returns-8 c = end-cut _ _ _ (omega arith) (omega arith) (omega arith)
 add-t11 : tie.Need-add-t11
 add-t11 c = search needs
 
-mul-t19 : tie.Need-mul-t19
-mul-t19 c = search needs
+mul-t24 : tie.Need-mul-t24
+mul-t24 c = search needs
 
 shared-slice-read-t13 : tie.Need-shared-slice-read-t13
 shared-slice-read-t13 c = search needs
 
-add-t23 : tie.Need-add-t23
-add-t23 c = search needs
+add-t28 : tie.Need-add-t28
+add-t28 c = search needs
 
 returns-9 : tie.Need-returns-9
 returns-9 c = reads-addition _ _ _ (omega arith) (omega arith)
@@ -125,6 +142,11 @@ next-call-spec =
     returns-3
     next-load-requires
     returns-4
+    add-next-checklist
+    mul-next-checklist
+    shared-slice-read-next-checklist
+    add-next-checklist-2
+    next-checklist-requires
     returns-5
     returns-6
     add-from
@@ -142,7 +164,7 @@ next-call-spec =
     sub-if8
     returns-8
     add-t11
-    mul-t19
+    mul-t24
     shared-slice-read-t13
-    add-t23
+    add-t28
     returns-9)

@@ -1,9 +1,9 @@
 -- `history::step` meets its contract. Assumes nothing.
-use Prim.Native.Nat.{ℕ, _≤_}
-use native.Mathlib.Omega.{arith}
+use Prim.Native.Nat.{_≤_}
 use lib.ListN.{length}
 use borrow.Author.Needs.{needs}
 use Rattle.history.proofs.Reading.{add-order, load-order, step-end, step-removal, step-addition, step-loading}
+use Rattle.history.proofs.Reading.{step-listing}
 use Rattle.history.proofs.step.Statement.{statement}
 use Rattle.history.proofs.step.Tie as tie
 
@@ -19,8 +19,8 @@ enum-known-next c = search needs
 remove-requires : tie.Need-remove-requires
 remove-requires c κs = tt
 
-removed-requires : tie.Need-removed-requires
-removed-requires c κs = search needs
+accepted-requires : tie.Need-accepted-requires
+accepted-requires c κs = search needs
 
 enum-known-next-2 : tie.Need-enum-known-next-2
 enum-known-next-2 c = search needs
@@ -85,12 +85,18 @@ part-step-load-end c = (let o = file-order c in search needs)
 step-load-requires : tie.Need-step-load-requires
 step-load-requires c κs = tt
 
+enum-known-next-4 : tie.Need-enum-known-next-4
+enum-known-next-4 c = search needs
+
+step-checklist-requires : tie.Need-step-checklist-requires
+step-checklist-requires c κs = search needs
+
 returns : tie.Need-returns
 returns c = step-end _ _ _ _ _ (c .before .before .next-call .ensures) (c .enum-told .given .1)
 
 returns-2 : tie.Need-returns-2
 returns-2 c = step-removal _ _ _ _ _ (c .before .before .before .before .before .before .next-call .ensures) _ _ _ _ _
-    (c .before .before .before .before .next .given .1) (c .before .before .remove .ensures) (c .removed .ensures)
+    (c .before .before .before .before .next .given .1) (c .before .before .remove .ensures) (c .accepted .ensures)
 
 returns-3 : tie.Need-returns-3
 returns-3 c = step-addition _ _ _ _ _
@@ -102,6 +108,10 @@ returns-4 : tie.Need-returns-4
 returns-4 c = step-loading _ _ _ _ _ (c .before .before .before .before .before .next-call .ensures) _ _ _ _
     (c .before .before .before .next3 .given .1) (c .step-load .ensures)
 
+returns-5 : tie.Need-returns-5
+returns-5 c = step-listing _ _ _ _ _ (c .before .before .before .before .next-call .ensures) _ _ _ _
+    (c .before .before .next4 .given .1) (c .step-checklist .ensures)
+
 pub step-spec : {M : Type 1} → statement M
 step-spec =
     tie.close
@@ -110,7 +120,7 @@ step-spec =
     enum-told
     enum-known-next
     remove-requires
-    removed-requires
+    accepted-requires
     enum-known-next-2
     mul-add
     sub-add
@@ -127,7 +137,10 @@ step-spec =
     part-step-load-start
     part-step-load-end
     step-load-requires
+    enum-known-next-4
+    step-checklist-requires
     returns
     returns-2
     returns-3
-    returns-4)
+    returns-4
+    returns-5)

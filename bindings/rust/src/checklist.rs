@@ -1,0 +1,199 @@
+//! The deposit checklist: which files were sent, which were skipped, and whether that is all of them.
+
+use crate::table::answered;
+use crate::{raw, Refusal, Table, Why};
+use std::fmt;
+
+/// A checklist of 1 to 60 files, numbered from 1. It is complete exactly if every file was sent and no skip stands.
+///
+/// It is always a checklist: it is opened as one, a table becomes one only if its rules are those of one, and the calls
+/// that change it keep it one. So a question that names no file is never refused.
+///
+/// Printed, it says whether it is complete, and of each missing file what it lacks.
+///
+/// ```
+/// # use yeqontur::{Checklist, Refusal};
+/// let mut checklist = Checklist::open(2)?;
+/// checklist.sent(1)?;
+/// checklist.skipped(2)?;
+/// assert_eq!(checklist.missing(), [2]);
+/// assert_eq!(checklist.to_string(), "complete: no. File 2 was skipped.");
+/// checklist.withdraw(2)?;
+/// assert_eq!(checklist.to_string(), "complete: no. File 2 has not been sent.");
+/// checklist.sent(2)?;
+/// assert!(checklist.complete());
+/// # Ok::<(), Refusal>(())
+/// ```
+#[derive(Clone, PartialEq, Eq, Hash, Debug)]
+pub struct Checklist(Table);
+
+/// The atoms of a file.
+#[derive(Clone, Copy, PartialEq, Eq, Debug)]
+pub struct Atoms {
+    pub sent: u32,
+    pub skipped: u32,
+    /// In if this file and those before it were sent, and none of them has a skip standing.
+    pub good: u32,
+}
+
+/// What the marks of a file say.
+#[derive(Clone, Copy, PartialEq, Eq, Debug)]
+pub enum FileState {
+    /// Sent, and no skip stands.
+    Sent,
+    /// Not sent, and no skip stands.
+    Unsent,
+    /// A skip stands, whether the file was sent or not.
+    Skipped,
+}
+
+/// What follows the file in a sentence.
+impl fmt::Display for FileState {
+    fn fmt(&self, f: &mut fmt::Formatter<'_>) -> fmt::Result {
+        f.write_str(match self {
+            FileState::Sent => "was sent",
+            FileState::Unsent => "has not been sent",
+            FileState::Skipped => "was skipped",
+        })
+    }
+}
+
+/// A table that was built or loaded: refused (15) unless its rules are those that the marks of 1 to 60 files give. The
+/// rules alone say how many: where the last file's rule was removed, or the next file's added, it may be a checklist of
+/// another length. So who counts on a list changes it by the calls of `Checklist` alone.
+impl TryFrom<Table> for Checklist {
+    type Error = Refusal;
+
+    fn try_from(table: Table) -> Result<Checklist, Refusal> {
+        let told = raw::checklist_complete(table.as_raw());
+        answered(told.refused, 0, Checklist(table))
+    }
+}
+
+impl Checklist {
+    /// A checklist of so many files, none of them sent or skipped. Refused (21) for none or more than 60.
+    pub fn open(files: u32) -> Result<Checklist, Refusal> {
+        let told = raw::checklist_open(files);
+        answered(told.refused, 0, Checklist(Table(told.table)))
+    }
+
+    /// The file was sent. A skip of it stays until it is withdrawn. A refused call (20, 22), here and below, leaves the
+    /// checklist as it was.
+    pub fn sent(&mut self, file: u32) -> Result<(), Refusal> {
+        self.change(raw::checklist_sent, file)
+    }
+
+    /// The file was skipped, sent or not.
+    pub fn skipped(&mut self, file: u32) -> Result<(), Refusal> {
+        self.change(raw::checklist_skipped, file)
+    }
+
+    /// The skip of the file is withdrawn. That does not send it.
+    pub fn withdraw(&mut self, file: u32) -> Result<(), Refusal> {
+        self.change(raw::checklist_withdraw, file)
+    }
+
+    /// Whether every file was sent and no skip stands. Only what is no checklist is refused, so this never is.
+    pub fn complete(&self) -> bool {
+        let told = raw::checklist_complete(self.0.as_raw());
+        let complete = answered(told.refused, 0, told.complete == 1);
+        complete.expect("a checklist")
+    }
+
+    /// The files that are unsent or have a skip standing, ascending; none exactly if the checklist is complete. There
+    /// is room for all files, so this is never refused either.
+    pub fn missing(&self) -> Vec<u32> {
+        let mut files = vec![0; raw::MOST_FILES];
+        let told = raw::checklist_missing(self.0.as_raw(), &mut files);
+        let count = answered(told.refused, told.count, told.count);
+        files.truncate(count.expect("a checklist, and room for any"));
+        files
+    }
+
+    /// How many files it has: each has a rule with entries, and no other rule has any.
+    pub fn files(&self) -> u32 {
+        let rules = self.0.as_raw().rules.iter();
+        rules.filter(|rule| rule.positives != 0).count() as u32
+    }
+
+    /// What the marks of a file say. Refused (20) if it is not on the list.
+    pub fn state(&self, file: u32) -> Result<FileState, Refusal> {
+        let atoms = self.atoms(file)?;
+        let sent = self.0.label(atoms.sent)?.is_in();
+        let skipped = self.0.label(atoms.skipped)?.is_in();
+        Ok(match (sent, skipped) {
+            (_, true) => FileState::Skipped,
+            (true, false) => FileState::Sent,
+            (false, false) => FileState::Unsent,
+        })
+    }
+
+    /// Why it is complete or is not: the tree of the last file's good. Where it is not, the tree leads to the first
+    /// missing file.
+    pub fn why(&self) -> Why {
+        let why = self.0.why(3 * self.files());
+        why.expect("an atom of the table")
+    }
+
+    /// The atoms of a file, to ask the table about. Refused (20) if it is not on the list.
+    pub fn atoms(&self, file: u32) -> Result<Atoms, Refusal> {
+        if !(1..=self.files()).contains(&file) {
+            return Err(Refusal::FileNotListed);
+        }
+        let good = 3 * file;
+        Ok(Atoms {
+            sent: good - 2,
+            skipped: good - 1,
+            good,
+        })
+    }
+
+    /// What an atom of the checklist stands for; none for any other atom.
+    pub fn name(&self, atom: u32) -> Option<String> {
+        let last = 3 * self.files();
+        match atom {
+            0 => Some("opened".to_string()),
+            _ if atom == last => Some("complete".to_string()),
+            _ if atom > last => None,
+            _ => {
+                let part = ["good", "sent", "skipped"][atom as usize % 3];
+                Some(format!("file {} {part}", atom.div_ceil(3)))
+            }
+        }
+    }
+
+    /// The rules and their labels; for instance to be saved.
+    pub fn table(&self) -> &Table {
+        &self.0
+    }
+
+    pub fn into_table(self) -> Table {
+        self.0
+    }
+
+    /// A refusal hands the table back as it came.
+    fn change(
+        &mut self,
+        call: fn(&raw::Table, u32) -> raw::Accepted,
+        file: u32,
+    ) -> Result<(), Refusal> {
+        let told = call(self.0.as_raw(), file);
+        self.0 = Table(told.table);
+        answered(told.refused, 0, ())
+    }
+}
+
+/// `complete: yes`, or `complete: no.` and a sentence for each missing file.
+impl fmt::Display for Checklist {
+    fn fmt(&self, f: &mut fmt::Formatter<'_>) -> fmt::Result {
+        if self.complete() {
+            return f.write_str("complete: yes");
+        }
+        f.write_str("complete: no.")?;
+        for file in self.missing() {
+            let state = self.state(file).expect("a file on the list");
+            write!(f, " File {file} {state}.")?;
+        }
+        Ok(())
+    }
+}

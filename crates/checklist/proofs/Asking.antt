@@ -1,0 +1,149 @@
+-- How the calls that ask a checklist end: complete, and the list of files. Assumes nothing.
+use Prim.Native.Nat.{ℕ, _+_, _≤_, _<_}
+use native.Mathlib.Omega.{arith}
+use mathlib.Core.Path.{_≡_, refl, sym, _∙_, ap, ap₂, subst}
+use mathlib.Core.Logic.{⊎-elim}
+use mathlib.Core.Bool.{Bool, true, false, not, _&&_, _||_}
+use mathlib.Core.List.{List, [], _∷_}
+use mathlib.Core.Option.{Option, none, some}
+use lib.Dec.{leb}
+use lib.ListN.{length, set, replicate, length-set, length-replicate}
+use lib.Seq.{getD-set-same, getD-set-other}
+use Rattle.theory.specs.Models.{AtomSet}
+use Rattle.theory.specs.Questions.{asks, first-no, is-some}
+use Rattle.theory.specs.Limits.{document}
+use Rattle.theory.proofs.Lists.{unless, and-l, and-r, and-of, leb-le, le-leb, le-or-lt}
+use Rattle.theory.proofs.Labels.{label-in}
+use Rattle.theory.proofs.Questions.{first-no-yes}
+use Rattle.table.specs.declared.Slot.{Slot}
+use Rattle.table.specs.declared.Table.{Table}
+use Rattle.table.specs.declared.kept.Kept.{Kept}
+use Rattle.table.specs.Sets.{member, Flags}
+use Rattle.table.specs.Kept.{KeptOf}
+use Rattle.table.specs.Sound.{Sound}
+use Rattle.table.proofs.KeptFields.{flags-are}
+use Rattle.table.proofs.Members.{all-alike}
+use Rattle.calls.specs.declared.Refusal.{Refusal}
+use Rattle.calls.specs.declared.LabelAnswer.{LabelAnswer}
+use Rattle.calls.specs.declared.LabelAnswer.the-variants as label
+use Rattle.calls.specs.declared.ListAnswer.{ListAnswer}
+use Rattle.calls.specs.Contracts as contract
+use Rattle.calls.specs.Contracts.{held, LabelEnds}
+use Rattle.listing.specs.Lists.{below}
+use Rattle.listing.specs.Written.{Written, short, fits}
+use Rattle.listing.proofs.Lists.{flags-list}
+use Rattle.checklist.specs.declared.CompleteAnswer.the-variants as told
+use Rattle.frame.specs.Frame.{Checklist, sent, skipped, good, is-mark, files-of, marked}
+use Rattle.checklist.specs.Questions.{on-list, lacks}
+use Rattle.checklist.specs.Contracts as ends
+use Rattle.checklist.specs.Contracts.{CompleteEnds, MissingEnds, tellComplete}
+use Rattle.checklist.specs.Parts.{Lacking}
+use Rattle.frame.proofs.Frames.{checklist-of, mark-below, sent-mark, skipped-mark}
+use Rattle.checklist.proofs.Model.{mark-in}
+use Rattle.checklist.proofs.Labels.{Told, told-absent, told-out, told-in, told-refused, in?, model-in}
+
+-- Complete is told as the label of the last file's good says.
+module _ (t : Table) (n : ℕ) (e : files-of (held t) ≡ some n) {x : LabelAnswer} (E : LabelEnds t (good n) x) where
+  complete-told : Told t (good n) x → {b : Bool} → in? x ≡ b → CompleteEnds t (tellComplete b)
+  complete-told T q =
+      subst (λ (b : Bool). CompleteEnds t (tellComplete b)) (model-in t (good n) T ∙ q)
+      (ends.accepted (T .model) n (T .sound) e (T .admissible))
+
+  pub complete-in : {d : ℕ} {s : Slot} → x ≡ label.In d s → CompleteEnds t told.Complete
+  complete-in q = complete-told (told-in t (good n) E q) (ap in? q)
+
+  pub complete-absent : x ≡ label.Absent → CompleteEnds t told.Incomplete
+  complete-absent q = complete-told (told-absent t (good n) E q) (ap in? q)
+
+  pub complete-out : x ≡ label.Out → CompleteEnds t told.Incomplete
+  complete-out q = complete-told (told-out t (good n) E q) (ap in? q)
+
+  pub complete-refused : {f : Refusal} → x ≡ label.Refused f → CompleteEnds t (told.Refused f)
+  complete-refused q =
+      let w = told-refused t (good n) (omega (arith, checklist-of (held t) n e .high)) E q in
+      subst (λ (g : Refusal). CompleteEnds t (told.Refused g)) (sym (w .0)) (ends.unsound (λ S. absurd (w .1 S)))
+
+-- Which of n files lack something, by the atoms that are in: told for the files below i, and of no other number yet.
+abbrev lacking-in : List Bool → ℕ → Bool
+lacking-in atoms i = not (member atoms (sent i)) || member atoms (skipped i)
+
+pub record LackingTo (atoms : List Bool) (n i : ℕ) (lacks : List Bool) : Type 0 where
+  pub size : length lacks ≡ 61
+  pub below : (j : ℕ) → j < i → member lacks j ≡ (on-list (some n) j && lacking-in atoms j)
+  pub above : (j : ℕ) → i ≤ j → member lacks j ≡ false
+
+pub lacking-start : (atoms : List Bool) (n : ℕ) → LackingTo atoms n 1 (replicate 61 false)
+lacking-start atoms n = record {
+  size = length-replicate 61 false;
+  below = λ j l. all-alike 61 j false
+      ∙ sym (unless _ (λ t. omega (arith, leb-le 1 j (and-l (leb 1 j) _ (and-l (on-list (some n) j) _ t)))));
+  above = λ j l. all-alike 61 j false;
+}
+
+module _ (atoms : List Bool) (n i : ℕ) (lacks : List Bool) (L : LackingTo atoms n i lacks) where
+  pub lacking-next :
+      1 ≤ i → i ≤ n → n ≤ 60 → (v : Bool) → v ≡ lacking-in atoms i → LackingTo atoms n (i + 1) (set lacks i v)
+  lacking-next low high most v e = record {
+    size = length-set lacks i v ∙ L .size;
+    below = λ j l. ⊎-elim
+        (λ (k : i ≤ j). let z : j ≡ i = omega arith in
+        subst (λ (k : ℕ). member (set lacks i v) k ≡ (on-list (some n) k && lacking-in atoms k)) (sym z)
+        (getD-set-same lacks i v false (omega (arith, L .size)) ∙ e
+        ∙ sym (ap (λ (b : Bool). b && lacking-in atoms i) (and-of _ _ (le-leb 1 i low) (le-leb i n high)))))
+        (λ (k : j < i). getD-set-other lacks i j v false (λ z. omega arith) ∙ L .below j k)
+        (le-or-lt i j);
+    above = λ j l. getD-set-other lacks i j v false (λ z. omega arith) ∙ L .above j (omega arith);
+  }
+
+  pub lacking-end : n < i → Lacking atoms n lacks
+  lacking-end l = record {
+    size = L .size;
+    each = λ j. ⊎-elim
+        (λ (k : i ≤ j). L .above j k
+        ∙ sym (unless _ (λ t. omega (arith, leb-le j n (and-r (leb 1 j) _ (and-l (on-list (some n) j) _ t))))))
+        (λ (k : j < i). L .below j k)
+        (le-or-lt i j);
+  }
+
+-- The list of the files that lack something, written into a buffer.
+module _ (t : Table) (S : Sound t) (n : ℕ) (e : files-of (held t) ≡ some n) where
+  C : Checklist (held t) n
+  C = checklist-of (held t) n e
+
+  -- a mark's atom is kept as in exactly if the mark stands
+  kept-mark : (k : Kept) → KeptOf (t .labels) k → (a : ℕ) → is-mark n a ≡ true → member (k .flags) a ≡ marked (held t) a
+  kept-mark k K a m =
+      let low : a < document .atoms = omega (arith, mark-below n a m, C .high) in
+      ap (λ (M : AtomSet). M a) (flags-are (t .labels) k K)
+      ∙ label-in (held t) (S .labels .model) (S .labels .admissible) a _ (S .labels .labels a low)
+      ∙ mark-in (held t) n C (S .labels .model) (S .labels .admissible) a m
+
+  -- 15 is answered yes
+  passes : first-no (asks 15 (is-some (files-of (held t))) ∷ []) ≡ none
+  passes = first-no-yes (asks 15 _) [] (ap is-some e) ∙ (unfold first-no in refl)
+
+  module _ (k : Kept) (K : KeptOf (t .labels) k) (flags : List Bool) (L : Lacking (k .flags) n flags) where
+    listed-lacks : (i : ℕ) → on-list (some n) i ≡ true → lacking-in (k .flags) i ≡ lacks (held t) i
+    listed-lacks i l =
+        let low = leb-le 1 i (and-l (leb 1 i) _ l) in
+        let high = leb-le i n (and-r (leb 1 i) _ l) in
+        ap₂ (λ (b c : Bool). not b || c) (kept-mark k K (sent i) (sent-mark n i low high))
+        (kept-mark k K (skipped i) (skipped-mark n i low high))
+
+    lacking-flags :
+        Flags flags (λ i. (on-list (files-of (held t)) i ≡ true) × (lacks (held t) i ≡ true))
+    lacking-flags i =
+        let o : on-list (files-of (held t)) i ≡ on-list (some n) i = ap (λ (z : Option ℕ). on-list z i) e in (
+          λ u. (let w = sym (L .each i) ∙ u in
+              let l = and-l (on-list (some n) i) _ w in
+              (o ∙ l, sym (listed-lacks i l) ∙ and-r (on-list (some n) i) _ w)),
+          λ w. (let l = sym o ∙ w .0 in L .each i ∙ and-of _ _ l (listed-lacks i l ∙ w .1)),
+        )
+
+    pub missing-ends :
+        {before after : List ℕ} {answer : ListAnswer}
+        → Written (below (member flags) (length flags)) before answer after → MissingEnds t before answer after
+    missing-ends (short l) =
+        contract.short (S .labels .model) _ S passes (S .labels .admissible) (flags-list flags _ lacking-flags) l
+    missing-ends (fits l) =
+        contract.accepted (S .labels .model) _ S passes (S .labels .admissible) (flags-list flags _ lacking-flags) l

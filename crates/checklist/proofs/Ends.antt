@@ -1,0 +1,317 @@
+-- How the calls on a file end, from what add, remove and label answered. Assumes nothing.
+use Prim.Native.Nat.{ℕ, _≤_, _<_}
+use native.Mathlib.Omega.{arith}
+use mathlib.Core.Path.{_≡_, refl, sym, _∙_, ap, subst}
+use mathlib.Core.Logic.{⊎-elim}
+use mathlib.Core.Bool.{Bool, true, false, not, true≢false}
+use mathlib.Core.List.{[], _∷_}
+use mathlib.Core.Option.{Option, none, some, Option·none-ne-some, Option·some-injective}
+use lib.Dec.{leb}
+use lib.ListN.{set}
+use Rattle.theory.specs.Lists.{every, distinct, sort}
+use Rattle.theory.specs.Rules.{Program, Held, any-rule, same, kept}
+use Rattle.theory.specs.Questions.{asks, first-no, is-some, rule-questions, add-questions, slot-questions, with-added}
+use Rattle.theory.specs.Questions.{lowest-free, put-in}
+use Rattle.theory.specs.Limits.{document}
+use Rattle.theory.proofs.Lists.{test, unless, lt-ltb, same-test, and-l, and-r, and-of, leb-le, le-leb}
+use Rattle.theory.proofs.Sameness.{same-held}
+use Rattle.theory.proofs.Questions.{first-no-yes, first-no-here, held-below}
+use Rattle.table.specs.declared.Slot.{Slot}
+use Rattle.table.specs.declared.Table.{Table}
+use Rattle.table.specs.Sound.{Sound}
+use Rattle.calls.specs.declared.Refusal.{Refusal}
+use Rattle.calls.specs.declared.Refusal.the-variants.{Unsound, FileNumber, Mark}
+use Rattle.calls.specs.declared.AddAnswer.{AddAnswer}
+use Rattle.calls.specs.declared.AddAnswer.the-variants as added
+use Rattle.calls.specs.declared.ChangeAnswer.{ChangeAnswer}
+use Rattle.calls.specs.declared.ChangeAnswer.the-variants as change
+use Rattle.calls.specs.declared.Changed.{Changed}
+use Rattle.calls.specs.declared.LabelAnswer.{LabelAnswer}
+use Rattle.calls.specs.declared.LabelAnswer.the-variants as label
+use Rattle.calls.specs.Answers.{numberOf}
+use Rattle.calls.specs.Contracts as contract
+use Rattle.calls.specs.Contracts.{held, AddEnds, RemoveEnds, LabelEnds}
+use Rattle.checklist.specs.declared.AskedFile.{AskedFile}
+use Rattle.checklist.specs.declared.AskedFile.the-variants as asked
+use Rattle.frame.specs.Frame.{Checklist, sent, skipped, fact, is-mark, files-of, marked, first-slot}
+use Rattle.checklist.specs.Questions.{FileCall, file-sent, file-skipped, skip-withdrawn, file, on-list, allowed}
+use Rattle.checklist.specs.Questions.{mark-questions}
+use Rattle.checklist.specs.Book.{marks-changed}
+use Rattle.checklist.specs.Contracts as ends
+use Rattle.checklist.specs.Contracts.{FileEnds}
+use Rattle.frame.specs.Parts.{count-of}
+use Rattle.checklist.specs.Parts.{FileAsked, MarkAdded, taken, stands, other, MarkRemoved}
+use Rattle.checklist.specs.Parts as parts
+use Rattle.frame.proofs.Frames.{checklist-of, mark-below, sent-mark, skipped-mark}
+use Rattle.checklist.proofs.Marks.{marked-at, marked-of, checklist-stratified, free-slot, added-checklist}
+use Rattle.checklist.proofs.Marks.{fact-slot}
+use Rattle.checklist.proofs.Model.{mark-in, mark-support}
+use Rattle.checklist.proofs.Labels.{Told, told-absent, told-out, told-in, told-refused}
+use Rattle.checklist.proofs.Labels.{in?, slot?, model-in, supporting-slot}
+
+-- A file on the list is one of its numbers.
+pub listed-file : (n i : ℕ) → on-list (some n) i ≡ true → (1 ≤ i) × (i ≤ n)
+listed-file n i o = (leb-le 1 i (and-l (leb 1 i) _ o), leb-le i n (and-r (leb 1 i) _ o))
+
+pub is-listed : (n i : ℕ) → 1 ≤ i → i ≤ n → on-list (some n) i ≡ true
+is-listed n i l h = and-of _ _ (le-leb 1 i l) (le-leb i n h)
+
+-- The number that was counted is that of the files, and 0 says that there is no checklist.
+module _ (P : Program) (n : ℕ) (e : n ≡ count-of (files-of P)) where
+  counted : (o : Option ℕ) → files-of P ≡ o → (n ≡ 0 → files-of P ≡ none) × ((n ≡ 0 → ⊥) → files-of P ≡ some n)
+  counted none q = (λ z. q, λ l. absurd (l (e ∙ ap count-of q)))
+  counted (some m) q =
+      let C = checklist-of P m q in
+      let z : n ≡ m = e ∙ ap count-of q in
+      (λ y. absurd (omega (arith, C .low)), λ l. q ∙ ap some (sym z))
+
+  pub counted-none : n ≡ 0 → files-of P ≡ none
+  counted-none = counted (files-of P) refl .0
+
+  pub counted-some : (n ≡ 0 → ⊥) → files-of P ≡ some n
+  counted-some = counted (files-of P) refl .1
+
+-- What a call on a file asks, one question after another.
+module _ (P : Program) (c : FileCall) where
+  pub no-list : files-of P ≡ none → first-no (mark-questions P c) ≡ some 15
+  no-list e = first-no-here (asks 15 _) _ (ap is-some e)
+
+  module _ (n : ℕ) (e : files-of P ≡ some n) where
+    pub off-list : on-list (some n) (file c) ≡ false → first-no (mark-questions P c) ≡ some 20
+    off-list f =
+        first-no-yes (asks 15 _) _ (ap is-some e)
+        ∙ first-no-here (asks 20 _) _ (ap (λ (o : Option ℕ). on-list o (file c)) e ∙ f)
+
+    module _ (l : on-list (some n) (file c) ≡ true) where
+      listed-asks : first-no (mark-questions P c) ≡ first-no (asks 22 (allowed P c) ∷ [])
+      listed-asks =
+          first-no-yes (asks 15 _) _ (ap is-some e)
+          ∙ first-no-yes (asks 20 _) _ (ap (λ (o : Option ℕ). on-list o (file c)) e ∙ l)
+
+      pub not-allowed : allowed P c ≡ false → first-no (mark-questions P c) ≡ some 22
+      not-allowed f = listed-asks ∙ first-no-here (asks 22 _) [] f
+
+      pub is-allowed : allowed P c ≡ true → first-no (mark-questions P c) ≡ none
+      is-allowed t = listed-asks ∙ first-no-yes (asks 22 _) [] t ∙ (unfold first-no in refl)
+
+-- An answer and a table handed back together.
+pub handed :
+    (Q : ChangeAnswer → Table → Type 0) {x : ChangeAnswer} {u : Table} (r : Changed)
+    → r ≡ record { answer = x; table = u } → Q x u → Q (r .answer) (r .table)
+handed Q r e q = subst (λ (z : Changed). Q (z .answer) (z .table)) (sym e) q
+
+-- What add answered of a mark's fact, by the case that it is.
+module _ (t : Table) (a : ℕ) {x : AddAnswer} {u : Table} (E : AddEnds t (fact a) x u) where
+  pub mark-taken : {s : Slot} → x ≡ added.Taken s → MarkAdded t a change.Accepted u
+  mark-taken e = taken (subst (λ (y : AddAnswer). AddEnds t (fact a) y u) e E)
+
+  module _ {f : Refusal} (e : x ≡ added.Refused f) (k : ℕ) (number : k ≡ numberOf f) where
+    pub mark-stands : k ≡ 5 → MarkAdded t a (change.Refused Mark) u
+    mark-stands five = stands (subst (λ (y : AddAnswer). AddEnds t (fact a) y u) e E) (sym number ∙ five)
+
+    pub mark-other : (k ≡ 5 → ⊥) → MarkAdded t a (change.Refused f) u
+    mark-other n = other (subst (λ (y : AddAnswer). AddEnds t (fact a) y u) e E) (λ q. n (number ∙ q))
+
+-- The same of label, where the mark is to be removed.
+module _ (t : Table) (a : ℕ) {x : LabelAnswer} (E : LabelEnds t a x) where
+  abbrev ends-as : {y : LabelAnswer} → x ≡ y → LabelEnds t a y
+  ends-as e = subst (LabelEnds t a) e E
+
+  pub mark-freed :
+      {d : ℕ} {s : Slot} → x ≡ label.In d s → {y : ChangeAnswer} {u : Table} → RemoveEnds t (s .0) y u
+      → MarkRemoved t a y u
+  mark-freed e R = parts.removed (ends-as e) R
+
+  pub mark-out : x ≡ label.Out → MarkRemoved t a (change.Refused Mark) t
+  mark-out e = parts.out (ends-as e)
+
+  pub mark-absent : x ≡ label.Absent → MarkRemoved t a (change.Refused Mark) t
+  mark-absent e = parts.absent (ends-as e)
+
+  pub mark-unsound : {f : Refusal} → x ≡ label.Refused f → MarkRemoved t a (change.Refused f) t
+  mark-unsound e = parts.refused (ends-as e)
+
+abbrev passed? : AskedFile → Bool
+passed? asked.Passed = true
+passed? (asked.Refused f) = false
+
+abbrev why-asked : AskedFile → Refusal
+why-asked asked.Passed = Unsound
+why-asked (asked.Refused f) = f
+
+-- What the questions of a file say of the call.
+module _ (t : Table) (c : FileCall) where
+  pub asked-refused :
+      {r : AskedFile} → FileAsked t (file c) r → {f : Refusal} → r ≡ asked.Refused f
+      → FileEnds t c (change.Refused f) t
+  asked-refused (parts.unsound un) q =
+      subst (λ (g : Refusal). FileEnds t c (change.Refused g) t) (ap why-asked q) (ends.unsound un)
+  asked-refused (parts.off-list n S e l) q =
+      subst (λ (g : Refusal). FileEnds t c (change.Refused g) t) (ap why-asked q)
+      (ends.refused FileNumber S (off-list (held t) c n e l))
+  asked-refused (parts.passed n e l) q = absurd (true≢false (ap passed? q))
+
+pub record Listed (t : Table) (i : ℕ) : Type 0 where
+  pub number : ℕ
+  pub files : files-of (held t) ≡ some number
+  pub listed : on-list (some number) i ≡ true
+
+pub asked-passed : {t : Table} {i : ℕ} {r : AskedFile} → FileAsked t i r → r ≡ asked.Passed → Listed t i
+asked-passed (parts.unsound un) q = absurd (true≢false (sym (ap passed? q)))
+asked-passed (parts.off-list n S e l) q = absurd (true≢false (sym (ap passed? q)))
+asked-passed (parts.passed n e l) q = record { number = n; files = e; listed = l }
+
+-- The file is one of at most 60, and its marks are marks of the list.
+module _ {t : Table} {i : ℕ} (L : Listed t i) where
+  list : Checklist (held t) (L .number)
+  list = checklist-of (held t) (L .number) (L .files)
+
+  low : 1 ≤ i
+  low = listed-file (L .number) i (L .listed) .0
+
+  high : i ≤ L .number
+  high = listed-file (L .number) i (L .listed) .1
+
+  pub file-bounds : (1 ≤ i) × (i ≤ 60)
+  file-bounds = (low, omega (arith, high, list .high))
+
+  sent-listed : is-mark (L .number) (sent i) ≡ true
+  sent-listed = sent-mark (L .number) i low high
+
+  skipped-listed : is-mark (L .number) (skipped i) ≡ true
+  skipped-listed = skipped-mark (L .number) i low high
+
+-- A fact of an atom below the limit passes 1 to 4, and is kept as it is.
+fact-passes : (a : ℕ) → a < document .atoms → first-no (rule-questions document (fact a)) ≡ none
+unfolding every distinct
+fact-passes a l =
+    first-no-yes (asks 1 _) _ (lt-ltb a (document .atoms) l) ∙ first-no-yes (asks 2 _) _ refl
+    ∙ first-no-yes (asks 3 _) _ refl ∙ first-no-yes (asks 4 _) _ refl ∙ (unfold first-no in refl)
+
+-- A mark of a checklist that a sound table holds.
+module _ (t : Table) (S : Sound t) (n a : ℕ) (C : Checklist (held t) n) (m : is-mark n a ≡ true) where
+  low-mark : a < document .atoms
+  low-mark = omega (arith, mark-below n a m, C .high)
+
+  -- the table holds the same rule exactly if the mark stands
+  pub same-marked : any-rule (same (fact a)) (held t) ≡ marked (held t) a
+  unfolding sort
+  same-marked =
+      let w = same-held document (held t) (fact a) (S .labels .ascending) (fact-passes a low-mark) in
+      same-test _ _
+      (λ u. (let h = w .0 u in marked-of (held t) a (h .0) (h .1)))
+      (λ u. w .1 (marked-at (held t) a u))
+
+  -- adding it asks nothing else: a slot is free, and no loop is closed
+  add-asks :
+      first-no (add-questions document (held t) (fact a))
+      ≡ first-no (asks 5 (not (any-rule (same (fact a)) (held t))) ∷ [])
+  unfolding every distinct
+  add-asks =
+      let w = free-slot (held t) n C (S .labels .single) (S .labels .slots) in
+      let e : is-some (lowest-free (held t)) ≡ true = ap is-some (w .1) in
+      let acyclic = checklist-stratified (with-added (held t) (fact a)) n
+      (added-checklist (held t) (w .0) a (w .1) n C m) in
+      first-no-yes (asks 1 _) _ (lt-ltb a (document .atoms) low-mark) ∙ first-no-yes (asks 2 _) _ refl
+      ∙ first-no-yes (asks 3 _) _ refl ∙ first-no-yes (asks 4 _) _ refl
+      ∙ ⊎-elim
+      (λ (u : not (any-rule (same (fact a)) (held t)) ≡ true).
+      first-no-yes (asks 5 _) _ u ∙ first-no-yes (asks 6 _) _ e ∙ first-no-yes (asks 7 _) [] acyclic
+      ∙ sym (first-no-yes (asks 5 _) [] u))
+      (λ (u : not (any-rule (same (fact a)) (held t)) ≡ false).
+      first-no-here (asks 5 _) _ u ∙ sym (first-no-here (asks 5 _) [] u))
+      (test (not (any-rule (same (fact a)) (held t))))
+
+  add-stands : marked (held t) a ≡ true → first-no (add-questions document (held t) (fact a)) ≡ some 5
+  add-stands u = add-asks ∙ first-no-here (asks 5 _) [] (ap not (same-marked ∙ u))
+
+  add-free : marked (held t) a ≡ false → first-no (add-questions document (held t) (fact a)) ≡ none
+  add-free u = add-asks ∙ first-no-yes (asks 5 _) [] (ap not (same-marked ∙ u)) ∙ (unfold first-no in refl)
+
+-- File sent and file skipped: a call on a file of the list that adds the fact of its mark.
+module _
+    (t : Table) (c : FileCall) (n a : ℕ) (e : files-of (held t) ≡ some n) (l : on-list (some n) (file c) ≡ true)
+    (m : is-mark n a ≡ true) where
+  C : Checklist (held t) n
+  C = checklist-of (held t) n e
+
+  -- an addition that is refused says that the mark stands
+  not-unmarked :
+      Sound t → {k : ℕ} → first-no (add-questions document (held t) (fact a)) ≡ some k → marked (held t) a ≡ true
+  not-unmarked S q = ⊎-elim
+      (λ (y : marked (held t) a ≡ true). y)
+      (λ (y : marked (held t) a ≡ false). absurd (Option·none-ne-some _ (sym (add-free t S n a C m y) ∙ q)))
+      (test (marked (held t) a))
+
+  module _ (asks-mark : allowed (held t) c ≡ not (marked (held t) a)) where
+    mark-added :
+        marks-changed (held t) c ≡ with-added (held t) (fact a) → {x : ChangeAnswer} {u : Table} → MarkAdded t a x u
+        → FileEnds t c x u
+    mark-added adds (taken (contract.accepted s u S q k Z h U)) =
+        let free : marked (held t) a ≡ false =
+        unless _ (λ y. Option·none-ne-some 5 (sym q ∙ add-stands t S n a C m y)) in
+        ends.accepted u S (is-allowed (held t) c n e l (asks-mark ∙ ap not free)) Z
+        (h ∙ sym (adds ∙ ap (λ (o : Option ℕ). put-in (held t) o (kept (fact a))) k)) U
+    mark-added adds (stands (contract.unsound un) five) = absurd (omega (arith, five))
+    mark-added adds (stands (contract.refused f S q) five) =
+        let there : marked (held t) a ≡ true = not-unmarked S q in
+        ends.refused Mark S (not-allowed (held t) c n e l (asks-mark ∙ ap not there))
+    mark-added adds (other (contract.unsound un) not-five) = ends.unsound (λ S. absurd (un S))
+    mark-added adds (other (contract.refused f S q) not-five) =
+        absurd (not-five (Option·some-injective _ _ (sym q ∙ add-stands t S n a C m (not-unmarked S q))))
+
+  -- Skip withdrawn: a call on a file of the list that removes it.
+  module _ (asks-mark : allowed (held t) c ≡ marked (held t) a) where
+    withdrawn-out :
+        {x : LabelAnswer} → Told t a x → in? x ≡ false → FileEnds t c (change.Refused Mark) t
+    withdrawn-out T f =
+        ends.refused Mark (T .sound) (not-allowed (held t) c n e l
+        (asks-mark ∙ sym (mark-in (held t) n C (T .model) (T .admissible) a m) ∙ model-in t a T ∙ f))
+
+    -- its fact stands in the slot that supports it, and a slot that holds a rule passes 8 and 9
+    mark-slot :
+        Sound t → {x : LabelAnswer} → Told t a x → in? x ≡ true → Held (held t) (slot? x) (fact a) × (n < slot? x)
+    mark-slot S T y = mark-support (held t) n C (T .model) a _ m (supporting-slot t a T y)
+
+    slot-asks : Sound t → (s : ℕ) → Held (held t) s (fact a) → first-no (slot-questions document (held t) s) ≡ none
+    slot-asks S s h =
+        let b = held-below (held t) s (fact a) h in
+        first-no-yes (asks 8 _) _ (lt-ltb s (document .slots) (omega (arith, S .labels .slots)))
+        ∙ first-no-yes (asks 9 _) [] (ap is-some h) ∙ (unfold first-no in refl)
+
+    mark-removed :
+        marks-changed (held t) c ≡ set (held t) (first-slot (fact a) (held t)) none → {x : ChangeAnswer} {u : Table}
+        → MarkRemoved t a x u → FileEnds t c x u
+    mark-removed removes (parts.out E) = withdrawn-out (told-out t a E refl) refl
+    mark-removed removes (parts.absent E) = withdrawn-out (told-absent t a E refl) refl
+    mark-removed removes (parts.refused E) =
+        let w = told-refused t a (omega (arith, mark-below n a m, C .high)) E refl in
+        subst (λ (g : Refusal). FileEnds t c (change.Refused g) t) (sym (w .0)) (ends.unsound (λ S. absurd (w .1 S)))
+    mark-removed removes (parts.removed {s = s} E (contract.unsound un)) = absurd (un (told-in t a E refl .sound))
+    mark-removed removes (parts.removed {s = s} E (contract.refused f S q)) =
+        let w = mark-slot S (told-in t a E refl) refl in
+        absurd (Option·none-ne-some _ (sym (slot-asks S (s .0) (w .0)) ∙ q))
+    mark-removed removes (parts.removed {s = s} E (contract.accepted u S q Z h U)) =
+        let w = mark-slot S (told-in t a E refl) refl in
+        ends.accepted u S (is-allowed (held t) c n e l (asks-mark ∙ marked-of (held t) a (s .0) (w .0))) Z
+        (h ∙ sym (removes
+        ∙ ap (λ (k : ℕ). set (held t) k none) (fact-slot (held t) (S .labels .single) a (s .0) (w .0)))) U
+
+-- File sent, file skipped, skip withdrawn, of a file on the list.
+pub sent-ends :
+    (t : Table) (i : ℕ) → Listed t i → {x : ChangeAnswer} {u : Table} → MarkAdded t (sent i) x u
+    → FileEnds t (file-sent i) x u
+sent-ends t i L E =
+    mark-added t (file-sent i) (L .number) (sent i) (L .files) (L .listed) (sent-listed L) refl refl E
+
+pub skipped-ends :
+    (t : Table) (i : ℕ) → Listed t i → {x : ChangeAnswer} {u : Table} → MarkAdded t (skipped i) x u
+    → FileEnds t (file-skipped i) x u
+skipped-ends t i L E =
+    mark-added t (file-skipped i) (L .number) (skipped i) (L .files) (L .listed) (skipped-listed L) refl refl E
+
+pub withdrawn-ends :
+    (t : Table) (i : ℕ) → Listed t i → {x : ChangeAnswer} {u : Table} → MarkRemoved t (skipped i) x u
+    → FileEnds t (skip-withdrawn i) x u
+withdrawn-ends t i L E =
+    mark-removed t (skip-withdrawn i) (L .number) (skipped i) (L .files) (L .listed) (skipped-listed L) refl refl E

@@ -1,0 +1,298 @@
+-- Laws of the frame added rule by rule: what the table holds after some of them, and that none is refused. Assumes
+-- nothing.
+use Prim.Native.Nat.{ℕ, zero, suc, _+_, _-_, _≤_, _<_}
+use native.Mathlib.Omega.{arith}
+use mathlib.Core.Path.{_≡_, refl, sym, _∙_, ap, ap₂, subst}
+use mathlib.Core.Logic.{⊎-elim}
+use mathlib.Core.Bool.{true, false}
+use mathlib.Core.List.{List, [], _∷_, _++_, map, map-append, List·Memᴰ·not-nil}
+use mathlib.Core.Option.{Option, none, some, Option·none-ne-some, Option·some-injective}
+use lib.Dec.{leb, ltb}
+use lib.ListN.{length, length-append, length-map, length-replicate, getD, set, replicate, List·getD-append}
+use lib.Seq.{append-snoc, getD-append-add, getD-at, set-at}
+use Rattle.theory.specs.Lists.{_∈_, every}
+use Rattle.theory.specs.Rules.{Rule, Program, Held, Ascending, entries, any-rule, same, kept}
+use Rattle.theory.specs.Limits.{document}
+use Rattle.theory.specs.Questions.{first-no, add-questions, is-some, lowest-free, put-in, with-added, stratified}
+use Rattle.theory.specs.Book.{empty}
+use Rattle.theory.proofs.Lists.{and-l, and-r, and-of, unless, false-not, lt-ltb, leb-le, le-leb, le-or-lt}
+use Rattle.theory.proofs.Rules.{any-rule-at, held-unique}
+use Rattle.theory.proofs.Questions.{first-no-yes, first-no-here, lowest-free-of}
+use Rattle.theory.proofs.Sorting.{ascending-distinct}
+use Rattle.theory.proofs.Sameness.{same-iff, ascending-kept}
+use Rattle.theory.proofs.Cycles.{stratified-iff}
+use Rattle.table.specs.declared.Table.{Table}
+use Rattle.table.specs.Clean.{emptyTable}
+use Rattle.table.specs.Sound.{Sound}
+use Rattle.table.proofs.Members.{all-alike}
+use Rattle.table.proofs.Empty.{empty-sound, free-program}
+use Rattle.calls.specs.declared.AddAnswer.{AddAnswer}
+use Rattle.calls.specs.declared.Changed.{Changed}
+use Rattle.calls.specs.declared.ChangeAnswer.the-variants as change
+use Rattle.calls.specs.declared.Refusal.the-variants.{FileCount}
+use Rattle.calls.specs.Contracts.{held, Sized, AddEnds, unsound, refused, accepted}
+use Rattle.frame.specs.Frame.{Checklist, most-files, sent, skipped, good, fact, frame, files, is-mark, marked}
+use Rattle.checklist.specs.Book.{opened}
+use Rattle.checklist.specs.Contracts.{OpenEnds}
+use Rattle.checklist.specs.Contracts as contract
+use Rattle.checklist.specs.Parts.{FrameAdded, Framed}
+use Rattle.frame.proofs.Frames.{in-one, frame-head}
+use Rattle.checklist.proofs.Marks.{marked-at, descending-acyclic, checklist-stratified, mark-behind}
+use Rattle.frame.proofs.Slots.{file-rule, frame-file}
+
+-- What the table holds after the first i rules of the frame.
+abbrev pub stage : ℕ → Program
+stage zero = empty document
+stage (suc n) = opened document n
+
+-- The slots below i, and the frame's rules that stand there.
+
+slots-to : ℕ → List ℕ
+slots-to zero = []
+slots-to (suc n) = zero ∷ files n
+
+slots-more : (i : ℕ) → slots-to (suc i) ≡ slots-to i ++ (i ∷ [])
+unfolding slots-to files
+slots-more zero = refl
+slots-more (suc n) = refl
+
+slots-length : (i : ℕ) → length (slots-to i) ≡ i
+slots-length zero = unfold slots-to in refl
+slots-length (suc i) =
+    ap length (slots-more i) ∙ (omega (arith, length-append (slots-to i) (i ∷ []), slots-length i))
+
+front : ℕ → Program
+front i = map (λ s. some (frame s)) (slots-to i)
+
+front-more : (i : ℕ) → front (suc i) ≡ front i ++ (some (frame i) ∷ [])
+unfolding front
+front-more i =
+    ap (map (λ s. some (frame s))) (slots-more i) ∙ map-append (λ s. some (frame s)) (slots-to i) (i ∷ [])
+
+front-length : (i : ℕ) → length (front i) ≡ i
+unfolding front
+front-length i = length-map (slots-to i) (λ s. some (frame s)) ∙ slots-length i
+
+front-held : (i s : ℕ) → s < i → Held (front i) s (frame s)
+front-held zero s l = absurd (omega arith)
+front-held (suc i) s l =
+    ap (λ (P : Program). getD P s none) (front-more i) ∙ ⊎-elim
+    (λ (k : i ≤ s). (
+    let e : i ≡ s = omega arith in
+    getD-at (front i) (some (frame i)) [] none s (front-length i ∙ e) ∙ ap (λ (z : ℕ). some (frame z)) e))
+    (λ (k : s < i).
+    List·getD-append (front i) (some (frame i) ∷ []) none s (omega (arith, front-length i)) ∙ front-held i s k)
+    (le-or-lt i s)
+
+-- The slots behind those are free.
+stage-split : (i : ℕ) → stage i ≡ front i ++ replicate (document .slots - i) none
+unfolding front slots-to
+stage-split zero = refl
+stage-split (suc n) = refl
+
+pub stage-length : (i : ℕ) → i ≤ document .slots → length (stage i) ≡ document .slots
+stage-length i l =
+    ap length (stage-split i) ∙ (omega (
+      arith,
+      length-append (front i) (replicate (document .slots - i) none),
+      front-length i,
+      length-replicate {A = Option Rule} (document .slots - i) none,
+    ))
+
+-- Slots below i hold their rules of the frame, any other is free; so the lowest free one is slot i.
+
+pub stage-held : (i s : ℕ) → s < i → Held (stage i) s (frame s)
+stage-held i s l =
+    ap (λ (P : Program). getD P s none) (stage-split i)
+    ∙ List·getD-append (front i) (replicate (document .slots - i) none) none s (omega (arith, front-length i))
+    ∙ front-held i s l
+
+pub stage-free : (i s : ℕ) → i ≤ s → getD (stage i) s none ≡ none
+stage-free i s l =
+    let e : s ≡ length (front i) + (s - i) = omega (arith, front-length i) in
+    let free : Program = replicate (document .slots - i) none in
+    ap (λ (P : Program). getD P s none) (stage-split i)
+    ∙ ap (λ (k : ℕ). getD (front i ++ free) k none) e
+    ∙ getD-append-add (front i) free (s - i) none
+    ∙ all-alike (document .slots - i) (s - i) none
+
+pub stage-rule : (i s : ℕ) (r : Rule) → Held (stage i) s r → (s < i) × (r ≡ frame s)
+stage-rule i s r h = ⊎-elim
+    (λ (l : i ≤ s). absurd (Option·none-ne-some r (sym (stage-free i s l) ∙ h)))
+    (λ (l : s < i). (l, held-unique (stage i) s r (frame s) h (stage-held i s l)))
+    (le-or-lt i s)
+
+pub stage-lowest : (i : ℕ) → i < document .slots → lowest-free (stage i) ≡ some i
+stage-lowest i l =
+    lowest-free-of (stage i) i (omega (arith, stage-length i (omega arith))) (stage-free i i (omega arith))
+    (λ t k. (frame t, stage-held i t k))
+
+-- The frame's rule of slot i is kept as it is; with it, one rule more stands.
+
+frame-ascending : (i : ℕ) → Ascending (frame i)
+frame-ascending zero = record { positives = tt; negatives = tt }
+frame-ascending (suc i) = record {
+  positives = (λ y m. omega (arith, in-one y _ m), (λ y m. absurd (List·Memᴰ·not-nil m), tt));
+  negatives = (λ y m. absurd (List·Memᴰ·not-nil m), tt);
+}
+
+pub frame-kept : (i : ℕ) → kept (frame i) ≡ frame i
+frame-kept i = ascending-kept (frame i) (frame-ascending i)
+
+pub stage-set : (i : ℕ) → i < document .slots → set (stage i) i (some (frame i)) ≡ stage (suc i)
+stage-set i l =
+    let k = document .slots - suc i in
+    let e : document .slots - i ≡ suc k = omega arith in
+    let free : Program = replicate k none in
+    ap (λ (P : Program). set P i (some (frame i)))
+    (stage-split i ∙ ap (λ (m : ℕ). front i ++ replicate m none) e)
+    ∙ set-at (front i) none free (some (frame i)) i (front-length i)
+    ∙ sym (append-snoc (front i) (some (frame i)) free)
+    ∙ ap (λ (P : Program). P ++ free) (sym (front-more i))
+    ∙ sym (stage-split (suc i))
+
+pub stage-added : (i : ℕ) → i < document .slots → with-added (stage i) (frame i) ≡ stage (suc i)
+stage-added i l =
+    ap (λ (o : Option ℕ). put-in (stage i) o (kept (frame i))) (stage-lowest i l)
+    ∙ ap (λ (r : Rule). set (stage i) i (some r)) (frame-kept i)
+    ∙ stage-set i l
+
+-- A checklist just opened is one, and no mark stands in it.
+module _ (n : ℕ) (low : 1 ≤ n) (high : n ≤ most-files) where
+  pub opened-checklist : Checklist (opened document n) n
+  opened-checklist = record {
+    low = low;
+    high = high;
+    frames = λ s l. stage-held (suc n) s (omega arith);
+    others = λ s r l h. absurd (omega (arith, stage-rule (suc n) s r h .0));
+  }
+
+  pub opened-unmarked : (a : ℕ) → is-mark n a ≡ true → marked (opened document n) a ≡ false
+  opened-unmarked a m = unless _ (λ t. (
+      let w = marked-at (opened document n) a t in
+      omega (
+        arith,
+        mark-behind (opened document n) n opened-checklist a (w .0) m (w .1),
+        stage-rule (suc n) (w .0) _ (w .1) .0,
+      )))
+
+-- No loop goes through a negation: slot 0 alone holds a fact, and with more rules it is a checklist.
+stage-stratified : (i : ℕ) → i ≤ most-files → stratified (stage (suc i)) ≡ true
+stage-stratified zero l = stratified-iff (stage 1) .1 (descending-acyclic (stage 1) (λ s r h x m. (
+    let w = stage-rule 1 s r h in
+    let z : s ≡ 0 = omega (arith, w .0) in
+    absurd (List·Memᴰ·not-nil (subst (λ (q : Rule). x ∈ entries q) (w .1 ∙ ap frame z) m)))))
+stage-stratified (suc i) l =
+    checklist-stratified (stage (suc (suc i))) (suc i) (opened-checklist (suc i) (omega arith) l)
+
+-- Another rule of the frame has another head.
+stage-new : (i : ℕ) → any-rule (same (frame i)) (stage i) ≡ false
+stage-new i = unless _ (λ t. (
+    let w = any-rule-at (same (frame i)) (stage i) t in
+    let k = stage-rule i (w .0) (w .1) (w .2) in
+    let e = sym (frame-head i) ∙ same-iff (frame i) (w .1) .0 (w .3) .heads ∙ ap (λ (r : Rule). r .head) (k .1)
+    ∙ frame-head (w .0) in
+    omega (arith, e, k .0)))
+
+-- The entries of the frame's rules are few, and below the limit.
+
+frame-few : (i : ℕ) → leb (length (frame i .positives) + length (frame i .negatives)) (document .entries) ≡ true
+frame-few zero = le-leb 0 (document .entries) (omega arith)
+frame-few (suc i) = le-leb 3 (document .entries) (omega arith)
+
+frame-bounded : (i : ℕ) → i ≤ most-files → every (λ x. ltb x (document .atoms)) (entries (frame i)) ≡ true
+unfolding every
+frame-bounded zero l = refl
+frame-bounded (suc i) l =
+    and-of _ _ (lt-ltb (good i) (document .atoms) (omega arith))
+    (and-of _ _ (lt-ltb (sent (suc i)) (document .atoms) (omega arith))
+    (and-of _ _ (lt-ltb (skipped (suc i)) (document .atoms) (omega arith)) refl))
+
+-- So each rule of the frame is answered yes to every question, when those before it stand.
+pub frame-asked : (i : ℕ) → i ≤ most-files → first-no (add-questions document (stage i) (frame i)) ≡ none
+frame-asked i l =
+    let a = frame-ascending i in
+    let k : i < document .slots = omega arith in
+    first-no-yes _ _ (lt-ltb (frame i .head) (document .atoms) (omega (arith, frame-head i)))
+    ∙ first-no-yes _ _ (frame-few i)
+    ∙ first-no-yes _ _ (frame-bounded i l)
+    ∙ first-no-yes _ _ (and-of _ _ (ascending-distinct _ (a .positives)) (ascending-distinct _ (a .negatives)))
+    ∙ first-no-yes _ _ (false-not _ (stage-new i))
+    ∙ first-no-yes _ _ (ap is-some (stage-lowest i k))
+    ∙ first-no-yes _ _ (ap stratified (stage-added i k) ∙ stage-stratified i l)
+    ∙ (unfold first-no in refl)
+
+-- The frame's next rule is added.
+pub stage-next :
+    (t u : Table) (i : ℕ) (x : AddAnswer) → i ≤ most-files → Sound t → held t ≡ stage i → AddEnds t (frame i) x u
+    → Framed i u
+stage-next t u i x l S h (unsound n) = absurd (n S)
+stage-next t u i x l S h (refused f T e) =
+    absurd (Option·none-ne-some _
+    (sym (frame-asked i l) ∙ ap (λ (P : Program). first-no (add-questions document P (frame i))) (sym h) ∙ e))
+stage-next t u i x l S h (accepted s w T e low Z now W) =
+    let k : i < document .slots = omega arith in
+    let d : s .0 ≡ i = Option·some-injective _ _ (sym low ∙ ap lowest-free h ∙ stage-lowest i k) in
+    record {
+      sized = Z;
+      holds = now ∙ ap₂ (λ (P : Program) (j : ℕ). set P j (some (kept (frame i)))) h d
+          ∙ ap (λ (r : Rule). set (stage i) i (some r)) (frame-kept i) ∙ stage-set i k;
+      sound = W;
+    }
+
+-- A sound table that holds the first i rules; before the first it is the empty table, after all the one framed.
+pub record Staged (i : ℕ) (t : Table) : Type 0 where
+  pub sound : Sound t
+  pub holds : held t ≡ stage i
+  pub sized : 1 ≤ i → Sized t
+
+pub staged-empty : (t : Table) → t ≡ emptyTable → Staged 0 t
+staged-empty t e = subst (Staged 0) (sym e) (record {
+  sound = empty-sound;
+  holds = free-program (document .slots);
+  sized = λ l. absurd (omega arith);
+})
+
+pub staged-next :
+    (t u : Table) (i : ℕ) → i ≤ most-files → Staged i t → FrameAdded t i u → Staged (i + 1) u
+staged-next t u i l S A =
+    let F = stage-next t u i (A .answer) l (S .sound) (S .holds) (A .ends) in
+    let e : suc i ≡ i + 1 = omega arith in
+    subst (λ (k : ℕ). Staged k u) e (record { sound = F .sound; holds = F .holds; sized = λ k. F .sized })
+
+pub staged-all : (n : ℕ) (t : Table) (i : ℕ) → i ≤ n + 1 → n < i → Staged i t → Framed n t
+staged-all n t i l k S =
+    let e : i ≡ suc n = omega arith in
+    record { sized = S .sized (omega arith); holds = S .holds ∙ ap stage e; sound = S .sound }
+
+-- What was added is the frame's rule: in slot 0 its start, in any other slot its file's.
+
+pub start-added :
+    (t u : Table) (i : ℕ) (x : AddAnswer) → i ≡ 0 → AddEnds t (fact 0) x u → FrameAdded t i u
+start-added t u i x e E =
+    record { answer = x; ends = subst (λ (k : ℕ). AddEnds t (frame k) x u) (sym e) E }
+
+pub file-added :
+    (t u : Table) (i : ℕ) (x : AddAnswer) → (i ≡ 0 → ⊥) → AddEnds t (file-rule i) x u → FrameAdded t i u
+file-added t u i x n E =
+    record {
+      answer = x;
+      ends = subst (λ (r : Rule). AddEnds t r x u) (sym (frame-file i (omega arith))) E;
+    }
+
+-- Opening: 21 for no files and for more than the most; else the table framed.
+
+pub open-refused :
+    (n : ℕ) (t : Table) (r : Changed) → (1 ≤ n → n ≤ most-files → ⊥) → t ≡ emptyTable
+    → r ≡ record { answer = change.Refused FileCount; table = t } → OpenEnds n (r .answer) (r .table)
+open-refused n t r f e d =
+    subst (λ (z : Changed). OpenEnds n (z .answer) (z .table)) (sym d)
+    (subst (OpenEnds n (change.Refused FileCount)) (sym e)
+    (contract.refused FileCount (first-no-here _ _ (unless _ (λ b. f
+    (leb-le 1 n (and-l (leb 1 n) _ b)) (leb-le n most-files (and-r (leb 1 n) _ b)))))))
+
+pub open-accepted : (n : ℕ) (u : Table) → 1 ≤ n → n ≤ most-files → Framed n u → OpenEnds n change.Accepted u
+unfolding first-no
+open-accepted n u l h F =
+    contract.accepted u (first-no-yes _ [] (and-of _ _ (le-leb 1 n l) (le-leb n most-files h))) (F .sized) (F .holds)
+    (F .sound)

@@ -1,0 +1,84 @@
+-- `checklist::missing` meets its contract. Assumes nothing.
+use mathlib.Core.Path.{ap}
+use mathlib.Core.List.{[]}
+use Rattle.theory.specs.Questions.{asks, is-some}
+use Rattle.theory.proofs.Lists.{clash, not-true, not-false}
+use Rattle.theory.proofs.Questions.{first-no-here}
+use Rattle.calls.specs.declared.Refusal.the-variants.{Unsound}
+use Rattle.calls.specs.Contracts as contract
+use Rattle.calls.specs.Contracts.{held}
+use Rattle.frame.proofs.Frames.{checklist-of}
+use Rattle.checklist.proofs.Ends.{counted-none, counted-some}
+use Rattle.checklist.proofs.Asking.{missing-ends}
+use borrow.Author.Needs.{needs}
+use Rattle.checklist.proofs.missing.Statement.{statement}
+use Rattle.checklist.proofs.missing.Tie as tie
+
+is-sound-requires : tie.Need-is-sound-requires
+is-sound-requires c κs = search needs
+
+returns : tie.Need-returns
+returns c =
+    let s = c .before in
+    contract.unsound (λ S. clash (s .is-sound .ensures .1 S) (not-true _ (c .if1 .taken)))
+
+file-count-requires : tie.Need-file-count-requires
+file-count-requires c κs = search needs
+
+returns-2 : tie.Need-returns-2
+returns-2 c =
+    let f = c .before in
+    let i = f .before .before in
+    let s = i .before in
+    let t = s .before .before .args .table in
+    contract.refused Unsound (s .is-sound .ensures .0 (not-false _ (i .if1 .left)))
+    (first-no-here (asks 15 _) [] (ap is-some (counted-none (held t) _ (f .file-count .ensures) (c .if2 .taken))))
+
+keep-requires : tie.Need-keep-requires
+keep-requires c κs = search needs
+
+lacking-requires : tie.Need-lacking-requires
+lacking-requires c κs =
+    let i2 = c .before .before .before .before in
+    let f = i2 .before in
+    let t = f .before .before .before .before .before .args .table in
+    let e = counted-some (held t) _ (f .file-count .ensures) (i2 .if2 .left) in
+    checklist-of _ _ e .high
+
+slice-aggregate-write-marked : tie.Need-slice-aggregate-write-marked
+slice-aggregate-write-marked c = search needs
+
+write-marked-requires : tie.Need-write-marked-requires
+write-marked-requires c κs = search needs
+
+same-length : tie.Need-same-length
+same-length c = search needs
+
+returns-3 : tie.Need-returns-3
+returns-3 c =
+    let w = c .before .before in
+    let l = w .before .before .before in
+    let k = l .before .before .before in
+    let i2 = k .before .before in
+    let f = i2 .before in
+    let i = f .before .before in
+    let s = i .before in
+    let t = s .before .before .args .table in
+    missing-ends t (s .is-sound .ensures .0 (not-false _ (i .if1 .left))) _
+    (counted-some (held t) _ (f .file-count .ensures) (i2 .if2 .left)) (k .keep .result) (k .keep .ensures) _
+    (l .lacking .ensures) (w .write-marked .ensures)
+
+pub missing-spec : {M : Type 1} → statement M
+missing-spec =
+    tie.close
+    (tie.spec
+    is-sound-requires
+    returns
+    file-count-requires
+    returns-2
+    keep-requires
+    lacking-requires
+    slice-aggregate-write-marked
+    write-marked-requires
+    same-length
+    returns-3)

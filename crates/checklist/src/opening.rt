@@ -1,0 +1,39 @@
+// The frame of a checklist, added rule by rule.
+use changes::add;
+use table::Table;
+ghost use Prim.Native.Nat.{_≤_};
+ghost use Rattle.frame.specs.Frame.{most-files};
+ghost use Rattle.checklist.specs.Parts.{FrameAdded, Framed};
+
+// The table with the frame's rule of slot i.
+fn add_frame_rule(table: Table, i: u32) -> Table
+    requires { ⌜ i ≤ most-files ⌝ }
+    ensures { λ r. ⌜ FrameAdded table i r ⌝ }
+{
+    let none: [u32; 0] = [];
+    if i == 0 {
+        let done = add(table, 0, &none, &none);
+        let after = done.table;
+        return after;
+    }
+    let positives: [u32; 2] = [3 * i - 3, 3 * i - 2];
+    let negatives: [u32; 1] = [3 * i - 1];
+    let done = add(table, 3 * i, &positives, &negatives);
+    let after = done.table;
+    after
+}
+
+// The table that holds the frame of n files and nothing else.
+pub fn framed(n: u32) -> Table
+    requires { ⌜ (1 ≤ n) × (n ≤ most-files) ⌝ }
+    ensures { λ r. ⌜ Framed n r ⌝ }
+{
+    let mut table = Table::empty();
+    let mut i: u32 = 0;
+    while i <= n {
+        let after = add_frame_rule(table, i);
+        table = after;
+        i += 1;
+    }
+    table
+}

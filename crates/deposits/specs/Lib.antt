@@ -1,0 +1,3 @@
+-- Request #106 over a list of calls: what a reader believes when told that `deposit` holds.
+pub mod Standing
+pub mod Deposits

@@ -1,0 +1,4 @@
+// What a deposit's calls show has no code of its own: its definitions are in specs/, the laws about them in proofs/.
+pub fn holds() -> bool {
+    true
+}
