@@ -34,8 +34,8 @@ extern "C" {
 #define YEQONTUR_FILE_BYTES 6144
 
 /* A slot: free (state 0) or with one rule (state 1): the head is in if every positive entry is in and no negative one
- * is. The entries are the positive list, then the negative list, each ascending, in whatever order an addition named
- * it. To be read; rules are changed by the calls. */
+ * is. The entries are the positive list, then the negative list, each ascending, in whatever order the call named it.
+ * To be read; rules are changed by the calls. */
 typedef struct {
     uint16_t state;
     uint16_t head;
@@ -65,7 +65,8 @@ typedef struct {
  *    2  the two lists together have more than 8 entries
  *    3  an entry is not below 256
  *    4  an atom stands twice in one list
- *    5  the table has the same rule already: heads are equal, and each list holds the same atoms, in any order
+ *    5  the table has the same rule already (where one is replaced, in another slot): heads are equal, and each list
+ *       holds the same atoms, in any order
  *    6  no slot is free
  *    7  the rule would close a loop through a negation
  *    8  the slot number is not below 256
@@ -140,6 +141,14 @@ yeqontur_change yeqontur_add(yeqontur_table table, uint32_t head, const uint32_t
 /* Frees a slot. Every other slot keeps its rule, and all labels are right for the rules now held. Asks 15, 8, 9. */
 yeqontur_change yeqontur_remove(yeqontur_table table, uint32_t slot);
 
+/* Replaces the rule in a slot by another, in one step: where the new one is refused, the old one still stands. The new
+ * rule is judged against the table without the old one, and takes its slot. So a rule may be replaced by itself, in
+ * whatever order of its lists; 5 says that another slot has the new rule; 7 that it would close a loop with the other
+ * rules alone; and 6 cannot come, also of a full table. The lists are those of yeqontur_add. Every other slot keeps its
+ * rule, and all labels are right for the rules now held. Asks 15, 8, 9, 1, 2, 3, 4, 5, 7. */
+yeqontur_accepted yeqontur_replace(yeqontur_table table, uint32_t slot, uint32_t head, const uint32_t *positives,
+                                   size_t positive_count, const uint32_t *negatives, size_t negative_count);
+
 /* The label of an atom: absent, out, or in with its least depth and supporting slot. Asks 15, 10. */
 yeqontur_label_answer yeqontur_label(yeqontur_table table, uint32_t atom);
 
@@ -179,8 +188,9 @@ yeqontur_loaded yeqontur_load(const uint8_t *bytes, size_t length);
  *
  * The rules alone say how many files there are. So yeqontur_remove of the last file's slot, where that file has no mark
  * and is not the only one, leaves a checklist of one file less, which may then be complete; and yeqontur_add of the
- * next file's rule, where it comes to its slot, makes one of one file more, up to 60. Who counts on a list changes it
- * by the calls below alone, never by yeqontur_add or yeqontur_remove. */
+ * next file's rule, where it comes to its slot, makes one of one file more, up to 60. The same do yeqontur_replace of
+ * the last file's rule by a mark of another file, and of a mark in the next file's slot by the rule of that file. Who
+ * counts on a list changes it by the calls below alone, never by yeqontur_add, yeqontur_remove or yeqontur_replace. */
 
 /* The atoms, for a file on the list: a huge number wraps. GOOD(0) is atom 0. */
 #define YEQONTUR_SENT(i) (3 * (uint32_t)(i) - 2)

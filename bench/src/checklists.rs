@@ -145,6 +145,17 @@ mod tests {
                 negatives,
             } => return (0, raw::add(table, *head, positives, negatives).table),
             Call::Remove { slot } => return (0, raw::remove(table, *slot).table),
+            Call::Replace {
+                slot,
+                head,
+                positives,
+                negatives,
+            } => {
+                return (
+                    0,
+                    raw::replace(table, *slot, *head, positives, negatives).table,
+                )
+            }
             Call::Load { bytes } => return (0, raw::load(bytes).table),
             _ => unreachable!("a call that changes no table"),
         };

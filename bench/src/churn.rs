@@ -2,7 +2,7 @@
 
 use oracle::book::Book;
 use oracle::generate::again::Named;
-use oracle::generate::lines::{named, FORMLESS};
+use oracle::generate::lines::{named, replacing, FORMLESS};
 use oracle::limits::{ATOMS, SLOTS};
 use oracle::random::Random;
 
@@ -48,9 +48,8 @@ impl Writer {
         self.sheet.push(b'\n');
     }
 
-    /// A rule with up to 3 entries in any order, all below its head, so that it closes no loop. One that is held
-    /// already is refused.
-    fn add(&mut self) {
+    /// A rule with up to 3 entries in any order, all below its head, so that it closes no loop.
+    fn rule(&mut self) -> Named {
         let head = self.random.below(self.atoms) as u32;
         let below: Vec<u32> = (head.saturating_sub(30)..head).collect();
         let count = self.random.below(4);
@@ -62,14 +61,33 @@ impl Writer {
             entries.len()
         };
         let (positives, negatives) = entries.split_at(cut);
-        let rule = Named {
+        Named {
             head,
             positives: positives.to_vec(),
             negatives: negatives.to_vec(),
-        };
+        }
+    }
+
+    /// A rule that is held already is refused.
+    fn add(&mut self) {
+        let rule = self.rule();
         self.line(named(&rule).as_bytes());
-        if let Ok(slot) = self.book.add(head, positives, negatives) {
+        let added = self.book.add(rule.head, &rule.positives, &rule.negatives);
+        if let Ok(slot) = added {
             self.held.push((slot, rule));
+        }
+    }
+
+    /// The same in the place of a held rule.
+    fn replace(&mut self) {
+        let rule = self.rule();
+        let place = self.random.below(self.held.len());
+        let slot = self.held[place].0;
+        self.line(replacing(slot, &rule).as_bytes());
+        let (positives, negatives) = (&rule.positives, &rule.negatives);
+        let replaced = self.book.replace(slot, rule.head, positives, negatives);
+        if replaced.is_ok() {
+            self.held[place].1 = rule;
         }
     }
 
@@ -131,6 +149,13 @@ fn churn() -> Sheet {
     writer.named("churn about 200 rules")
 }
 
+/// Each line is a replacement.
+fn edits() -> Sheet {
+    let mut writer = Writer::filled(4, 150, 200);
+    (0..20_000).for_each(|_| writer.replace());
+    writer.named("replacements of 200 rules")
+}
+
 fn refusals() -> Sheet {
     let mut writer = Writer::filled(2, 150, 200);
     (0..20_000).for_each(|_| writer.refused(5));
@@ -151,12 +176,12 @@ fn listings() -> Sheet {
 }
 
 pub fn all() -> Vec<Sheet> {
-    vec![churn(), refusals(), unread(), listings()]
+    vec![churn(), edits(), refusals(), unread(), listings()]
 }
 
 #[cfg(test)]
 mod tests {
-    use super::{all, churn, refusals, Sheet};
+    use super::{all, churn, edits, refusals, Sheet};
     use oracle::limits::INPUT_BYTES;
     use std::collections::BTreeMap;
 
@@ -187,7 +212,15 @@ mod tests {
     }
 
     #[test]
-    fn every_refusal_of_the_second_sheet_is_common() {
+    fn most_replacements_are_accepted_and_some_rules_are_held_elsewhere() {
+        let printed = printed(edits());
+        let count = |text| printed.lines().filter(|line| line.contains(text)).count();
+        assert!(count("replaced ") > 15_000 && count(" refused 5") > 100);
+        assert_eq!(count("refused"), count(" refused 5"));
+    }
+
+    #[test]
+    fn every_refusal_of_that_sheet_is_common() {
         let printed = printed(refusals());
         let mut counts = BTreeMap::new();
         for (_, number) in printed.lines().filter_map(|l| l.split_once(" refused ")) {

@@ -11,6 +11,21 @@ pub fn microseconds<T>(batch: u32, mut work: impl FnMut() -> T) -> f64 {
     start.elapsed().as_secs_f64() * 1e6 / f64::from(batch)
 }
 
+/// How many batches there are, and how often each does the work.
+const BATCHES: usize = 300;
+const BATCH: u32 = 2;
+
+/// Microseconds of each work, batches of all in turn, so that they can be held against one another.
+pub fn in_turn<const N: usize>(mut works: [&mut dyn FnMut(); N]) -> [f64; N] {
+    let mut best = [f64::MAX; N];
+    for _ in 0..BATCHES {
+        for (best, work) in best.iter_mut().zip(&mut works) {
+            *best = best.min(microseconds(BATCH, work));
+        }
+    }
+    best
+}
+
 /// The proved side and the plain one, in microseconds.
 #[derive(Clone, Copy)]
 pub struct Pair {
@@ -25,9 +40,9 @@ impl Pair {
             proved: f64::MAX,
             plain: f64::MAX,
         };
-        for _ in 0..300 {
-            best.proved = best.proved.min(microseconds(2, &mut proved));
-            best.plain = best.plain.min(microseconds(2, &mut plain));
+        for _ in 0..BATCHES {
+            best.proved = best.proved.min(microseconds(BATCH, &mut proved));
+            best.plain = best.plain.min(microseconds(BATCH, &mut plain));
         }
         best
     }

@@ -1,8 +1,7 @@
 //! The proved engine beside plain Rust of the same algorithm and clingo, and against the slow engine.
 //!
 //!     bench                     tables of times and ratios, all measured in this run
-//!     bench files               the table of saving and loading alone
-//!     bench checklists          the table of a checklist's calls alone
+//!     bench TABLE               one of them alone: calls, replacements, phases, files, checklists
 //!     bench sheet PROGRAM       lines per second of the sheet program, beside plain Rust's and the slow engine's
 //!     bench plain-sheet         plain Rust's sheet program
 //!     bench slow-sheet          the slow engine's
@@ -19,6 +18,7 @@ mod compare;
 mod files;
 mod phases;
 mod plain;
+mod replacements;
 mod replay;
 mod shapes;
 mod sheet;
@@ -27,8 +27,28 @@ use std::io;
 use std::process::ExitCode;
 
 const USAGE: &str =
-    "bench | bench files | bench checklists | bench sheet PROGRAM | bench plain-sheet
-    | bench slow-sheet | bench compare SEED COUNT | bench replay SEED COUNT";
+    "bench | bench calls | bench replacements | bench phases | bench files | bench checklists
+    | bench sheet PROGRAM | bench plain-sheet | bench slow-sheet | bench compare SEED COUNT
+    | bench replay SEED COUNT";
+
+/// The tables of times by name, in the order in which all are printed.
+const TABLES: [(&str, fn()); 5] = [
+    ("calls", calls::bench),
+    ("replacements", replacements::bench),
+    ("phases", phases::bench),
+    ("files", files::bench),
+    ("checklists", checklists::bench),
+];
+
+/// Prints every table, an empty line between.
+fn all_tables() {
+    for (place, (_, table)) in TABLES.iter().enumerate() {
+        if place > 0 {
+            println!();
+        }
+        table();
+    }
+}
 
 fn code(good: bool) -> ExitCode {
     ExitCode::from(u8::from(!good))
@@ -43,23 +63,14 @@ fn done(outcome: io::Result<()>) -> ExitCode {
 
 fn main() -> ExitCode {
     let words: Vec<String> = std::env::args().skip(1).collect();
-    match words.iter().map(String::as_str).collect::<Vec<_>>()[..] {
+    let words: Vec<&str> = words.iter().map(String::as_str).collect();
+    if let Some((_, table)) = TABLES.iter().find(|(name, _)| words == [*name]) {
+        table();
+        return ExitCode::SUCCESS;
+    }
+    match words[..] {
         [] => {
-            calls::bench();
-            println!();
-            phases::bench();
-            println!();
-            files::bench();
-            println!();
-            checklists::bench();
-            ExitCode::SUCCESS
-        }
-        ["checklists"] => {
-            checklists::bench();
-            ExitCode::SUCCESS
-        }
-        ["files"] => {
-            files::bench();
+            all_tables();
             ExitCode::SUCCESS
         }
         ["sheet", program] => done(sheet::bench(program)),

@@ -1,7 +1,9 @@
 //! Lists of calls written as numbers, with the files that they load: what the proved `replay` answers and leaves,
-//! against the slow engine's book.
+//! against the slow engine's book. What replacements came to is counted: each kind must come up.
 
 use crate::boundary::{self, from_slow};
+use oracle::book::Book;
+use oracle::generate::replacement_kinds::{Seen, REFUSALS};
 use oracle::generate::table_of;
 use oracle::generate::words::{list, List, ENDINGS};
 use oracle::random::Random;
@@ -9,6 +11,18 @@ use oracle::replay;
 
 /// Numbers that no answer is, so that an entry that was not written is seen.
 const UNWRITTEN: u32 = 1_000_000;
+
+/// From so many lists on, replacements must come so often to each of their ends.
+const MANY: usize = 2_000;
+const OFTEN: usize = 100;
+
+/// Counts the replacements among the first so many calls of a list.
+fn note(seen: &mut Seen, list: &List, made: usize) {
+    let mut book = Book::empty();
+    for call in replay::calls(&list.words, &list.files).iter().take(made) {
+        seen.follow(&mut book, call);
+    }
+}
 
 /// One list with room for so many answers: how many calls were made, or what differs.
 fn made(list: &List, room: usize) -> Result<usize, &'static str> {
@@ -28,24 +42,34 @@ fn made(list: &List, room: usize) -> Result<usize, &'static str> {
     Ok(told.count)
 }
 
-/// Replays `count` lists on both sides and answers whether all agree.
+/// Replays `count` lists on both sides and answers whether all agree, and whether replacements came often enough to
+/// each of their ends.
 pub fn compare(seed: u64, count: usize) -> bool {
     let mut random = Random::seeded(seed);
     let (mut failed, mut calls) = (0, 0);
+    let mut replacements = Seen::default();
     for (number, &ending) in (0..count).zip(ENDINGS.iter().cycle()) {
         let list = list(&mut random, ending);
         let room = *random.pick(&[0, 1, 10, 50, 400, 400, 400, 400]);
         match made(&list, room) {
-            Ok(made) => calls += made,
+            Ok(made) => {
+                calls += made;
+                note(&mut replacements, &list, made);
+            }
             Err(difference) => {
                 println!("list {number} of seed {seed}, {ending:?}: {difference}");
                 failed += 1;
             }
         }
     }
+    let passed = count - failed;
+    println!("{replacements}");
+    if count >= MANY && !replacements.is_enough(&REFUSALS, OFTEN) {
+        println!("replacements came too rarely to one of their ends");
+        failed += 1;
+    }
     println!(
-        "lists of {calls} calls replayed beside the slow engine's book: {} passed, {failed} failed",
-        count - failed
+        "lists of {calls} calls replayed beside the slow engine's book: {passed} passed, {failed} failed"
     );
     failed == 0
 }

@@ -242,6 +242,17 @@ static void other_lengths(void) {
     no_checklist(file_rule(opened(60), 61));
 }
 
+/* A mark in the slot of the last file's rule, and the next file's rule in that of a mark, change the length too. */
+static void replaced_lengths(void) {
+    const uint32_t positives[] = {YEQONTUR_GOOD(2), YEQONTUR_SENT(3)}, negative = YEQONTUR_SKIPPED(3);
+    const yeqontur_table three = opened(3), one_sent = accepted(yeqontur_checklist_sent, opened(2), 1);
+    yeqontur_accepted answer = yeqontur_replace(three, 3, YEQONTUR_SENT(1), NULL, 0, NULL, 0);
+    expect(answer.refused == 0 && same(&answer.table, &one_sent), "a mark for the last rule: a shorter checklist");
+    answer = yeqontur_replace(one_sent, 3, YEQONTUR_GOOD(3), positives, 2, &negative, 1);
+    expect(answer.refused == 0 && same(&answer.table, &three), "the next rule for a mark: a longer checklist");
+    no_checklist(yeqontur_replace(three, 2, YEQONTUR_SENT(1), NULL, 0, NULL, 0).table);
+}
+
 /* Any bytes are a table: 15, and the bytes come back. */
 static void any_bytes(void) {
     yeqontur_table table;
@@ -281,6 +292,7 @@ int main(void) {
     marks_by_hand();
     other_rules();
     other_lengths();
+    replaced_lengths();
     any_bytes();
     reasons();
     return counted("checklists from C");

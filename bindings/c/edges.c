@@ -13,13 +13,16 @@ typedef yeqontur_list_answer list_call(yeqontur_table, uint32_t, uint32_t *, siz
 static list_call *const lists[] = {yeqontur_justifications, yeqontur_consequences, yeqontur_repercussions,
                                    yeqontur_reason};
 
-/* An addition of such lists is refused 2, with the table as it came. */
+/* An addition of such lists is refused 2, with the table as it came, and so is a replacement. */
 static void too_many(const uint32_t *positives, size_t positive_count, const uint32_t *negatives,
                      size_t negative_count) {
     const yeqontur_table table = yeqontur_add(yeqontur_empty(), 1, NULL, 0, NULL, 0).table;
     yeqontur_change change = yeqontur_add(table, 9, positives, positive_count, negatives, negative_count);
     expect(change.refused == 2 && change.slot == 0, "lists that are too long are refused 2");
     expect(memcmp(&change.table, &table, sizeof table) == 0, "and the table comes back as it was");
+    yeqontur_accepted replaced = yeqontur_replace(table, 0, 9, positives, positive_count, negatives, negative_count);
+    expect(replaced.refused == 2, "and so for a rule that is held");
+    expect(memcmp(&replaced.table, &table, sizeof table) == 0, "which the table still has");
 }
 
 /* Behind each pointer stands one number, or nothing: a list that is too long is not read. */
@@ -39,13 +42,18 @@ static void lengths(void) {
     too_many(NULL, 9, NULL, 9);
 }
 
-/* Questions 15 and 1 come first, and read no list either. */
+/* Questions 15, 8, 9 and 1 come first, and read no list either. */
 static void asked_before(void) {
     const uint32_t one = 1;
     yeqontur_table table = yeqontur_empty();
     expect(yeqontur_add(table, 256, &one, WRAPS, NULL, WRAPS).refused == 1, "a head past the limit");
+    expect(yeqontur_replace(table, 256, 256, &one, WRAPS, NULL, WRAPS).refused == 8, "a slot past the limit");
+    expect(yeqontur_replace(table, 0, 256, &one, WRAPS, NULL, WRAPS).refused == 9, "a slot without a rule");
+    const yeqontur_table held = yeqontur_add(table, 1, NULL, 0, NULL, 0).table;
+    expect(yeqontur_replace(held, 0, 256, &one, WRAPS, NULL, WRAPS).refused == 1, "a head past the limit");
     memset(&table, 0xA5, sizeof table);
     expect(yeqontur_add(table, 1, &one, WRAPS, NULL, WRAPS).refused == 15, "a table that is not sound");
+    expect(yeqontur_replace(table, 0, 1, &one, WRAPS, NULL, WRAPS).refused == 15, "a table that is not sound");
 }
 
 /* A list or buffer of length 0 may be NULL. 2 is a fact and 1 rests on it; no rule has the head 3. */
@@ -107,6 +115,10 @@ static void numbers(void) {
         expect(yeqontur_add(table, 2, &n, 1, NULL, 0).refused == 3, "a positive entry past the limit");
         expect(yeqontur_add(table, 2, NULL, 0, &n, 1).refused == 3, "a negative entry past the limit");
         expect(yeqontur_remove(table, n).refused == 8, "a slot number past the limit");
+        expect(yeqontur_replace(table, n, 2, NULL, 0, NULL, 0).refused == 8, "a slot number past the limit");
+        expect(yeqontur_replace(table, 0, n, NULL, 0, NULL, 0).refused == 1, "a head past the limit");
+        expect(yeqontur_replace(table, 0, 2, &n, 1, NULL, 0).refused == 3, "a positive entry past the limit");
+        expect(yeqontur_replace(table, 0, 2, NULL, 0, &n, 1).refused == 3, "a negative entry past the limit");
         expect(yeqontur_spoiler(table, n).refused == 8, "a slot number past the limit");
         expect(yeqontur_label(table, n).refused == 10, "an atom number past the limit");
         for (int j = 0; j < 4; j++) {

@@ -1,4 +1,4 @@
-/* Rules from a scan, their labels, why a label stands, and a refusal. */
+/* Rules from a scan, their labels, why a label stands, a refusal, and a rule that is replaced. */
 #include "yeqontur.h"
 
 #include <stdio.h>
@@ -116,9 +116,32 @@ static void show(const yeqontur_table *table, uint32_t atom, int indent, char *t
     }
 }
 
-static void show_complete(const yeqontur_table *table) {
+static void show_why(const yeqontur_table *table, uint32_t atom) {
     char told[YEQONTUR_ATOMS] = {0};
-    show(table, COMPLETE, 0, told);
+    show(table, atom, 0, told);
+}
+
+/* Says so if a call was refused. */
+static void tell(uint32_t refused) {
+    if (refused != 0) {
+        printf("refused %u: %s\n", refused, words[refused]);
+    }
+}
+
+/* Two changes to the rule of notes.txt. The first is refused, and the old rule still stands. */
+static void edit(yeqontur_table table) {
+    uint32_t slots[YEQONTUR_SLOTS];
+    const uint32_t complete = COMPLETE, good = GOOD(0);
+    yeqontur_justifications(table, GOOD(1), slots, YEQONTUR_SLOTS); /* it has one rule */
+    printf("notes.txt is to be good unless the folder is complete\n");
+    yeqontur_accepted answer = yeqontur_replace(table, slots[0], GOOD(1), NULL, 0, &complete, 1);
+    tell(answer.refused);
+    show_why(&answer.table, GOOD(1));
+
+    printf("notes.txt is to be good if report.pdf is\n");
+    answer = yeqontur_replace(answer.table, slots[0], GOOD(1), &good, 1, NULL, 0);
+    tell(answer.refused);
+    show_why(&answer.table, GOOD(1));
 }
 
 int main(void) {
@@ -130,7 +153,7 @@ int main(void) {
             printf(": %s\n", states[label.state]);
         }
     }
-    show_complete(&table);
+    show_why(&table, COMPLETE);
 
     printf("the skip of notes.txt is withdrawn\n");
     uint32_t slots[YEQONTUR_SLOTS];
@@ -138,13 +161,11 @@ int main(void) {
     for (size_t i = 0; i < list.count; i++) {
         table = yeqontur_remove(table, slots[i]).table;
     }
-    show_complete(&table);
+    show_why(&table, COMPLETE);
 
     printf("a file that is skipped unless it is good\n");
     const uint32_t good = GOOD(0);
-    yeqontur_change change = yeqontur_add(table, SKIPPED(0), NULL, 0, &good, 1);
-    if (change.refused != 0) {
-        printf("refused %u: %s\n", change.refused, words[change.refused]);
-    }
+    tell(yeqontur_add(table, SKIPPED(0), NULL, 0, &good, 1).refused);
+    edit(table);
     return 0;
 }

@@ -62,9 +62,32 @@ static void orders(void) {
     expect(yeqontur_label(swapped, 5).refused == 15, "a list that does not ascend is not sound");
 }
 
+/* Of the sheet after its removal: 1 < 2, 2 < not 3 and 4 < 1, of which 1, 2 and 4 are in. */
+static void reasons(yeqontur_table table) {
+    uint32_t buffer[4] = {91, 92, 93, 94};
+    yeqontur_list_answer list = yeqontur_reason(table, 1, buffer, 4);
+    expect(list.refused == 0 && list.count == 2 && buffer[0] == 1 && buffer[1] == 0, "the reason's slots");
+    expect(buffer[2] == 93 && buffer[3] == 94, "later entries of the buffer stay");
+    list = yeqontur_reason(table, 4, buffer, 2);
+    expect(list.refused == 11 && list.count == 3 && buffer[0] == 1 && buffer[2] == 93,
+           "a short buffer stays as it was");
+    expect(yeqontur_reason(table, 3, buffer, 4).refused == 12, "no reason of an atom that is out");
+}
+
+/* In the same table 4 < 1 is to give way: to 3 < not 1, which would close a loop, and to 4 < not 1. */
+static void replacements(yeqontur_table table) {
+    const uint32_t one = 1;
+    yeqontur_accepted replaced = yeqontur_replace(table, 2, 3, NULL, 0, &one, 1);
+    expect(replaced.refused == 7 && memcmp(&replaced.table, &table, sizeof table) == 0,
+           "a replacement that is refused leaves the old rule");
+    replaced = yeqontur_replace(table, 2, 4, NULL, 0, &one, 1);
+    expect(replaced.refused == 0, "an accepted replacement");
+    is(replaced.table, 4, 1, 0, 0);
+    spoils(replaced.table, 2, 0, 2, 1, 0);
+}
+
 int main(void) {
     const uint32_t one = 1, two = 2, three = 3;
-    uint32_t buffer[4] = {91, 92, 93, 94};
     yeqontur_table table = yeqontur_empty();
     table = added(table, 1, &two, 1, NULL, 0, 0);
     table = added(table, 2, NULL, 0, &three, 1, 1);
@@ -88,13 +111,8 @@ int main(void) {
     is(table, 2, 2, 1, 1);
     is(table, 4, 2, 3, 2);
 
-    yeqontur_list_answer list = yeqontur_reason(table, 1, buffer, 4);
-    expect(list.refused == 0 && list.count == 2 && buffer[0] == 1 && buffer[1] == 0, "the reason's slots");
-    expect(buffer[2] == 93 && buffer[3] == 94, "later entries of the buffer stay");
-    list = yeqontur_reason(table, 4, buffer, 2);
-    expect(list.refused == 11 && list.count == 3 && buffer[0] == 1 && buffer[2] == 93,
-           "a short buffer stays as it was");
-    expect(yeqontur_reason(table, 3, buffer, 4).refused == 12, "no reason of an atom that is out");
+    reasons(table);
+    replacements(table);
     expect(yeqontur_label(table, 256).refused == 10, "an atom number past the limit");
 
     change = yeqontur_add(table, 3, NULL, 0, &one, 1);

@@ -72,6 +72,19 @@ static void file(work *w) {
     w->right &= loaded.refused == 0 && memcmp(&loaded.table, &w->table, sizeof w->table) == 0;
 }
 
+/* The last rule is replaced by itself, and by a fact, which puts its atom at depth 1. */
+static void replacement(work *w) {
+    const uint32_t last = LENGTH - 1, before = last - 1;
+    const int negations = w->number % 2 == 1;
+    yeqontur_accepted answer = yeqontur_replace(w->table, last, last, &before, !negations, &before, negations);
+    w->right &= answer.refused == 0 && memcmp(&answer.table, &w->table, sizeof w->table) == 0;
+    answer = yeqontur_replace(w->table, last, last, NULL, 0, NULL, 0);
+    w->right &= answer.refused == 0;
+    w->table = answer.table;
+    const yeqontur_label_answer told = yeqontur_label(w->table, last);
+    w->right &= told.state == 2 && told.depth == 1 && told.slot == last;
+}
+
 static void removal(work *w) {
     yeqontur_change change = yeqontur_remove(w->table, w->number + 10);
     w->right &= change.refused == 0 && change.slot == w->number + 10;
@@ -108,6 +121,7 @@ static void *run(void *given) {
     list(w, yeqontur_repercussions, 0, LENGTH - 1, 1);
     list(w, yeqontur_reason, LENGTH - 2, negations ? 1 : LENGTH - 1, negations ? LENGTH - 2 : 0);
     file(w);
+    replacement(w);
     removal(w);
     checklist(w);
     return NULL;

@@ -1,6 +1,6 @@
 //! One call on both sides, the proved library and the slow engine: answer, table and every entry of a lent buffer.
 
-use crate::boundary::{self, to_raw};
+use crate::boundary::to_raw;
 use oracle::calls::{Answer, Call, Lent, Validity};
 use oracle::labels::Label;
 use oracle::questions::Refusal;
@@ -82,7 +82,7 @@ fn proved_writing(call: &Call, table: &raw::Table, lent: &mut Lent) -> Option<To
         Call::Repercussions { atom } => (raw::List::Repercussions, *atom),
         Call::Reason { atom } => (raw::List::Reason, *atom),
         Call::Save => {
-            let written = boundary::save(table, &mut lent.bytes);
+            let written = raw::save(table, &mut lent.bytes);
             return Some(counted(written.refused, written.count));
         }
         Call::Missing => {
@@ -129,7 +129,7 @@ fn proved_checklist(call: &Call, table: &mut raw::Table) -> Option<Told> {
     Some(told(change.refused, vec![]))
 }
 
-/// An addition, a removal or a load, on the proved library; `None` for the others.
+/// An addition, a removal, a replacement or a load, on the proved library; `None` for the others.
 fn proved_change(call: &Call, table: &mut raw::Table) -> Option<Told> {
     match call {
         Call::Add {
@@ -146,8 +146,18 @@ fn proved_change(call: &Call, table: &mut raw::Table) -> Option<Told> {
             *table = change.table;
             Some(told(change.refused, vec![]))
         }
+        Call::Replace {
+            slot,
+            head,
+            positives,
+            negatives,
+        } => {
+            let change = raw::replace(table, *slot, *head, positives, negatives);
+            *table = change.table;
+            Some(told(change.refused, vec![]))
+        }
         Call::Load { bytes } => {
-            let loaded = boundary::load(bytes);
+            let loaded = raw::load(bytes);
             *table = loaded.table;
             Some(told(loaded.refused, vec![]))
         }
@@ -174,8 +184,8 @@ fn buffers(random: &mut Random) -> Lent {
     }
 }
 
-/// One call on both sides: whether it was accepted, or what differs.
-pub fn made(call: &Call, table: &mut RawTable, random: &mut Random) -> Result<bool, String> {
+/// One call on both sides: the number of its refusal, 0 where it was accepted; or what differs.
+pub fn made(call: &Call, table: &mut RawTable, random: &mut Random) -> Result<u32, String> {
     let mut mine = to_raw(table);
     let mut lent = buffers(random);
     let mut also = lent.clone();
@@ -191,5 +201,5 @@ pub fn made(call: &Call, table: &mut RawTable, random: &mut Random) -> Result<bo
     if mine != to_raw(table) {
         return Err(format!("{call:?}: another table"));
     }
-    Ok(answer.is_ok())
+    Ok(answer.err().map_or(0, Refusal::number))
 }

@@ -1,14 +1,21 @@
 //! Random sequences of all calls but a checklist's, with random buffers and damaged tables. Lists come in any order,
 //! and rules of the table again in another one. A load goes on with what it hands back: the table of a file, or refused
-//! the empty one.
+//! the empty one. What replacements came to is counted: each kind must come up.
 
 use crate::both;
+use oracle::calls::Call;
+use oracle::generate::again::pages_of;
+use oracle::generate::replacement_kinds::{Seen, REFUSALS};
 use oracle::generate::{self, calls::Calls};
 use oracle::random::Random;
 use oracle::table::RawTable;
 
 /// How many differences are shown; the rest are counted.
 const SHOWN: usize = 10;
+
+/// From so many calls on, replacements must come so often to each of their ends.
+const MANY: usize = 100_000;
+const OFTEN: usize = 100;
 
 /// A table to start a sequence from: empty for the most part, else of any kind, sound or not.
 fn start(random: &mut Random) -> RawTable {
@@ -19,30 +26,72 @@ fn start(random: &mut Random) -> RawTable {
     }
 }
 
-/// Makes `count` calls on both sides; table, answer and every buffer entry are compared after each. Answers how many
-/// differ.
-pub fn compare(seed: u64, count: usize) -> usize {
-    let mut random = Random::seeded(seed);
-    let (mut made, mut failed) = (0, 0);
-    while made < count {
-        let mut table = start(&mut random);
-        let atoms = *random.pick(&[4, 8, 20, 60, 256]);
-        let mut calls = Calls::on(&table, atoms, 2 * atoms);
-        for _ in 0..random.between(1, 120).min(count - made) {
-            let call = calls.call(&mut random);
-            made += 1;
-            if let Err(difference) = both::made(&call, &mut table, &mut random) {
-                if failed < SHOWN {
-                    println!("call {made} of seed {seed}: {difference}");
+/// What was made so far.
+#[derive(Default)]
+struct Run {
+    seed: u64,
+    made: usize,
+    failed: usize,
+    replacements: Seen,
+}
+
+impl Run {
+    /// Makes the call on both sides and counts it; `None` where the sides differ.
+    fn make(&mut self, call: &Call, table: &mut RawTable, random: &mut Random) -> Option<()> {
+        self.made += 1;
+        let replaces = matches!(call, Call::Replace { .. });
+        let before = replaces.then(|| pages_of(table));
+        match both::made(call, table, random) {
+            Ok(refused) => {
+                let pages = before.iter();
+                pages.for_each(|pages| self.replacements.note(pages, call, refused));
+                Some(())
+            }
+            Err(difference) => {
+                if self.failed < SHOWN {
+                    println!("call {} of seed {}: {difference}", self.made, self.seed);
                 }
-                failed += 1;
-                break;
+                self.failed += 1;
+                None
             }
         }
     }
+
+    /// At most `count` calls, each on the table that the last handed back. Ends where the sides differ.
+    fn sequence(&mut self, random: &mut Random, count: usize) -> Option<()> {
+        let mut table = start(random);
+        let atoms = *random.pick(&[4, 8, 20, 60, 256]);
+        let mut calls = Calls::on(&table, atoms, 2 * atoms);
+        for _ in 0..random.between(1, 120).min(count) {
+            let call = calls.call(random);
+            self.make(&call, &mut table, random)?;
+        }
+        Some(())
+    }
+}
+
+/// Makes `count` calls on both sides; table, answer and every buffer entry are compared after each. Answers how many
+/// differ; replacements that came too rarely to one of their ends count as one.
+pub fn compare(seed: u64, count: usize) -> usize {
+    let mut random = Random::seeded(seed);
+    let mut run = Run {
+        seed,
+        ..Run::default()
+    };
+    while run.made < count {
+        // What differs is counted; the next sequence starts anew.
+        let _ = run.sequence(&mut random, count - run.made);
+    }
+    let passed = run.made - run.failed;
+    println!("{}", run.replacements);
+    let refusals = [&REFUSALS[..], &[15]].concat();
+    if count >= MANY && !run.replacements.is_enough(&refusals, OFTEN) {
+        println!("replacements came too rarely to one of their ends");
+        run.failed += 1;
+    }
     println!(
-        "calls compared with the slow engine: {} passed, {failed} failed",
-        made - failed
+        "calls compared with the slow engine: {passed} passed, {} failed",
+        run.failed
     );
-    failed
+    run.failed
 }

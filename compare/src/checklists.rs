@@ -22,7 +22,8 @@ const MANY: usize = 20_000;
 const OFTEN: usize = 20;
 
 /// A call that comes to both ends in these lists. An opening may be rare.
-const BOTH_ENDS: [&str; 5] = [
+const BOTH_ENDS: [&str; 6] = [
+    "replace",
     "file sent",
     "file skipped",
     "skip withdrawn",
@@ -69,7 +70,8 @@ impl Seen {
         times.made += 1;
         self.made += 1;
         match told {
-            Ok(accepted) => {
+            Ok(refused) => {
+                let accepted = refused == 0;
                 times.accepted += usize::from(accepted);
                 Some(accepted)
             }

@@ -1,6 +1,6 @@
 //! Random files loaded, and random tables saved, on both sides: every answer, table and byte of a lent buffer.
 
-use crate::boundary::{self, to_raw};
+use crate::boundary::to_raw;
 use oracle::calls;
 use oracle::generate::files::{file, Kind, KINDS};
 use oracle::generate::mixed_table;
@@ -9,6 +9,7 @@ use oracle::random::Random;
 use oracle::table::RawTable;
 use std::collections::BTreeMap;
 use std::fmt::Debug;
+use yeqontur::raw;
 
 /// How many differences are shown; the rest are counted.
 const SHOWN: usize = 10;
@@ -24,7 +25,7 @@ type Met = BTreeMap<u32, usize>;
 fn loaded(bytes: &[u8]) -> Result<u32, &'static str> {
     let (answer, table) = calls::load(bytes);
     let expected = answer.err().map_or(0, Refusal::number);
-    let told = boundary::load(bytes);
+    let told = raw::load(bytes);
     if told.refused != expected {
         return Err("load: another answer");
     }
@@ -33,7 +34,7 @@ fn loaded(bytes: &[u8]) -> Result<u32, &'static str> {
     }
     if expected == 0 {
         let mut written = vec![0; bytes.len()];
-        let again = boundary::save(&told.table, &mut written);
+        let again = raw::save(&told.table, &mut written);
         if (again.refused, again.count) != (0, bytes.len()) || written != bytes {
             return Err("save: another file than the one loaded");
         }
@@ -64,7 +65,7 @@ fn saved(random: &mut Random, table: &RawTable) -> Result<u32, &'static str> {
         Err(Refusal::BufferTooShort { needed }) => (11, needed),
         Err(refusal) => (refusal.number(), 0),
     };
-    let told = boundary::save(&to_raw(table), &mut written);
+    let told = raw::save(&to_raw(table), &mut written);
     if (told.refused, told.count) != (number, count as usize) {
         return Err("save: another answer");
     }

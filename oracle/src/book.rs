@@ -17,7 +17,7 @@ pub struct Book {
     pages: Program,
 }
 
-/// A head and two lists in any order, as an addition names them.
+/// A head and two lists in any order, as a call names them.
 struct Named<'a> {
     head: u32,
     positives: &'a [u32],
@@ -38,8 +38,8 @@ impl Named<'_> {
 /// A question with its number: the answer "no" refuses.
 type Question = (u32, fn(&Book, &Named) -> bool);
 
-/// What an addition asks, in order.
-const ADDITION: [Question; 7] = [
+/// What is asked of a new rule, in order.
+const QUESTIONS: [Question; 7] = [
     (1, |_, named| named.head < ATOMS as u32),
     (2, |_, named| named.entries().count() <= ENTRIES),
     (3, |_, named| {
@@ -55,6 +55,12 @@ const ADDITION: [Question; 7] = [
     }),
 ];
 
+/// Those of them that an addition asks.
+const ADDITION: [u32; 7] = [1, 2, 3, 4, 5, 6, 7];
+
+/// Those that a replacement asks of its rule: its page is there already.
+const REPLACEMENT: [u32; 6] = [1, 2, 3, 4, 5, 7];
+
 fn each_once(list: &[u32]) -> bool {
     let mut sorted = list.to_vec();
     sorted.sort_unstable();
@@ -69,6 +75,11 @@ impl Book {
         }
     }
 
+    /// The book with these pages.
+    pub fn holding(pages: Program) -> Book {
+        Book { pages }
+    }
+
     /// What each page holds.
     pub fn pages(&self) -> &Program {
         &self.pages
@@ -81,6 +92,15 @@ impl Book {
         pages
     }
 
+    /// Asks the questions of these numbers and gives the number of the first "no".
+    fn ask(&self, numbers: &[u32], named: &Named) -> Result<(), u32> {
+        let asked = QUESTIONS
+            .iter()
+            .filter(|(number, _)| numbers.contains(number));
+        let mut refused = asked.filter(|(_, passes)| !passes(self, named));
+        refused.next().map_or(Ok(()), |(number, _)| Err(*number))
+    }
+
     /// Puts the rule on the lowest free page and answers the page's number, or answers the
     /// number of the first "no" and stays.
     pub fn add(&mut self, head: u32, positives: &[u32], negatives: &[u32]) -> Result<u32, u32> {
@@ -89,9 +109,7 @@ impl Book {
             positives,
             negatives,
         };
-        if let Some((number, _)) = ADDITION.iter().find(|(_, passes)| !passes(self, &named)) {
-            return Err(*number);
-        }
+        self.ask(&ADDITION, &named)?;
         let page = self.pages.iter().take_while(|page| page.is_some()).count();
         self.pages[page] = Some(named.rule());
         Ok(page as u32)
@@ -110,6 +128,28 @@ impl Book {
         }
     }
 
+    /// Puts the rule on that page in place of the one there and answers that it was accepted,
+    /// or answers the number of the first "no" and stays. The new rule is judged by the book
+    /// without the old one.
+    pub fn replace(
+        &mut self,
+        slot: u32,
+        head: u32,
+        positives: &[u32],
+        negatives: &[u32],
+    ) -> Result<(), u32> {
+        let mut without = self.clone();
+        without.remove(slot)?;
+        let named = Named {
+            head,
+            positives,
+            negatives,
+        };
+        without.ask(&REPLACEMENT, &named)?;
+        self.pages[slot as usize] = Some(named.rule());
+        Ok(())
+    }
+
     /// What the book answers to a call that changes a table, once it has made it; `None` for the
     /// other calls, which it does not have.
     pub fn make(&mut self, call: &Call) -> Option<Result<Answer, u32>> {
@@ -120,6 +160,12 @@ impl Book {
                 negatives,
             } => return Some(self.add(*head, positives, negatives).map(Answer::Slot)),
             Call::Remove { slot } => self.remove(*slot),
+            Call::Replace {
+                slot,
+                head,
+                positives,
+                negatives,
+            } => self.replace(*slot, *head, positives, negatives),
             Call::Load { bytes } => self.load(bytes),
             Call::Open { files } => self.open(*files),
             Call::FileSent { file } => self.file_sent(*file),

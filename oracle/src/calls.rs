@@ -86,6 +86,30 @@ pub fn remove(table: &mut RawTable, slot: u32) -> Result<(), Refusal> {
     Ok(())
 }
 
+/// Puts the rule of these lists, in whatever order they come, in the slot, whose rule goes. No other slot may hold the
+/// same, and there may be no loop through a negation once the rule is there.
+pub fn replace(
+    table: &mut RawTable,
+    slot: u32,
+    head: u32,
+    positives: &[u32],
+    negatives: &[u32],
+) -> Result<(), Refusal> {
+    let labelled = ask_sound(table)?;
+    ask_held(&labelled, slot)?;
+    let rule = rule_from(head, positives, negatives)?;
+    let mut program = labelled.program;
+    if held(&program).any(|(other, holds)| other != slot && *holds == rule) {
+        return Err(Refusal::SameRule);
+    }
+    program[slot as usize] = Some(rule);
+    if has_loop_through_negation(&program) {
+        return Err(Refusal::LoopThroughNegation);
+    }
+    *table = RawTable::keeping(&Labelled::of(program));
+    Ok(())
+}
+
 pub fn label(table: &RawTable, atom: u32) -> Result<Label, Refusal> {
     Ok(ask_atom(table, atom)?.label(atom))
 }
@@ -148,6 +172,12 @@ pub enum Call {
     },
     Remove {
         slot: u32,
+    },
+    Replace {
+        slot: u32,
+        head: u32,
+        positives: Vec<u32>,
+        negatives: Vec<u32>,
     },
     Label {
         atom: u32,
@@ -216,6 +246,7 @@ impl Call {
         match self {
             Call::Add { .. } => "add",
             Call::Remove { .. } => "remove",
+            Call::Replace { .. } => "replace",
             Call::Label { .. } => "label",
             Call::Spoiler { .. } => "spoiler",
             Call::Justifications { .. } => "justifications",
@@ -250,6 +281,12 @@ impl Call {
                 negatives,
             } => add(table, *head, positives, negatives).map(Answer::Slot),
             Call::Remove { slot } => accepted(remove(table, *slot)),
+            Call::Replace {
+                slot,
+                head,
+                positives,
+                negatives,
+            } => accepted(replace(table, *slot, *head, positives, negatives)),
             Call::Label { atom } => label(table, *atom).map(Answer::Label),
             Call::Spoiler { slot } => spoiler(table, *slot).map(Answer::Spoiler),
             Call::Justifications { atom } => {

@@ -1,5 +1,6 @@
 //! What one line of a sheet says.
 
+use crate::calls::Call;
 use crate::limits::LINE_BYTES;
 
 #[derive(Clone, PartialEq, Eq, Debug)]
@@ -23,10 +24,46 @@ pub enum Command {
     Remove {
         slot: u32,
     },
+    Replace {
+        slot: u32,
+        head: u32,
+        positives: Vec<u32>,
+        negatives: Vec<u32>,
+    },
     Why {
         atom: u32,
     },
     Labels,
+}
+
+impl Command {
+    /// The call that changes the table, if the command is one.
+    pub fn change(self) -> Option<Call> {
+        match self {
+            Command::Add {
+                head,
+                positives,
+                negatives,
+            } => Some(Call::Add {
+                head,
+                positives,
+                negatives,
+            }),
+            Command::Remove { slot } => Some(Call::Remove { slot }),
+            Command::Replace {
+                slot,
+                head,
+                positives,
+                negatives,
+            } => Some(Call::Replace {
+                slot,
+                head,
+                positives,
+                negatives,
+            }),
+            Command::Why { .. } | Command::Labels => None,
+        }
+    }
 }
 
 /// Reads a line without its newline. Over-long lines of spaces are not blank, so length is
@@ -48,6 +85,7 @@ pub fn read_line(line: &[u8]) -> Line {
 fn read_command(tokens: &[&[u8]]) -> Option<Command> {
     match tokens {
         [b"A", head, b":", lists @ ..] => read_addition(head, lists),
+        [b"P", slot, head, b":", lists @ ..] => read_replacement(slot, head, lists),
         [b"R", slot] => Some(Command::Remove {
             slot: read_number(slot)?,
         }),
@@ -59,19 +97,34 @@ fn read_command(tokens: &[&[u8]]) -> Option<Command> {
     }
 }
 
+fn read_addition(head: &[u8], lists: &[&[u8]]) -> Option<Command> {
+    let (positives, negatives) = read_lists(lists)?;
+    Some(Command::Add {
+        head: read_number(head)?,
+        positives,
+        negatives,
+    })
+}
+
+fn read_replacement(slot: &[u8], head: &[u8], lists: &[&[u8]]) -> Option<Command> {
+    let (positives, negatives) = read_lists(lists)?;
+    Some(Command::Replace {
+        slot: read_number(slot)?,
+        head: read_number(head)?,
+        positives,
+        negatives,
+    })
+}
+
 /// The positives stand before the first `!`, the negatives after it. A second `!` or `:` is
 /// no number, so it spoils the form.
-fn read_addition(head: &[u8], lists: &[&[u8]]) -> Option<Command> {
+fn read_lists(lists: &[&[u8]]) -> Option<(Vec<u32>, Vec<u32>)> {
     let mark = lists.iter().position(|token| *token == b"!");
     let (positives, negatives) = match mark {
         Some(place) => (&lists[..place], &lists[place + 1..]),
         None => (lists, &[][..]),
     };
-    Some(Command::Add {
-        head: read_number(head)?,
-        positives: read_numbers(positives)?,
-        negatives: read_numbers(negatives)?,
-    })
+    Some((read_numbers(positives)?, read_numbers(negatives)?))
 }
 
 fn read_numbers(tokens: &[&[u8]]) -> Option<Vec<u32>> {

@@ -3,10 +3,12 @@
 //! 0 and a slot is a removal. 1, a head, how many positives, how many negatives, then these: an addition. 2 and two
 //! numbers: a file is loaded, the bytes from the first number on and below the second, of the bytes that come beside
 //! the list. 3 and how many files: a checklist is opened. 4, 5 or 6 and a file: it is sent, it is skipped, its skip is
-//! withdrawn. Any other number ends the list, and so does a call that is cut short, a load from beyond those bytes, or
-//! a call for whose answer there is no room.
+//! withdrawn. 7, a slot, and the numbers of an addition from its head on: a replacement. Any other number ends the
+//! list, and so does a call that is cut short, a load from beyond those bytes, or a call for whose answer there is no
+//! room.
 
 use crate::book::Book;
+use crate::calls::{Answer, Call};
 
 /// The answer of an accepted call that is no addition. A refusal's is this and its number; an addition's is its slot,
 /// which is smaller.
@@ -31,30 +33,73 @@ impl<'a> Rest<'a> {
         Some(list)
     }
 
-    /// Makes the call that stands here and answers as a number; `None` where none stands, and then nothing is made.
-    fn call(&mut self, book: &mut Book) -> Option<u32> {
-        let answer = match self.number()? {
-            0 => {
-                let slot = self.number()?;
-                book.remove(slot).map(|()| ACCEPTED)
-            }
+    /// A head, how many positives, how many negatives, then these.
+    fn rule(&mut self) -> Option<(u32, Vec<u32>, Vec<u32>)> {
+        let (head, positives, negatives) = (self.number()?, self.number()?, self.number()?);
+        let (positives, negatives) = (self.list(positives)?, self.list(negatives)?);
+        Some((head, positives.to_vec(), negatives.to_vec()))
+    }
+
+    /// The call that stands here; `None` where none stands.
+    fn call(&mut self) -> Option<Call> {
+        let call = match self.number()? {
+            0 => Call::Remove {
+                slot: self.number()?,
+            },
             1 => {
-                let (head, positives, negatives) = (self.number()?, self.number()?, self.number()?);
-                let (positives, negatives) = (self.list(positives)?, self.list(negatives)?);
-                book.add(head, positives, negatives)
+                let (head, positives, negatives) = self.rule()?;
+                Call::Add {
+                    head,
+                    positives,
+                    negatives,
+                }
             }
             2 => {
                 let (from, to) = (self.number()?, self.number()?);
-                let file = self.files.get(from as usize..to as usize)?;
-                book.load(file).map(|()| ACCEPTED)
+                let bytes = self.files.get(from as usize..to as usize)?.to_vec();
+                Call::Load { bytes }
             }
-            3 => book.open(self.number()?).map(|()| ACCEPTED),
-            4 => book.file_sent(self.number()?).map(|()| ACCEPTED),
-            5 => book.file_skipped(self.number()?).map(|()| ACCEPTED),
-            6 => book.skip_withdrawn(self.number()?).map(|()| ACCEPTED),
+            3 => Call::Open {
+                files: self.number()?,
+            },
+            kind @ 4..=6 => on_file(kind, self.number()?),
+            7 => {
+                let slot = self.number()?;
+                let (head, positives, negatives) = self.rule()?;
+                Call::Replace {
+                    slot,
+                    head,
+                    positives,
+                    negatives,
+                }
+            }
             _ => return None,
         };
-        Some(answer.unwrap_or_else(|refusal| ACCEPTED + refusal))
+        Some(call)
+    }
+}
+
+/// The call on a file that the kind 4, 5 or 6 says.
+fn on_file(kind: u32, file: u32) -> Call {
+    match kind {
+        4 => Call::FileSent { file },
+        5 => Call::FileSkipped { file },
+        _ => Call::SkipWithdrawn { file },
+    }
+}
+
+/// The calls of a list up to its end. `files` are the bytes beside the list.
+pub fn calls(words: &[u32], files: &[u8]) -> Vec<Call> {
+    let mut rest = Rest { words, files };
+    std::iter::from_fn(|| rest.call()).collect()
+}
+
+/// An answer of the book as a number.
+fn as_number(answer: Result<Answer, u32>) -> u32 {
+    match answer {
+        Ok(Answer::Slot(slot)) => slot,
+        Ok(_) => ACCEPTED,
+        Err(refusal) => ACCEPTED + refusal,
     }
 }
 
@@ -62,13 +107,8 @@ impl<'a> Rest<'a> {
 /// `files` are the bytes beside the list.
 pub fn replay(words: &[u32], files: &[u8], room: usize) -> (Vec<u32>, Book) {
     let mut book = Book::empty();
-    let mut rest = Rest { words, files };
-    let mut answers = Vec::new();
-    while answers.len() < room {
-        let Some(answer) = rest.call(&mut book) else {
-            break;
-        };
-        answers.push(answer);
-    }
+    let calls = calls(words, files);
+    let mut make = |call| as_number(book.make(call).expect("a call that changes a table"));
+    let answers = calls.iter().take(room).map(&mut make).collect();
     (answers, book)
 }

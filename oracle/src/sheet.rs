@@ -30,7 +30,7 @@ pub fn left(input: &[u8]) -> Program {
 
 /// The lines without their newlines. What follows the last newline is a line only if it has
 /// bytes. Bytes past the cut are not there.
-fn lines(input: &[u8]) -> Vec<&[u8]> {
+pub(crate) fn lines(input: &[u8]) -> Vec<&[u8]> {
     let read = &input[..input.len().min(INPUT_BYTES)];
     let mut lines: Vec<&[u8]> = read.split(|&byte| byte == b'\n').collect();
     if lines.last().is_some_and(|last| last.is_empty()) {
@@ -89,6 +89,12 @@ impl Sheet {
                 negatives,
             }) => self.add(head, &positives, &negatives),
             Line::Command(Command::Remove { slot }) => self.remove(slot),
+            Line::Command(Command::Replace {
+                slot,
+                head,
+                positives,
+                negatives,
+            }) => self.replace(slot, head, &positives, &negatives),
             Line::Command(Command::Why { atom }) => self.why(atom),
             Line::Command(Command::Labels) => {
                 self.print_labels();
@@ -108,6 +114,19 @@ impl Sheet {
         self.book.remove(slot)?;
         self.labelled = None;
         self.print(&format!("removed {slot}"));
+        Ok(())
+    }
+
+    fn replace(
+        &mut self,
+        slot: u32,
+        head: u32,
+        positives: &[u32],
+        negatives: &[u32],
+    ) -> Result<(), u32> {
+        self.book.replace(slot, head, positives, negatives)?;
+        self.labelled = None;
+        self.print(&format!("replaced {slot}"));
         Ok(())
     }
 

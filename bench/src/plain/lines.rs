@@ -6,13 +6,14 @@ pub const LINE: usize = 120;
 /// Room for every entry of a line: a line has at most 60 tokens.
 pub const ROOM: usize = LINE / 2;
 
-/// What a line is. The lists of an addition stand in the room lent for them.
+/// What a line is. The lists of a rule stand in the room lent for them.
 pub enum Line<'a> {
     Blank,
     TooLong,
     NoCommand,
     Add(u32, &'a [u32], &'a [u32]),
     Remove(u32),
+    Replace(u32, u32, &'a [u32], &'a [u32]),
     Why(u32),
     Labels,
 }
@@ -32,11 +33,14 @@ fn only<'l>(mut tokens: impl Iterator<Item = &'l [u8]>) -> Option<u32> {
     tokens.next().is_none().then_some(n)
 }
 
-/// What follows the `A` of an addition.
-fn addition<'l, 'a>(
+/// A head, then both lists.
+type Named<'a> = (u32, &'a [u32], &'a [u32]);
+
+/// The rest of a line that names a rule.
+fn rule<'l, 'a>(
     mut tokens: impl Iterator<Item = &'l [u8]>,
     room: &'a mut [u32; ROOM],
-) -> Option<Line<'a>> {
+) -> Option<Named<'a>> {
     let head = number(tokens.next()?)?;
     if tokens.next()? != b":" {
         return None;
@@ -51,7 +55,26 @@ fn addition<'l, 'a>(
         count += 1;
     }
     let (positives, negatives) = room[..count].split_at(mark.unwrap_or(count));
+    Some((head, positives, negatives))
+}
+
+/// What follows the `A` of an addition.
+fn addition<'l, 'a>(
+    tokens: impl Iterator<Item = &'l [u8]>,
+    room: &'a mut [u32; ROOM],
+) -> Option<Line<'a>> {
+    let (head, positives, negatives) = rule(tokens, room)?;
     Some(Line::Add(head, positives, negatives))
+}
+
+/// What follows the `P` of a replacement.
+fn replacement<'l, 'a>(
+    mut tokens: impl Iterator<Item = &'l [u8]>,
+    room: &'a mut [u32; ROOM],
+) -> Option<Line<'a>> {
+    let slot = number(tokens.next()?)?;
+    let (head, positives, negatives) = rule(tokens, room)?;
+    Some(Line::Replace(slot, head, positives, negatives))
 }
 
 /// The command of a line that has a token.
@@ -62,6 +85,7 @@ fn command<'l, 'a>(
 ) -> Option<Line<'a>> {
     match word {
         b"A" => addition(tokens, room),
+        b"P" => replacement(tokens, room),
         b"R" => only(tokens).map(Line::Remove),
         b"W" => only(tokens).map(Line::Why),
         b"L" => tokens.next().is_none().then_some(Line::Labels),

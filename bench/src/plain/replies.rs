@@ -1,6 +1,6 @@
 //! The reply to a line of a sheet: what it does to the table, and what it prints.
 
-use super::calls::{add, asked, remove};
+use super::calls::{add, asked, remove, replace};
 use super::lines::Line;
 use super::reason::reason;
 use yeqontur::raw::{Label, Table, ATOMS};
@@ -58,6 +58,10 @@ fn obey(table: &mut Table, line: Line, out: &mut Vec<u8>) -> Result<(), u32> {
         Line::Remove(slot) => {
             remove(table, slot)?;
             write_line(out, b"removed", &[slot]);
+        }
+        Line::Replace(slot, head, positives, negatives) => {
+            replace(table, slot, head, positives, negatives)?;
+            write_line(out, b"replaced", &[slot]);
         }
         Line::Why(atom) => {
             let mut slots = [0; ATOMS];

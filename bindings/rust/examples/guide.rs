@@ -1,4 +1,4 @@
-//! Rules from a scan, their labels, why a label stands, and a refusal.
+//! Rules from a scan, their labels, why a label stands, a refusal, and a rule that is replaced.
 
 use yeqontur::{Because, Label, Refusal, Side, Table, Why};
 
@@ -93,6 +93,26 @@ fn show(why: &Why, indent: usize) {
     }
 }
 
+/// Says so if a call was refused.
+fn tell<T>(told: Result<T, Refusal>) {
+    if let Err(refusal) = told {
+        println!("refused {}: {}", refusal.number(), refusal.words());
+    }
+}
+
+/// Two changes to the rule of notes.txt. The first is refused, and the old rule still stands.
+fn edit(table: &mut Table) -> Result<(), Refusal> {
+    let slot = table.justifications(good(1))?[0]; // it has one rule
+    println!("notes.txt is to be good unless the folder is complete");
+    tell(table.replace(slot, good(1), &[], &[COMPLETE]));
+    show(&table.why(good(1))?, 0);
+
+    println!("notes.txt is to be good if report.pdf is");
+    tell(table.replace(slot, good(1), &[good(0)], &[]));
+    show(&table.why(good(1))?, 0);
+    Ok(())
+}
+
 fn main() -> Result<(), Refusal> {
     let mut table = scanned(&FILES)?;
     for (atom, label) in table.labels() {
@@ -107,8 +127,6 @@ fn main() -> Result<(), Refusal> {
     show(&table.why(COMPLETE)?, 0);
 
     println!("a file that is skipped unless it is good");
-    if let Err(refusal) = table.add(skipped(0), &[], &[good(0)]) {
-        println!("refused {}: {}", refusal.number(), refusal.words());
-    }
-    Ok(())
+    tell(table.add(skipped(0), &[], &[good(0)]));
+    edit(&mut table)
 }

@@ -59,8 +59,8 @@ impl fmt::Display for FileState {
 }
 
 /// A table that was built or loaded: refused (15) unless its rules are those that the marks of 1 to 60 files give. The
-/// rules alone say how many: where the last file's rule was removed, or the next file's added, it may be a checklist of
-/// another length. So who counts on a list changes it by the calls of `Checklist` alone.
+/// rules alone say how many: where the last file's rule was removed or replaced, or the next file's put in, it may be a
+/// checklist of another length. So who counts on a list changes it by the calls of `Checklist` alone.
 impl TryFrom<Table> for Checklist {
     type Error = Refusal;
 

@@ -126,6 +126,15 @@ extern "C" {
         negative_count: usize,
     ) -> Change;
     fn yeqontur_remove(table: Table, slot: u32) -> Change;
+    fn yeqontur_replace(
+        table: Table,
+        slot: u32,
+        head: u32,
+        positives: *const u32,
+        positive_count: usize,
+        negatives: *const u32,
+        negative_count: usize,
+    ) -> Accepted;
     fn yeqontur_label(table: Table, atom: u32) -> LabelAnswer;
     fn yeqontur_spoiler(table: Table, slot: u32) -> SpoilerAnswer;
     fn yeqontur_justifications(
@@ -182,6 +191,28 @@ pub fn add(table: &Table, head: u32, positives: &[u32], negatives: &[u32]) -> Ch
 pub fn remove(table: &Table, slot: u32) -> Change {
     // SAFETY: numbers by value.
     unsafe { yeqontur_remove(*table, slot) }
+}
+
+#[inline(never)]
+pub fn replace(
+    table: &Table,
+    slot: u32,
+    head: u32,
+    positives: &[u32],
+    negatives: &[u32],
+) -> Accepted {
+    // SAFETY: each pointer has as many numbers behind it as the length beside it says.
+    unsafe {
+        yeqontur_replace(
+            *table,
+            slot,
+            head,
+            positives.as_ptr(),
+            positives.len(),
+            negatives.as_ptr(),
+            negatives.len(),
+        )
+    }
 }
 
 #[inline(never)]

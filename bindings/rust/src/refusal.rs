@@ -9,8 +9,9 @@ pub enum Refusal {
     TooManyEntries,
     EntryTooLarge,
     RepeatedEntry,
-    /// A rule with this head has the same atoms in each list, in whatever order.
+    /// A rule with this head, other than the one to be replaced, has the same atoms in each list, in whatever order.
     SameRule,
+    /// Of additions alone: where a rule is replaced, the new one takes its slot.
     TableFull,
     NegativeCycle,
     SlotTooLarge,
@@ -119,7 +120,7 @@ impl Refusal {
             Refusal::SameRule => (
                 5,
                 "the table has the same rule already",
-                "nothing to do: the table says it already",
+                "nothing to add: the table says it already; if it was to replace another rule, remove that one",
             ),
             Refusal::TableFull => (
                 6,

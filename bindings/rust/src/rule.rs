@@ -5,7 +5,7 @@ use std::fmt;
 
 /// A rule that the table holds: its head is in if every positive entry is in and no negative entry is.
 ///
-/// Each list ascends, in whatever order the addition named it. So two rules are the same exactly if their heads and their
+/// Each list ascends, in whatever order the call named it. So two rules are the same exactly if their heads and their
 /// lists are equal; `==` compares the slots too. Sort lists of your own before you compare them with these.
 #[derive(Clone, PartialEq, Eq, Debug)]
 pub struct Rule {

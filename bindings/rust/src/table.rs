@@ -69,6 +69,35 @@ impl Table {
         answered(change.refused, 0, ())
     }
 
+    /// Replaces the rule in a slot by another, in one step. Every other slot keeps its rule. A refused call leaves the
+    /// table as it was, the old rule included.
+    ///
+    /// The new rule is judged against the table without the old one, and takes its slot: a rule may be replaced by
+    /// itself, one that another slot has is refused (5), and a full table has room for it.
+    ///
+    /// ```
+    /// # use yeqontur::{Refusal, Table};
+    /// let mut table = Table::new();
+    /// table.add(1, &[2], &[])?;
+    /// table.add(2, &[], &[3])?;
+    /// assert_eq!(table.replace(1, 2, &[], &[1]), Err(Refusal::NegativeCycle));
+    /// assert_eq!(table.rule(1)?.negatives, [3]);
+    /// table.replace(1, 2, &[], &[4])?;
+    /// assert_eq!(table.rule(1)?.negatives, [4]);
+    /// # Ok::<(), Refusal>(())
+    /// ```
+    pub fn replace(
+        &mut self,
+        slot: u32,
+        head: u32,
+        positives: &[u32],
+        negatives: &[u32],
+    ) -> Result<(), Refusal> {
+        let told = raw::replace(&self.0, slot, head, positives, negatives);
+        self.0 = told.table;
+        answered(told.refused, 0, ())
+    }
+
     /// The label of an atom.
     pub fn label(&self, atom: u32) -> Result<Label, Refusal> {
         let told = raw::label(&self.0, atom);

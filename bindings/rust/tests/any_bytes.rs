@@ -38,9 +38,11 @@ fn refused_alike(fields: &raw::Table, random: &mut Random) -> bool {
     let number = random.below(300);
     let added = raw::add(fields, number, &[1, 2], &[3]);
     let removed = raw::remove(fields, number);
+    let replaced = raw::replace(fields, number, 1, &[2], &[]);
     let mut refusals = vec![
         added.refused,
         removed.refused,
+        replaced.refused,
         raw::label(fields, number).refused,
         raw::spoiler(fields, number).refused,
     ];
@@ -56,7 +58,9 @@ fn refused_alike(fields: &raw::Table, random: &mut Random) -> bool {
         refusals.iter().all(|&r| (r == 15) == unsound),
         "{refusals:?}"
     );
-    assert!(!unsound || (added.table == *fields && removed.table == *fields));
+    for table in [added.table, removed.table, replaced.table] {
+        assert!(!unsound || table == *fields);
+    }
     unsound
 }
 

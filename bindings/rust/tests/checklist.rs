@@ -256,6 +256,22 @@ fn shorter_and_longer_checklists() {
     assert!(!is_checklist(&none) && !is_checklist(&Table::new()));
 }
 
+/// A mark may take the slot of the last file's rule, the next file's rule that of a mark, and one mark another's.
+#[test]
+fn replacements_leave_other_lengths_and_marks_too() {
+    let mut table = opened(3).into_table();
+    assert_eq!(table.replace(3, 1, &[], &[]), Ok(()));
+    let one_sent = Checklist::try_from(table.clone());
+    assert_eq!(one_sent, Ok(marked(2, &[1], &[])));
+    assert_eq!(table.replace(3, 4, &[], &[]), Ok(()));
+    let other_sent = Checklist::try_from(table.clone());
+    assert_eq!(other_sent, Ok(marked(2, &[2], &[])));
+    assert_eq!(table.replace(3, 9, &[6, 7], &[8]), Ok(()));
+    assert_eq!(Checklist::try_from(table.clone()), Ok(opened(3)));
+    assert_eq!(table.replace(2, 1, &[], &[]), Ok(()));
+    assert!(!is_checklist(&table));
+}
+
 #[test]
 fn any_other_rule_makes_it_no_checklist() {
     let others: [(u32, &[u32], &[u32]); 8] = [

@@ -24,6 +24,9 @@ fn huge_lists_are_refused_by_their_length() {
         assert_eq!(t.add(2, &[], &huge), Err(Refusal::TooManyEntries));
         assert_eq!(t.add(2, &huge, &huge), Err(Refusal::TooManyEntries));
         assert_eq!(t.add(256, &huge, &huge), Err(Refusal::HeadTooLarge));
+        let replaced = t.replace(0, 2, &huge, &huge);
+        assert_eq!(replaced, Err(Refusal::TooManyEntries));
+        assert_eq!(t.replace(1, 2, &huge, &huge), Err(Refusal::SlotFree));
     }
     assert_eq!(t, before);
 }
@@ -36,6 +39,13 @@ fn numbers_past_a_narrow_type_are_not_folded() {
         assert_eq!(t.add(1, &[number], &[]), Err(Refusal::EntryTooLarge));
         assert_eq!(t.add(1, &[], &[number]), Err(Refusal::EntryTooLarge));
         assert_eq!(t.remove(number), Err(Refusal::SlotTooLarge));
+        let replaced = t.replace(number, 1, &[], &[]);
+        assert_eq!(replaced, Err(Refusal::SlotTooLarge));
+        assert_eq!(t.replace(0, number, &[], &[]), Err(Refusal::HeadTooLarge));
+        let replaced = t.replace(0, 1, &[number], &[]);
+        assert_eq!(replaced, Err(Refusal::EntryTooLarge));
+        let replaced = t.replace(0, 1, &[], &[number]);
+        assert_eq!(replaced, Err(Refusal::EntryTooLarge));
         assert_eq!(t.spoiler(number), Err(Refusal::SlotTooLarge));
         assert_eq!(t.rule(number), Err(Refusal::SlotTooLarge));
         assert_eq!(t.label(number), Err(Refusal::AtomTooLarge));

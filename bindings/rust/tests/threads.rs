@@ -33,6 +33,8 @@ fn calls() {
     assert_eq!(table.repercussions(0), Ok((1..256).collect()));
     assert_eq!(table.reason(255), Ok((0..256).collect()));
     assert!(Table::load(&table.save()).as_ref() == Ok(&table));
+    assert_eq!(table.replace(255, 255, &[253, 254], &[]), Ok(()));
+    assert_eq!(table.label(255), Ok(last));
     assert_eq!(table.remove(0), Ok(()));
     assert_eq!(table.labels().filter(|(_, l)| l.is_in()).count(), 0);
 }

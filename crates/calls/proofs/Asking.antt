@@ -5,11 +5,10 @@ use mathlib.Core.Path.{_≡_, refl, sym, _∙_, ap, subst}
 use mathlib.Core.Logic.{⊎-elim}
 use mathlib.Core.Bool.{Bool, true, false, not}
 use mathlib.Core.List.{List, [], _∷_}
-use mathlib.Core.Option.{Option, none, some, Option·none-ne-some}
+use mathlib.Core.Option.{none, some, Option·none-ne-some}
 use lib.Dec.{ltb}
 use lib.ListN.{getD, List·getD-map}
-use Rattle.theory.specs.Rules.{Held}
-use Rattle.theory.specs.Rules as theory
+use Rattle.theory.specs.Rules.{Program, Held}
 use Rattle.theory.specs.Models.{AtomSet}
 use Rattle.theory.specs.Questions.{Question, first-no, asks, atom-questions, slot-questions, is-some}
 use Rattle.theory.specs.Limits.{document}
@@ -33,7 +32,7 @@ use Rattle.calls.specs.declared.ListAnswer.the-variants as listed
 use Rattle.calls.specs.declared.ChangeAnswer.the-variants as changed
 use Rattle.calls.specs.declared.SpoilerAnswer.the-variants as spoilt
 use Rattle.calls.specs.Asking.{AskEnds, AskSlotEnds, unsound, refused, passed}
-use Rattle.calls.specs.Contracts.{held, LabelEnds, ListEnds, RemoveEnds, SpoilerEnds}
+use Rattle.calls.specs.Contracts.{held, ChangeEnds, LabelEnds, ListEnds, SpoilerEnds}
 use Rattle.calls.specs.Contracts as contract
 
 -- Question 10, where b tests it.
@@ -145,12 +144,15 @@ module _ (t : Table) (s : ℕ) (r : AskedSlot) (E : AskSlotEnds t s r) where
 
   -- One was answered no: so ends a call that starts with these questions.
   module _ (f : Refusal) (e : r ≡ slot.Refused f) where
-    pub remove-refused : RemoveEnds t s (changed.Refused f) t
-    remove-refused = go f (subst (AskSlotEnds t s) e E)
+    pub change-refused :
+        (questions : List Question) (after : Program)
+        → ((k : ℕ) → first-no (slot-questions document (held t) s) ≡ some k → first-no questions ≡ some k)
+        → ChangeEnds questions after t (changed.Refused f) t
+    change-refused questions after more = go f (subst (AskSlotEnds t s) e E)
       where
-        go : (f : Refusal) → AskSlotEnds t s (slot.Refused f) → RemoveEnds t s (changed.Refused f) t
+        go : (f : Refusal) → AskSlotEnds t s (slot.Refused f) → ChangeEnds questions after t (changed.Refused f) t
         go f (unsound n) = contract.unsound n
-        go f (refused g S q) = contract.refused g S q
+        go f (refused g S q) = contract.refused g S (more _ q)
 
     pub spoiler-refused : SpoilerEnds t s (spoilt.Refused f)
     spoiler-refused = go f (subst (AskSlotEnds t s) e E)

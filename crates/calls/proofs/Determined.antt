@@ -1,28 +1,25 @@
 -- Each contract determines its result: two results allowed for the same input are equal. Assumes nothing.
-use Prim.Native.Nat.{ℕ, _≤_, _<_}
+use Prim.Native.Nat.{ℕ}
 use native.Mathlib.Omega.{arith}
 use mathlib.Core.Path.{_≡_, refl, sym, _∙_, ap, ap₂, subst, fun-ext}
-use mathlib.Core.Logic.{_⊎_, inl, inr, ⊎-elim}
-use mathlib.Core.Bool.{Bool, true, false, not}
-use mathlib.Core.List.{List, [], _∷_, _++_, map, List·Memᴰ}
-use mathlib.Core.Option.{Option, none, some, Option·some-injective, Option·none-ne-some}
+use mathlib.Core.Bool.{true, not}
+use mathlib.Core.List.{List, [], _++_, map}
+use mathlib.Core.Option.{none, some, Option·some-injective, Option·none-ne-some}
 use lib.Dec.{eqb}
-use lib.ListN.{length, drop, getD, set}
-use Rattle.theory.specs.Lists.{Lists, every}
-use Rattle.theory.specs.Rules.{Program, Held}
+use lib.ListN.{length, drop, set}
+use Rattle.theory.specs.Lists.{every}
+use Rattle.theory.specs.Rules.{Program}
 use Rattle.theory.specs.Rules as theory
 use Rattle.theory.specs.Models.{AtomSet, Admissible}
-use Rattle.theory.specs.Labels.{Labelled, spoiler}
-use Rattle.theory.specs.Labels as theory-labels
-use Rattle.theory.specs.Explanations.{Reason}
-use Rattle.theory.specs.Questions.{Question, first-no, add-questions, slot-questions, atom-questions, reason-questions}
+use Rattle.theory.specs.Labels.{spoiler}
+use Rattle.theory.specs.Questions.{Question, first-no, add-questions, slot-questions, replace-questions}
+use Rattle.theory.specs.Questions.{atom-questions, reason-questions}
 use Rattle.theory.specs.Limits.{document}
 use Rattle.theory.proofs.Lists.{every-at, not-true, clash, eqb-of}
 use Rattle.theory.proofs.Rules.{held-unique}
 use Rattle.theory.proofs.Strata.{acyclic-strata, rules-below, model-unique}
 use Rattle.theory.proofs.Questions.{first-no-asked}
 use Rattle.theory.proofs.Explanations.{lists-unique, reason-unique}
-use Rattle.table.specs.declared.Slot.{Slot}
 use Rattle.table.specs.declared.Table.{Table}
 use Rattle.table.specs.Labels.{labelAt}
 use Rattle.table.specs.Sound.{Sound}
@@ -41,7 +38,8 @@ use Rattle.calls.specs.declared.ListAnswer.the-variants as listed
 use Rattle.blocks.specs.Questions.{file-questions}
 use Rattle.calls.specs.Answers.{numberOf, tellLabel, tellSpoiler}
 use Rattle.calls.specs.Contracts as contract
-use Rattle.calls.specs.Contracts.{held, Sized, AddEnds, RemoveEnds, LabelEnds, SpoilerEnds, ListEnds}
+use Rattle.calls.specs.Contracts.{held, AddEnds, ChangeEnds, RemoveEnds, ReplaceEnds, LabelEnds}
+use Rattle.calls.specs.Contracts.{SpoilerEnds, ListEnds}
 use Rattle.calls.specs.Contracts.{JustificationsEnd, ConsequencesEnd, RepercussionsEnd, ReasonEnds}
 use Rattle.calls.specs.Contracts.{SaveEnds, LoadEnds}
 use Rattle.calls.proofs.OneTable.{table-unique, same-label}
@@ -88,21 +86,33 @@ add-determined t r x y u v (contract.accepted s w S d l Z h U) (contract.accepte
     let rules = h ∙ ap (λ (n : ℕ). set (held t) n (some (theory.kept r))) same ∙ sym i in
     (ap added.Taken slot, table-unique w z Z Y U W rules)
 
+-- A call that answers that it was accepted, where its questions do not ask 11.
+change-determined :
+    (qs : List Question) → every (λ k. not (eqb k 11)) (map (λ q. q .number) qs) ≡ true → (P : Program) (t : Table)
+    (x y : ChangeAnswer) (u v : Table) → ChangeEnds qs P t x u → ChangeEnds qs P t y v → (x ≡ y) × (u ≡ v)
+change-determined qs other P t x y u v (contract.unsound n) (contract.unsound m) = (refl, refl)
+change-determined qs other P t x y u v (contract.unsound n) (contract.refused g S e) = absurd (n S)
+change-determined qs other P t x y u v (contract.unsound n) (contract.accepted w S e Z h U) = absurd (n S)
+change-determined qs other P t x y u v (contract.refused f S d) (contract.unsound n) = absurd (n S)
+change-determined qs other P t x y u v (contract.refused f S d) (contract.refused g T e) =
+    (ap changed.Refused (refusal-unique qs other f g d e), refl)
+change-determined qs other P t x y u v (contract.refused f S d) (contract.accepted w T e Z h U) = absurd (both _ _ d e)
+change-determined qs other P t x y u v (contract.accepted w S d Z h U) (contract.unsound n) = absurd (n S)
+change-determined qs other P t x y u v (contract.accepted w S d Z h U) (contract.refused g T e) = absurd (both _ _ e d)
+change-determined qs other P t x y u v (contract.accepted w S d Z h U) (contract.accepted z T e Y i W) =
+    (refl, table-unique w z Z Y U W (h ∙ sym i))
+
 pub remove-determined :
     (t : Table) (s : ℕ) (x y : ChangeAnswer) (u v : Table) → RemoveEnds t s x u → RemoveEnds t s y v
     → (x ≡ y) × (u ≡ v)
 unfolding every
-remove-determined t s x y u v (contract.unsound n) (contract.unsound m) = (refl, refl)
-remove-determined t s x y u v (contract.unsound n) (contract.refused g S e) = absurd (n S)
-remove-determined t s x y u v (contract.unsound n) (contract.accepted w S e Z h U) = absurd (n S)
-remove-determined t s x y u v (contract.refused f S d) (contract.unsound n) = absurd (n S)
-remove-determined t s x y u v (contract.refused f S d) (contract.refused g T e) =
-    (ap changed.Refused (refusal-unique (slot-questions document (held t) s) refl f g d e), refl)
-remove-determined t s x y u v (contract.refused f S d) (contract.accepted w T e Z h U) = absurd (both _ _ d e)
-remove-determined t s x y u v (contract.accepted w S d Z h U) (contract.unsound n) = absurd (n S)
-remove-determined t s x y u v (contract.accepted w S d Z h U) (contract.refused g T e) = absurd (both _ _ e d)
-remove-determined t s x y u v (contract.accepted w S d Z h U) (contract.accepted z T e Y i W) =
-    (refl, table-unique w z Z Y U W (h ∙ sym i))
+remove-determined t s = change-determined (slot-questions document (held t) s) refl _ t
+
+pub replace-determined :
+    (t : Table) (s : ℕ) (r : theory.Rule) (x y : ChangeAnswer) (u v : Table) → ReplaceEnds t s r x u
+    → ReplaceEnds t s r y v → (x ≡ y) × (u ≡ v)
+unfolding every
+replace-determined t s r = change-determined (replace-questions document (held t) s r) refl _ t
 
 pub label-determined : (t : Table) (a : ℕ) (x y : LabelAnswer) → LabelEnds t a x → LabelEnds t a y → x ≡ y
 unfolding every

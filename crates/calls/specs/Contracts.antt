@@ -13,7 +13,7 @@ use Rattle.theory.specs.Labels.{Labelled, spoiler}
 use Rattle.theory.specs.Labels as theory-labels
 use Rattle.theory.specs.Explanations.{Justification, Consequence, Repercussion, Reason}
 use Rattle.theory.specs.Questions.{Question, first-no, add-questions, slot-questions, atom-questions}
-use Rattle.theory.specs.Questions.{reason-questions, lowest-free}
+use Rattle.theory.specs.Questions.{replace-questions, reason-questions, lowest-free, with-replaced}
 use Rattle.theory.specs.Limits.{document}
 use Rattle.table.specs.declared.Slot.{Slot}
 use Rattle.table.specs.declared.Table.{Table}
@@ -59,15 +59,25 @@ pub data AddEnds (t : Table) (r : theory.Rule) : AddAnswer → Table → Type 0 
       → lowest-free (held t) ≡ some (s .0) → Sized u → held u ≡ set (held t) (s .0) (some (kept r)) → Sound u
       → AddEnds t r (added.Taken s) u
 
--- Remove: 15, 8, 9. That slot becomes free; every other keeps its rule.
-pub data RemoveEnds (t : Table) (s : ℕ) : ChangeAnswer → Table → Type 0 where
-  unsound : (Sound t → ⊥) → RemoveEnds t s (changed.Refused Unsound) t
+-- A call that changes a table and answers that it was accepted: 15, then its questions. Accepted, the slots hold
+-- what is said after them.
+pub data ChangeEnds (questions : List Question) (after : Program) (t : Table) : ChangeAnswer → Table → Type 0 where
+  unsound : (Sound t → ⊥) → ChangeEnds questions after t (changed.Refused Unsound) t
   refused :
-      (f : Refusal) → Sound t → first-no (slot-questions document (held t) s) ≡ some (numberOf f)
-      → RemoveEnds t s (changed.Refused f) t
+      (f : Refusal) → Sound t → first-no questions ≡ some (numberOf f)
+      → ChangeEnds questions after t (changed.Refused f) t
   accepted :
-      (u : Table) → Sound t → first-no (slot-questions document (held t) s) ≡ none → Sized u
-      → held u ≡ set (held t) s none → Sound u → RemoveEnds t s changed.Accepted u
+      (u : Table) → Sound t → first-no questions ≡ none → Sized u → held u ≡ after → Sound u
+      → ChangeEnds questions after t changed.Accepted u
+
+-- Remove: 15, 8, 9. That slot becomes free; every other keeps its rule.
+abbrev pub RemoveEnds : Table → ℕ → ChangeAnswer → Table → Type 0
+RemoveEnds t s = ChangeEnds (slot-questions document (held t) s) (set (held t) s none) t
+
+-- Replace: 15, 8, 9, 1, 2, 3, 4, 5, 7. That slot has the new rule, kept with ascending lists; every other keeps its
+-- rule.
+abbrev pub ReplaceEnds : Table → ℕ → theory.Rule → ChangeAnswer → Table → Type 0
+ReplaceEnds t s r = ChangeEnds (replace-questions document (held t) s r) (with-replaced (held t) s r) t
 
 -- Label: 15, 10. Answers absent, out, or in with depth and supporting slot.
 pub data LabelEnds (t : Table) (a : ℕ) : LabelAnswer → Type 0 where

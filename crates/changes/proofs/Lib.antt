@@ -1,5 +1,6 @@
--- Laws behind the two calls. Nothing here needs to be believed.
+-- Laws behind the calls that change a table. Nothing here needs to be believed.
 pub mod Sizes
 pub mod OneSlot
+pub mod Putting
 pub mod Adding
 pub mod Removing

@@ -12,7 +12,7 @@ use lib.Seq.{getD-set-same, getD-set-other}
 use Rattle.theory.specs.Rules.{Program, Held, Ascending, Bounded, same}
 use Rattle.theory.specs.Rules as theory
 use Rattle.theory.specs.Models.{AtomSet}
-use Rattle.theory.specs.Dependencies.{DependencyPath, Depends, here, positive, negative, NegativeCycle}
+use Rattle.theory.specs.Dependencies.{NegativeCycle}
 use Rattle.theory.specs.Questions.{first-no, rule-questions}
 use Rattle.theory.specs.Limits.{document}
 use Rattle.theory.proofs.Lists.{test, clash, eqb-eq, eqb-of}
@@ -27,25 +27,6 @@ use Rattle.table.specs.Sound.{Sound}
 use Rattle.table.proofs.Programs.{program-length, program-set}
 use Rattle.calls.specs.Contracts.{held, Sized}
 use Rattle.labels.specs.Labelling.{Labels}
-
--- Where every rule of Q is held by P, a path by Q is one by P.
-module _ (P Q : Program) (kept : (s : ℕ) (r : theory.Rule) → Held Q s r → Held P s r) where
-  step : (list : theory.Rule → List ℕ) (a x : ℕ) → Depends Q list a x → Depends P list a x
-  step list a x d = record {
-    slot = d .slot;
-    rule = d .rule;
-    held = kept (d .slot) (d .rule) (d .held);
-    heads = d .heads;
-    entry = d .entry;
-  }
-
-  pub fewer-path : {a c k : ℕ} → DependencyPath Q a c k → DependencyPath P a c k
-  fewer-path (here e) = here e
-  fewer-path (positive {a = a} {x = x} d w) = positive (step (λ r. r .positives) a x d) (fewer-path w)
-  fewer-path (negative {a = a} {x = x} d w) = negative (step (λ r. r .negatives) a x d) (fewer-path w)
-
-  pub fewer-cycle : NegativeCycle Q → NegativeCycle P
-  fewer-cycle c = record { atom = c .atom; further = c .further; cycle = fewer-path (c .cycle) }
 
 -- The table t, with r in slot s.
 module _ (t : Table) (S : Sound t) (s : ℕ) (inside : s < document .slots) (r : Rule) where
@@ -76,11 +57,12 @@ module _ (t : Table) (S : Sound t) (s : ℕ) (inside : s < document .slots) (r :
       now-held : Held (set (held t) s (slotOf r)) k q
       now-held = subst (λ (P : Program). Held P k q) program-after h
 
-  -- What is put is clean, passes questions 1 to 4, has ascending lists and is not held already, if it is a rule at all.
+  -- What is put is clean, passes questions 1 to 4, has ascending lists and is not held by another slot, if it is a rule
+  -- at all.
   module _ (clean : CleanRule r)
       (passes : (q : theory.Rule) → slotOf r ≡ some q → first-no (rule-questions document q) ≡ none)
       (ascending : (q : theory.Rule) → slotOf r ≡ some q → Ascending q)
-      (fresh : (k : ℕ) (q : theory.Rule) → slotOf r ≡ some q → Held (held t) k q → ⊥) where
+      (fresh : (k : ℕ) (q : theory.Rule) → (k ≡ s → ⊥) → slotOf r ≡ some q → Held (held t) k q → ⊥) where
     passes-after :
         (k : ℕ) (q : theory.Rule) → Held (programOf after) k q → first-no (rule-questions document q) ≡ none
     passes-after k q h =
@@ -101,10 +83,10 @@ module _ (t : Table) (S : Sound t) (s : ℕ) (inside : s < document .slots) (r :
         ⊎-elim
         (λ w. ⊎-elim
         (λ v. w .0 ∙ sym (v .0))
-        (λ v. absurd (fresh k q (w .1 ∙ ap some e) (v .1)))
+        (λ v. absurd (fresh k q (v .0) (w .1 ∙ ap some e) (v .1)))
         (held-after k q i))
         (λ w. ⊎-elim
-        (λ v. absurd (fresh j p (v .1 ∙ ap some (sym e)) (w .1)))
+        (λ v. absurd (fresh j p (w .0) (v .1 ∙ ap some (sym e)) (w .1)))
         (λ v. S .labels .single j k p q (w .1) (v .1) u)
         (held-after k q i))
         (held-after j p h)

@@ -11,6 +11,7 @@ use Rattle.theory.specs.Rules as theory
 use Rattle.theory.specs.Dependencies.{NegativeCycle}
 use Rattle.theory.specs.Questions.{first-no, rule-questions, slot-questions}
 use Rattle.theory.specs.Limits.{document}
+use Rattle.theory.proofs.Cycles.{fewer-cycle}
 use Rattle.table.specs.declared.Rule.{Rule}
 use Rattle.table.specs.declared.Slot.{Slot}
 use Rattle.table.specs.declared.Table.{Table}
@@ -24,8 +25,7 @@ use Rattle.calls.specs.Contracts.{held, Sized, RemoveEnds}
 use Rattle.calls.proofs.Asking.{PassesSlot, slot-low}
 use Rattle.labels.specs.declared.Labelling.{Labelling}
 use Rattle.labels.specs.Labelling.{LabellingOf}
-use Rattle.changes.proofs.OneSlot.{fewer-cycle, program-after, held-after, bounded-after, sound-after}
-use Rattle.changes.proofs.OneSlot.{sized-after}
+use Rattle.changes.proofs.OneSlot.{program-after, held-after, bounded-after, sound-after, sized-after}
 
 -- A removal of the rule in slot s of the table t.
 module _ (t : Table) (S : Sound t) (s : ℕ) (inside : s < document .slots) where
@@ -35,8 +35,8 @@ module _ (t : Table) (S : Sound t) (s : ℕ) (inside : s < document .slots) wher
   ascending : (p : theory.Rule) → slotOf freeRule ≡ some p → Ascending p
   ascending p h = absurd (Option·none-ne-some p h)
 
-  fresh : (k : ℕ) (p : theory.Rule) → slotOf freeRule ≡ some p → Held (held t) k p → ⊥
-  fresh k p h i = Option·none-ne-some p h
+  fresh : (k : ℕ) (p : theory.Rule) → (k ≡ s → ⊥) → slotOf freeRule ≡ some p → Held (held t) k p → ⊥
+  fresh k p n h i = Option·none-ne-some p h
 
   bounded-freed : Bounded (programOf (set (t .rules) s freeRule)) (document .atoms)
   bounded-freed = bounded-after t S s inside freeRule free-clean passes ascending fresh
@@ -46,7 +46,7 @@ module _ (t : Table) (S : Sound t) (s : ℕ) (inside : s < document .slots) wher
   rest-acyclic c = S .labels .acyclic (fewer-cycle (held t) (programOf (set (t .rules) s freeRule))
       (λ k p h. ⊎-elim
       (λ w. absurd (Option·none-ne-some p (w .1)))
-      (λ w. w .1)
+      (λ w. (k, w .1))
       (held-after t S s inside freeRule k p h)) c)
 
   freed :

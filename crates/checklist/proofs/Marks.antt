@@ -7,7 +7,7 @@ use mathlib.Core.Logic.{⊎-elim}
 use mathlib.Core.Bool.{true, false, not, _&&_, _||_}
 use mathlib.Core.List.{List, [], _∷_, List·Memᴰ·head, List·Memᴰ·tail, List·Memᴰ·not-nil, List·Memᴰ·cases-cons}
 use mathlib.Core.List.{Memᴰ·append-left, Memᴰ·append-right}
-use mathlib.Core.Option.{Option, none, some, Option·some-injective, Option·none-ne-some}
+use mathlib.Core.Option.{Option, none, some, Option·none-ne-some}
 use lib.Dec.{eqb}
 use lib.ListN.{length, length-append, length-set, getD, set}
 use lib.Seq.{getD-set-same}
@@ -19,7 +19,7 @@ use Rattle.theory.specs.Limits.{document}
 use Rattle.theory.proofs.Lists.{and-l, and-r, and-of, or-cases, or-l, or-r, test, clash, unless, same-test, not-true}
 use Rattle.theory.proofs.Lists.{false-not, eqb-eq, eqb-of, eqb-not, le-or-lt, sorted-within}
 use Rattle.theory.proofs.Rules.{any-rule-at, any-rule-of, held-unique}
-use Rattle.theory.proofs.Questions.{held-below, set-held, set-other, other-set, lowest-free-step, lowest-free-full}
+use Rattle.theory.proofs.Questions.{held-below, set-held, set-other, other-set, lowest-free-at, full-held}
 use Rattle.theory.proofs.Cycles.{stratified-iff}
 use Rattle.theory.proofs.Strata.{strata-acyclic}
 use Rattle.theory.proofs.Sameness.{same-refl}
@@ -99,36 +99,6 @@ module _ (P : Program) (n : ℕ) (C : Checklist P n) where
 -- No two slots hold the same rule: as a sound table's program has it.
 abbrev pub Single : Program → Type 0
 Single P = (s t : ℕ) (q r : Rule) → Held P s q → Held P t r → same q r ≡ true → s ≡ t
-
--- The lowest free slot is one of the program's, and free; where there is none, each slot is held.
-
-pub lowest-free-at : (P : Program) (s : ℕ) → lowest-free P ≡ some s → (s < length P) × (getD P s none ≡ none)
-lowest-free-at [] s e = absurd (Option·none-ne-some s (unfold lowest-free in e))
-lowest-free-at (none ∷ P) s e =
-    let q : 0 ≡ s = Option·some-injective 0 s (unfold lowest-free in e) in
-    (omega arith, subst (λ (k : ℕ). getD (none ∷ P) k none ≡ none) q refl)
-lowest-free-at (some r ∷ P) s e = go (lowest-free P) refl (lowest-free-at P)
-  where
-    go :
-        (o : Option ℕ) → lowest-free P ≡ o
-        → ((t : ℕ) → lowest-free P ≡ some t → (t < length P) × (getD P t none ≡ none))
-        → (s < suc (length P)) × (getD (some r ∷ P) s none ≡ none)
-    go none d f = absurd (Option·none-ne-some s (sym (lowest-free-full r P d) ∙ e))
-    go (some t) d f =
-        let q = Option·some-injective (suc t) s (sym (lowest-free-step r P t d) ∙ e) in
-        let w = f t d in
-        (omega (arith, w .0), subst (λ (k : ℕ). getD (some r ∷ P) k none ≡ none) q (w .1))
-
-full-held : (P : Program) → lowest-free P ≡ none → (t : ℕ) → t < length P → (r : Rule) × Held P t r
-full-held [] e t l = absurd (omega arith)
-full-held (none ∷ P) e t l =
-    (let d : some zero ≡ none = unfold lowest-free in e in absurd (Option·none-ne-some zero (sym d)))
-full-held (some r ∷ P) e zero l = (r, refl)
-full-held (some r ∷ P) e (suc t) l = full-held P (go (lowest-free P) refl) t (omega arith)
-  where
-    go : (o : Option ℕ) → lowest-free P ≡ o → lowest-free P ≡ none
-    go none d = d
-    go (some k) d = absurd (Option·none-ne-some (suc k) (sym e ∙ lowest-free-step r P k d))
 
 -- In a checklist the lowest free slot lies behind the frame.
 pub free-behind : (P : Program) (n s : ℕ) → Checklist P n → lowest-free P ≡ some s → n < s

@@ -32,7 +32,7 @@ use Rattle.checklist.specs.Questions.{FileCall, file-sent, file-skipped, skip-w
 use Rattle.checklist.specs.Questions.{mark-questions, open-questions}
 use Rattle.checklist.specs.Book.{opening, of-file, marks-changed, opened}
 use Rattle.checklist.specs.Contracts as list
-use Rattle.checklist.specs.Contracts.{FileEnds, MissingEnds, CompleteEnds}
+use Rattle.checklist.specs.Contracts.{OpenEnds, FileEnds, MissingEnds, CompleteEnds}
 use Rattle.deposits.specs.Standing.{was-accepted, sent-by, standing-by, unless-refused, after-calls}
 use Rattle.deposits.specs.Standing.{been-sent, skip-standing}
 use Rattle.frame.proofs.Frames.{of-checklist, sent-mark, skipped-mark}
@@ -43,7 +43,7 @@ use Rattle.checklist.proofs.Shown.{AllClear, Missing, counted, count-clear, cle
 use Rattle.checklist.proofs.Shown.{complete-clear, clear-complete, no-checklist-file, empty-no-files}
 use Rattle.checklist.proofs.Opened.{opened-checklist, opened-unmarked}
 use Rattle.history.specs.Calls.{Call, checklist, callsAnswers, callsAfter}
-use Rattle.history.specs.Claim.{Step, adds, removes, loads, opens, marks, Trace, stop, call}
+use Rattle.history.specs.Claim.{Step, adds, removes, replaces, loads, opens, marks, Trace, stop, call}
 use Rattle.deposits.specs.Deposits.{file-calls, deposit-calls, NoneMissing, MissingFile, Deposit}
 use Rattle.history.proofs.Sequence.{step-follows, trace-agrees, empty-held}
 
@@ -132,7 +132,7 @@ file-marked n {t} c S C (list.accepted u T e Z h U) =
     (moved (held t) n C (S .labels .single) (S .labels .slots) c (a .0) (a .1) (a .2)) in
     record { list = m .list; sends = m .sends; skips = m .skips }
 
--- A step that makes a call on a file, and one that opens a checklist and is accepted, as their contracts say.
+-- A step that makes a call on a file, and one that opens a checklist, as their contracts say.
 
 abbrev Differ : Type 0
 Differ = _≡_ {A = ℕ} 0 1
@@ -142,28 +142,41 @@ file-step :
     → (y : ChangeAnswer) × (x ≡ bookChange y) × FileEnds t c y u
 file-step c e (adds E) = (let z : Differ = cc in absurd (omega arith))
 file-step c e (removes E) = (let z : Differ = cc in absurd (omega arith))
+file-step c e (replaces E) = (let z : Differ = cc in absurd (omega arith))
 file-step c e (loads E) = (let z : Differ = cc in absurd (omega arith))
 file-step c e (opens E) = (let z : Differ = cc in absurd (omega arith))
 file-step {t} {u} c e (marks {c = d} {x = y} E) =
     let q : d ≡ c = cc in
     (y, refl, subst (λ (f : FileCall). FileEnds t f y u) q E)
 
+opening-step :
+    {t u : Table} {d : Call} {x : Answer} (n : ℕ) → d ≡ checklist (opening n) → Step t d x u
+    → (y : ChangeAnswer) × (x ≡ bookChange y) × OpenEnds n y u
+opening-step n e (adds E) = (let z : Differ = cc in absurd (omega arith))
+opening-step n e (removes E) = (let z : Differ = cc in absurd (omega arith))
+opening-step n e (replaces E) = (let z : Differ = cc in absurd (omega arith))
+opening-step n e (loads E) = (let z : Differ = cc in absurd (omega arith))
+opening-step {u = u} n e (opens {n = m} {x = y} E) =
+    let q : m ≡ n = cc in
+    (y, refl, subst (λ (k : ℕ). OpenEnds k y u) q E)
+opening-step n e (marks E) = (let z : Differ = cc in absurd (omega arith))
+
+-- An opening that is accepted.
 record Opened (n : ℕ) (u : Table) : Type 0 where
   pub asked : first-no (open-questions n) ≡ none
   pub holds : held u ≡ opened document n
   pub sound : Sound u
 
+open-accepted : {u : Table} {y : ChangeAnswer} (n : ℕ) → bookChange y ≡ accepted → OpenEnds n y u → Opened n u
+open-accepted n a (list.refused f r) = (let z : Differ = cc in absurd (omega arith))
+open-accepted n a (list.accepted u r Z h U) = record { asked = r; holds = h; sound = U }
+
 open-step :
     {t u : Table} {d : Call} {x : Answer} (n : ℕ) → d ≡ checklist (opening n) → x ≡ accepted → Step t d x u
     → Opened n u
-open-step n e a (adds E) = (let z : Differ = cc in absurd (omega arith))
-open-step n e a (removes E) = (let z : Differ = cc in absurd (omega arith))
-open-step n e a (loads E) = (let z : Differ = cc in absurd (omega arith))
-open-step n e a (opens (list.refused f r)) = (let z : Differ = cc in absurd (omega arith))
-open-step n e a (opens {n = m} (list.accepted u r Z h U)) =
-    let q : m ≡ n = cc in
-    subst (λ (k : ℕ). Opened k u) q (record { asked = r; holds = h; sound = U })
-open-step n e a (marks E) = (let z : Differ = cc in absurd (omega arith))
+open-step n e a S =
+    let w = opening-step n e S in
+    open-accepted n (sym (w .1) ∙ a) (w .2)
 
 -- A list of calls on files, by induction on the list.
 record Stands (P Q : Program) (n : ℕ) (cs : List FileCall) (xs : List Answer) : Type 0 where
@@ -357,15 +370,17 @@ deposit-after t bs ys n cs xs u l T =
     deposit (w .0) n cs xs u (w .1)
 
 -- An opening that is refused leaves the empty table, which is no checklist: every call on a file meets 15 then.
+open-refused :
+    {u : Table} {y : ChangeAnswer} (n k : ℕ) → bookChange y ≡ refused k → OpenEnds n y u → u ≡ emptyTable
+open-refused n k a (list.refused f r) = refl
+open-refused n k a (list.accepted u r Z h U) = (let z : Differ = cc in absurd (omega arith))
+
 refuse-step :
     {t u : Table} {d : Call} {x : Answer} (n k : ℕ) → d ≡ checklist (opening n) → x ≡ refused k → Step t d x u
     → u ≡ emptyTable
-refuse-step n k e a (adds E) = (let z : Differ = cc in absurd (omega arith))
-refuse-step n k e a (removes E) = (let z : Differ = cc in absurd (omega arith))
-refuse-step n k e a (loads E) = (let z : Differ = cc in absurd (omega arith))
-refuse-step n k e a (opens (list.refused f r)) = refl
-refuse-step n k e a (opens (list.accepted u r Z h U)) = (let z : Differ = cc in absurd (omega arith))
-refuse-step n k e a (marks E) = (let z : Differ = cc in absurd (omega arith))
+refuse-step n k e a S =
+    let w = opening-step n e S in
+    open-refused n k (sym (w .1) ∙ a) (w .2)
 
 all-15 :
     (cs : List FileCall) {t u : Table} {ds : List Call} {xs : List Answer} → ds ≡ file-calls cs → t ≡ emptyTable

@@ -1,29 +1,28 @@
--- Demand 2: after an addition, a removal, a load or a call of a checklist an atom is in if and only if it is in the
--- admissible model of the rules now held; a rule that closes a loop through a negation is refused by 7, and no other
--- is. Request #102, of the calls. Assumes nothing.
+-- Demand 2: after an addition, a removal, a replacement, a load or a call of a checklist an atom is in if and only if
+-- it is in the admissible model of the rules now held; a rule that closes a loop through a negation is refused by 7,
+-- and no other is. Request #102, of the calls. Assumes nothing.
 use Prim.Native.Nat.{ℕ, _<_}
 use native.Mathlib.Omega.{arith}
 use mathlib.Core.Path.{_≡_, refl, sym, _∙_, ap, subst}
-use mathlib.Core.Logic.{⊎-elim}
-use mathlib.Core.Bool.{true, false, not, _||_}
-use mathlib.Core.List.{List, [], List·Memᴰ·head}
+use mathlib.Core.Bool.{Bool, true, false, not, _||_}
+use mathlib.Core.List.{List, [], _∷_, List·Memᴰ·head}
 use mathlib.Core.Option.{none, some, Option·some-injective, Option·none-ne-some}
 use lib.Dec.{eqb}
-use lib.ListN.{take}
+use lib.ListN.{take, drop}
 use Rattle.theory.specs.Lists.{every}
 use Rattle.theory.specs.Rules.{Rule, Program, Held, any-rule, same}
 use Rattle.theory.specs.Models.{AtomSet, Admissible}
 use Rattle.theory.specs.Dependencies.{NegativeCycle}
 use Rattle.theory.specs.Labels.{Label, absent, out, in-at, Labelled, is-absent, is-out, is-in}
-use Rattle.theory.specs.Questions.{Question, asks, first-no, add-questions, stratified, with-added}
-use Rattle.theory.specs.Questions.{is-in-label}
+use Rattle.theory.specs.Questions.{Question, asks, first-no, add-questions, replace-questions, stratified}
+use Rattle.theory.specs.Questions.{is-in-label, with-added, with-replaced}
 use Rattle.theory.specs.Limits.{document}
-use Rattle.theory.proofs.Lists.{clash, every-at, or-cases, not-true, eqb-of, unless}
+use Rattle.theory.proofs.Lists.{unless}
 use Rattle.theory.proofs.Rules.{any-rule-of}
 use Rattle.theory.proofs.Sameness.{same-iff}
 use Rattle.theory.proofs.Removal.{none-left, ground-gone}
 use Rattle.theory.proofs.Cycles.{found-cycle, cycle-found}
-use Rattle.theory.proofs.Questions.{first-no-here, first-no-take, first-no-at, passed-bounded}
+use Rattle.theory.proofs.Questions.{first-no-here, first-no-take, never-refused, passed-bounded}
 use Rattle.theory.proofs.Labels.{in-occurs}
 use Rattle.table.specs.declared.Table.{Table}
 use Rattle.table.specs.Labels.{labelAt}
@@ -38,7 +37,7 @@ use Rattle.calls.specs.declared.Refusal.{Refusal}
 use Rattle.calls.specs.declared.Refusal.the-variants as refusal
 use Rattle.calls.specs.Answers.{numberOf}
 use Rattle.calls.specs.Contracts as contract
-use Rattle.calls.specs.Contracts.{held, AddEnds, RemoveEnds, LoadEnds}
+use Rattle.calls.specs.Contracts.{held, AddEnds, ChangeEnds, RemoveEnds, ReplaceEnds, LoadEnds}
 use Rattle.calls.proofs.Refusals.{refusalOf, refusal-number}
 use Rattle.checklist.specs.Questions.{FileCall}
 use Rattle.checklist.specs.Contracts as list
@@ -62,17 +61,26 @@ sound-in-model u S = record {
       ((λ t. sym e ∙ t), (λ t. e ∙ t)));
 }
 
--- Demand 2, of an addition, of a removal and of a call on a file, on a sound table; of a load and of an opening, which
--- take none: a refusal hands back the empty table.
+-- Demand 2, of an addition, of a removal, of a replacement and of a call on a file, on a sound table; of a load and of
+-- an opening, which take none: a refusal hands back the empty table.
 pub demand-2-add : (t u : Table) (r : Rule) (x : AddAnswer) → AddEnds t r x u → Sound t → InModel u
 demand-2-add t u r x (contract.unsound n) S = absurd (n S)
 demand-2-add t u r x (contract.refused f T e) S = sound-in-model t S
 demand-2-add t u r x (contract.accepted s w T e l Z h U) S = sound-in-model w U
 
+demand-2-change :
+    {questions : List Question} {after : Program} (t u : Table) (x : ChangeAnswer) → ChangeEnds questions after t x u
+    → Sound t → InModel u
+demand-2-change t u x (contract.unsound n) S = absurd (n S)
+demand-2-change t u x (contract.refused f T e) S = sound-in-model t S
+demand-2-change t u x (contract.accepted w T e Z h U) S = sound-in-model w U
+
 pub demand-2-remove : (t u : Table) (s : ℕ) (x : ChangeAnswer) → RemoveEnds t s x u → Sound t → InModel u
-demand-2-remove t u s x (contract.unsound n) S = absurd (n S)
-demand-2-remove t u s x (contract.refused f T e) S = sound-in-model t S
-demand-2-remove t u s x (contract.accepted w T e Z h U) S = sound-in-model w U
+demand-2-remove t u s x E S = demand-2-change t u x E S
+
+pub demand-2-replace :
+    (t u : Table) (s : ℕ) (r : Rule) (x : ChangeAnswer) → ReplaceEnds t s r x u → Sound t → InModel u
+demand-2-replace t u s r x E S = demand-2-change t u x E S
 
 pub demand-2-load : (bytes : List ℕ) (u : Table) (x : ChangeAnswer) → LoadEnds bytes x u → InModel u
 demand-2-load bytes u x (contract.refused f e) = sound-in-model emptyTable empty-sound
@@ -87,56 +95,104 @@ demand-2-file t u c x (list.unsound n) S = sound-in-model t S
 demand-2-file t u c x (list.refused f T e) S = sound-in-model t S
 demand-2-file t u c x (list.accepted w T e Z h U) S = sound-in-model w U
 
--- The table with the rule, as it is kept.
+-- The table with the rule, as it is kept; and in the place of a slot's.
 abbrev with-rule : Table → Rule → Program
 with-rule t r = with-added (held t) r
 
--- Refused by 7: the rule closes a loop through a negation.
-pub refused-7-cycle :
-    (t u : Table) (r : Rule) → AddEnds t r (added.Refused refusal.NegativeCycle) u → Sound t
-    → NegativeCycle (with-rule t r)
-refused-7-cycle t u r E S = found-cycle (with-rule t r) (unless (stratified (with-rule t r)) (λ y. cannot y refl E))
-  where
-    -- if question 7 were answered yes, no question numbered 7 would be answered no
-    none-no : stratified (with-rule t r) ≡ true → first-no (add-questions document (held t) r) ≡ some 7 → ⊥
-    none-no y e =
-        let w = first-no-at (add-questions document (held t) r) 7 e in
-        let p : (not (eqb (w .0 .number) 7) || w .0 .yes?) ≡ true =
-        every-at (λ (q : Question). not (eqb (q .number) 7) || q .yes?) (add-questions document (held t) r)
-        (unfold every in (rw (y, every))) (w .0) (w .1) in
-        ⊎-elim
-        (λ (n : not (eqb (w .0 .number) 7) ≡ true). clash (eqb-of _ _ (w .2)) (not-true _ n))
-        (λ (n : w .0 .yes? ≡ true). clash n (w .3))
-        (or-cases (not (eqb (w .0 .number) 7)) (w .0 .yes?) p)
+abbrev with-new : Table → ℕ → Rule → Program
+with-new t s r = with-replaced (held t) s r
 
-    cannot :
-        stratified (with-rule t r) ≡ true → {y : AddAnswer} {v : Table} → y ≡ added.Refused refusal.NegativeCycle
-        → AddEnds t r y v → ⊥
-    cannot y q (contract.unsound n) = n S
-    cannot y q (contract.refused f T e) =
-        let k : f ≡ refusal.NegativeCycle = cc in
-        none-no y (e ∙ ap (λ (g : Refusal). some (numberOf g)) k)
-    cannot y q (contract.accepted s w T e l Z h U) = (let z : _≡_ {A = ℕ} 0 1 = cc in omega arith)
+-- Every question numbered 7 is answered yes.
+abbrev seven-yes : List Question → Bool
+seven-yes = every (λ (q : Question). not (eqb (q .number) 7) || q .yes?)
 
--- An addition to a sound table is refused by the first question answered no.
+-- Where 7 asks whether a program has no loop through a negation, and is the first answered no, it has one.
+seven-cycle :
+    (qs : List Question) (P : Program) → (stratified P ≡ true → seven-yes qs ≡ true) → first-no qs ≡ some 7
+    → NegativeCycle P
+seven-cycle qs P f e = found-cycle P (unless (stratified P) (λ y. never-refused 7 qs (f y) e))
+
+-- And where it is asked last, it is the first answered no if it has one.
+cycle-seven :
+    (before : ℕ) (qs : List Question) (P : Program) → first-no (take before qs) ≡ none
+    → drop before qs ≡ asks 7 (stratified P) ∷ [] → NegativeCycle P → first-no qs ≡ some 7
+cycle-seven before qs P e last c =
+    first-no-take before qs e ∙ ap first-no last
+    ∙ first-no-here (asks 7 (stratified P)) [] (cycle-found P c)
+
+-- A call on a sound table is refused by the first question answered no, and by no other: an addition, and a call that
+-- answers whether it was accepted.
+
+refusal-asked : (f : Refusal) (k : ℕ) → (k ≡ 11 → ⊥) → some (numberOf f) ≡ some k → f ≡ refusalOf k
+refusal-asked f k m e =
+    let q : numberOf f ≡ k = Option·some-injective _ _ e in
+    sym (refusal-number f (λ h. m (sym q ∙ h))) ∙ ap refusalOf q
+
+add-asked :
+    (t u : Table) (r : Rule) (f : Refusal) (x : AddAnswer) → x ≡ added.Refused f → AddEnds t r x u → Sound t
+    → first-no (add-questions document (held t) r) ≡ some (numberOf f)
+add-asked t u r f x q (contract.unsound n) S = absurd (n S)
+add-asked t u r f x q (contract.refused g T e) S =
+    (let k : g ≡ f = cc in e ∙ ap (λ (h : Refusal). some (numberOf h)) k)
+add-asked t u r f x q (contract.accepted s w T e l Z h U) S = (let z : _≡_ {A = ℕ} 0 1 = cc in absurd (omega arith))
+
 add-refused :
     (t u : Table) (r : Rule) (x : AddAnswer) → AddEnds t r x u → Sound t → (k : ℕ) → (k ≡ 11 → ⊥)
     → first-no (add-questions document (held t) r) ≡ some k → x ≡ added.Refused (refusalOf k)
 add-refused t u r x (contract.unsound n) S k m asked = absurd (n S)
-add-refused t u r x (contract.refused f T e) S k m asked =
-    let q : numberOf f ≡ k = Option·some-injective _ _ (sym e ∙ asked) in
-    ap added.Refused (sym (refusal-number f (λ h. m (sym q ∙ h))) ∙ ap refusalOf q)
+add-refused t u r x (contract.refused f T e) S k m asked = ap added.Refused (refusal-asked f k m (sym e ∙ asked))
 add-refused t u r x (contract.accepted s w T e l Z h U) S k m asked = absurd (Option·none-ne-some k (sym e ∙ asked))
 
--- And where questions 1 to 6 are answered yes, a rule that closes one is refused by 7.
+module _ (questions : List Question) (after : Program) (t : Table) where
+  change-asked :
+      (u : Table) (f : Refusal) (x : ChangeAnswer) → x ≡ changed.Refused f → ChangeEnds questions after t x u → Sound t
+      → first-no questions ≡ some (numberOf f)
+  change-asked u f x q (contract.unsound n) S = absurd (n S)
+  change-asked u f x q (contract.refused g T e) S =
+      (let k : g ≡ f = cc in e ∙ ap (λ (h : Refusal). some (numberOf h)) k)
+  change-asked u f x q (contract.accepted w T e Z h U) S = (let z : _≡_ {A = ℕ} 0 1 = cc in absurd (omega arith))
+
+  change-refused :
+      (u : Table) (x : ChangeAnswer) → ChangeEnds questions after t x u → Sound t → (k : ℕ) → (k ≡ 11 → ⊥)
+      → first-no questions ≡ some k → x ≡ changed.Refused (refusalOf k)
+  change-refused u x (contract.unsound n) S k m asked = absurd (n S)
+  change-refused u x (contract.refused f T e) S k m asked = ap changed.Refused (refusal-asked f k m (sym e ∙ asked))
+  change-refused u x (contract.accepted w T e Z h U) S k m asked = absurd (Option·none-ne-some k (sym e ∙ asked))
+
+-- Refused by 7: the rule closes a loop through a negation.
+
+pub refused-7-cycle :
+    (t u : Table) (r : Rule) → AddEnds t r (added.Refused refusal.NegativeCycle) u → Sound t
+    → NegativeCycle (with-rule t r)
+refused-7-cycle t u r E S =
+    seven-cycle (add-questions document (held t) r) (with-rule t r) (λ y. unfold every in (rw (y, every)))
+    (add-asked t u r refusal.NegativeCycle _ refl E S)
+
+pub replace-refused-7-cycle :
+    (t u : Table) (s : ℕ) (r : Rule) → ReplaceEnds t s r (changed.Refused refusal.NegativeCycle) u → Sound t
+    → NegativeCycle (with-new t s r)
+replace-refused-7-cycle t u s r E S =
+    seven-cycle (replace-questions document (held t) s r) (with-new t s r) (λ y. unfold every in (rw (y, every)))
+    (change-asked _ _ t u refusal.NegativeCycle _ refl E S)
+
+-- And where the questions before it, 1 to 6 of an addition, 8, 9 and 1 to 5 of a replacement, are answered yes, a rule
+-- that closes one is refused by 7.
+
 pub cycle-refused-7 :
     (t u : Table) (r : Rule) (x : AddAnswer) → AddEnds t r x u → Sound t
     → first-no (take 6 (add-questions document (held t) r)) ≡ none → NegativeCycle (with-rule t r)
     → x ≡ added.Refused refusal.NegativeCycle
 cycle-refused-7 t u r x E S six c =
     add-refused t u r x E S 7 (λ e. omega arith)
-    (first-no-take 6 (add-questions document (held t) r) six
-    ∙ first-no-here (asks 7 (stratified (with-rule t r))) [] (cycle-found (with-rule t r) c))
+    (cycle-seven 6 (add-questions document (held t) r) (with-rule t r) six refl c)
+
+pub replace-cycle-refused-7 :
+    (t u : Table) (s : ℕ) (r : Rule) (x : ChangeAnswer) → ReplaceEnds t s r x u → Sound t
+    → first-no (take 7 (replace-questions document (held t) s r)) ≡ none → NegativeCycle (with-new t s r)
+    → x ≡ changed.Refused refusal.NegativeCycle
+replace-cycle-refused-7 t u s r x E S seven c =
+    change-refused _ _ t u x E S 7 (λ e. omega arith)
+    (cycle-seven 7 (replace-questions document (held t) s r) (with-new t s r) seven refl c)
 
 -- Request #102: where a slot holds the rule in whatever order, an addition of it that passes questions 1 to 4 is
 -- refused by 5; and once that slot is removed, no slot holds it.

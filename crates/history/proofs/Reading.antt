@@ -7,7 +7,9 @@ use mathlib.Core.List.{List}
 use mathlib.Core.Option.{Option, none, some}
 use lib.Dec.{leb}
 use lib.ListN.{length, getD, take, drop}
-use Rattle.theory.specs.Book.{add, remove}
+use Rattle.theory.specs.Rules.{Rule}
+use Rattle.theory.specs.Book as book
+use Rattle.theory.specs.Book.{Answer}
 use Rattle.theory.proofs.Lists.{unless, leb-le, le-leb, and-l, and-r, and-of}
 use Rattle.calls.specs.declared.Refusal.{Refusal}
 use Rattle.calls.specs.declared.AddAnswer.{AddAnswer}
@@ -18,19 +20,20 @@ use Rattle.calls.specs.Answers.{numberOf, bookAdd, bookChange}
 use Rattle.calls.proofs.Refusals.{number-small}
 use Rattle.history.specs.declared.Next.{Next}
 use Rattle.history.specs.declared.Next.the-variants as next
+use Rattle.history.specs.declared.RuleFound.{RuleFound}
+use Rattle.history.specs.declared.RuleFound.the-variants as found
 use Rattle.history.specs.declared.Stepped.{Stepped}
-use Rattle.history.specs.Calls.{change, load, checklist}
-use Rattle.history.specs.Encoding.{Placed, addition-at, between, load-at, when, in-files, encode}
-use Rattle.history.specs.Encoding.{placed-load, placed-kind, placed}
+use Rattle.history.specs.Calls.{Call, change, checklist}
+use Rattle.history.specs.Encoding.{Placed, rule-at, rule-end, load-at, when, in-files, encode}
+use Rattle.history.specs.Encoding.{placed-rule, placed-load, placed-kind, placed}
 use Rattle.table.specs.declared.Table.{Table}
-use Rattle.calls.specs.Contracts.{AddEnds, RemoveEnds}
 use Rattle.checklist.specs.Questions.{file-sent, file-skipped, skip-withdrawn}
 use Rattle.checklist.specs.Book.{opening, of-file}
 use Rattle.checklist.specs.Book as list
 use Rattle.checklist.specs.Contracts.{OpenEnds, FileEnds}
-use Rattle.history.specs.Claim.{Step, adds, removes, loads, opens, marks}
-use Rattle.history.specs.Steps.{callOf, InOrder, NextLoad, NextChecklist, below, above, among, NextOf, LoadMade}
-use Rattle.history.specs.Steps.{StepOf, checklistCall, ChecklistEnds, ChecklistMade}
+use Rattle.history.specs.Claim.{Step, opens, marks}
+use Rattle.history.specs.Steps.{ruleOf, callOf, Parts, InOrder, FindRule, cut, whole, NextLoad, NextOf, StepOf}
+use Rattle.history.specs.Steps.{NextChecklist, below, above, among, checklistCall, ChecklistEnds}
 
 pub small : (f : Refusal) (n : ℕ) → n ≡ numberOf f → n ≤ 22
 small f n e = omega (arith, number-small f)
@@ -46,6 +49,13 @@ pub accepted-refused :
 accepted-refused x f n e d =
     ap (λ (k : ℕ). 65536 + k) d ∙ ap (λ (y : ChangeAnswer). encode (bookChange y)) (sym e)
 
+-- A step is told by its answer's number.
+pub told-step :
+    (n b k : ℕ) (u : Table) → n ≡ k
+    → _≡_ {A = Stepped} (record { more = true; answer = n; at = b; table = u })
+    (record { more = true; answer = k; at = b; table = u })
+told-step n b k u e = ap (λ (j : ℕ). record { more = true; answer = j; at = b; table = u }) e
+
 module _ (ws files : List ℕ) (at : ℕ) where
   pub short : length ws < at + 2 → placed ws files at ≡ none
   unfolding placed
@@ -58,12 +68,6 @@ module _ (ws files : List ℕ) (at : ℕ) where
   by-kind l k e =
       ap (λ (t : Bool). when t (placed-kind ws files at (getD ws at 0))) (le-leb (at + 2) (length ws) l)
       ∙ ap (placed-kind ws files at) e
-
-  -- what an addition's counts say of the list's length
-  pub counts :
-      (t : Bool) → leb (addition-at ws at .behind) (length ws) ≡ t → at + 2 ≤ length ws → getD ws at 0 ≡ 1
-      → placed ws files at ≡ when t (some (addition-at ws at))
-  counts t u l e = by-kind l 1 e ∙ ap (λ (b : Bool). when b (some (addition-at ws at))) u
 
   -- what a load's places say
   abbrev fits : Bool
@@ -85,15 +89,6 @@ module _ (ws files : List ℕ) (at : ℕ) where
 
   pub end-short : length ws < at + 2 → NextOf ws files at next.End
   end-short l = record { read = sym (short l); order = tt }
-
-  pub end-cut :
-      at + 2 ≤ length ws → getD ws at 0 ≡ 1 → length ws < at + 4 + getD ws (at + 2) 0 + getD ws (at + 3) 0
-      → NextOf ws files at next.End
-  end-cut l e s = record {
-    read = sym (counts false (unless (leb (addition-at ws at .behind) (length ws))
-        (λ t. omega (arith, leb-le (addition-at ws at .behind) (length ws) t))) l e);
-    order = tt;
-  }
 
   pub load-short : length ws < at + 3 → NextLoad ws files at next.End
   load-short l = record {
@@ -120,7 +115,7 @@ module _ (ws files : List ℕ) (at : ℕ) where
     order = tt;
   }
 
-  -- A removal, a load, an addition.
+  -- A removal, a load.
 
   pub reads-removal :
       at + 2 ≤ length ws → getD ws at 0 ≡ 0 → NextOf ws files at (next.Remove (getD ws (at + 1) 0) (at + 2))
@@ -138,18 +133,18 @@ module _ (ws files : List ℕ) (at : ℕ) where
   abbrev this : ℕ → Option Placed
   this j = some (record { call = checklist (checklistCall j (getD ws (at + 1) 0)); behind = at + 2 })
 
-  -- What a kind that is neither 0, 1 nor 2 says, from 7 on nothing.
+  -- What a kind that is neither 0, 1, 2 nor 7 says, from 8 on nothing.
   pub reads-checklist :
       (r : Next) → at + 2 ≤ length ws → (getD ws at 0 ≡ 0 → ⊥) → (getD ws at 0 ≡ 1 → ⊥) → (getD ws at 0 ≡ 2 → ⊥)
-      → NextChecklist (getD ws at 0) (getD ws (at + 1) 0) (at + 2) r → NextOf ws files at r
-  reads-checklist r l f g h (below k) = absurd (low (getD ws at 0) refl k)
+      → (getD ws at 0 ≡ 7 → ⊥) → NextChecklist (getD ws at 0) (getD ws (at + 1) 0) (at + 2) r → NextOf ws files at r
+  reads-checklist r l f g h i (below k) = absurd (low (getD ws at 0) refl k)
     where
       low : (k : ℕ) → getD ws at 0 ≡ k → k < 3 → ⊥
       low zero e k = f e
       low (suc zero) e k = g e
       low (suc (suc zero)) e k = h e
       low (suc (suc (suc j))) e k = omega arith
-  reads-checklist r l f g h (above k) = record { read = sym (other (getD ws at 0) refl k); order = tt }
+  reads-checklist r l f g h i (above k) = record { read = sym (other (getD ws at 0) refl k); order = tt }
     where
       other : (k : ℕ) → getD ws at 0 ≡ k → 6 < k → placed ws files at ≡ none
       other zero e k = absurd (omega arith)
@@ -159,8 +154,10 @@ module _ (ws files : List ℕ) (at : ℕ) where
       other (suc (suc (suc (suc zero)))) e k = absurd (omega arith)
       other (suc (suc (suc (suc (suc zero))))) e k = absurd (omega arith)
       other (suc (suc (suc (suc (suc (suc zero)))))) e k = absurd (omega arith)
-      other (suc (suc (suc (suc (suc (suc (suc j))))))) e k = by-kind l (suc (suc (suc (suc (suc (suc (suc j))))))) e
-  reads-checklist r l f g h (among k m) = record {
+      other (suc (suc (suc (suc (suc (suc (suc zero))))))) e k = absurd (i e)
+      other (suc (suc (suc (suc (suc (suc (suc (suc j)))))))) e k =
+          by-kind l (suc (suc (suc (suc (suc (suc (suc (suc j)))))))) e
+  reads-checklist r l f g h i (among k m) = record {
     read = sym (which (getD ws at 0) refl k m);
     order = l;
   }
@@ -180,37 +177,74 @@ module _ (ws files : List ℕ) (at : ℕ) where
       which (suc (suc (suc (suc (suc (suc zero)))))) e k m = by-kind l 6 e ∙ told 3 (omega arith)
       which (suc (suc (suc (suc (suc (suc (suc j))))))) e k m = absurd (omega arith)
 
-  pub reads-addition :
-      at + 4 + getD ws (at + 2) 0 + getD ws (at + 3) 0 ≤ length ws → getD ws at 0 ≡ 1
-      → NextOf ws files at (next.Add (getD ws (at + 1) 0) (at + 4) (at + 4 + getD ws (at + 2) 0)
-      (at + 4 + getD ws (at + 2) 0 + getD ws (at + 3) 0))
-  reads-addition l e = record {
-    read =
-        let p = getD ws (at + 2) 0 in
-        let n = getD ws (at + 3) 0 in
-        let u : at + 4 + p - (at + 4) ≡ p = omega arith in
-        let v : at + 4 + p + n - (at + 4 + p) ≡ n = omega arith in
-        _∙_ {b = some (addition-at ws at)}
-        (ap₂ (λ (j k : ℕ). some (record {
-          call = change (add (record {
-            head = getD ws (at + 1) 0;
-            positives = take j (drop (at + 4) ws);
-            negatives = take k (drop (at + 4 + p) ws);
-          }));
-          behind = at + 4 + p + n;
-        })) u v)
-        (sym (counts true (le-leb _ _ l) (omega arith) e));
-    order = (omega arith, omega arith, l);
-  }
+-- A call of the rule whose head stands at a place: none if the rule is cut short.
+module _ (ws : List ℕ) (at : ℕ) (of : Rule → book.Call) where
+  abbrev call-of-rule : Option Placed
+  call-of-rule = some (record { call = change (of (rule-at ws at)); behind = rule-end ws at })
 
--- The parts of an addition's lists lie in the list, the file of a load in the files.
-pub add-order :
-    (n k : ℕ) (x : Next) (h f m e : ℕ) → x ≡ next.Add h f m e → InOrder n k x → (f ≤ m) × (m ≤ e) × (e ≤ n)
-add-order n k x h f m e q o = subst (InOrder n k) q o
+  rule-fits : (t : Bool) → leb (rule-end ws at) (length ws) ≡ t → placed-rule ws at of ≡ when t call-of-rule
+  unfolding placed-rule
+  rule-fits t e = ap (λ (b : Bool). when b call-of-rule) e
 
-pub load-order :
-    (n k : ℕ) (x : Next) (f e b : ℕ) → x ≡ next.Load f e b → InOrder n k x → (f ≤ e) × (e ≤ k)
-load-order n k x f e b q o = subst (InOrder n k) q o
+  rule-cut : length ws < rule-end ws at → placed-rule ws at of ≡ none
+  rule-cut l =
+      rule-fits false
+      (unless (leb (rule-end ws at) (length ws)) (λ t. omega (arith, leb-le (rule-end ws at) (length ws) t)))
+
+  pub rule-whole : rule-end ws at ≤ length ws → placed-rule ws at of ≡ call-of-rule
+  rule-whole l = rule-fits true (le-leb _ _ l)
+
+  pub found-cut : (x : RuleFound) → FindRule ws at x → x ≡ found.Cut → placed-rule ws at of ≡ none
+  found-cut x (cut l) e = rule-cut l
+  found-cut x (whole l) e = (let z : _≡_ {A = ℕ} 0 1 = cc in absurd (omega arith))
+
+  pub found-whole :
+      (x : RuleFound) → FindRule ws at x → (h f m b : ℕ) → x ≡ found.At h f m b
+      → (some (record { call = change (of (ruleOf ws h f m b)); behind = b }) ≡ placed-rule ws at of)
+      × Parts (length ws) f m b
+  found-whole x (cut l) h f m b e = (let z : _≡_ {A = ℕ} 0 1 = cc in absurd (omega arith))
+  found-whole x (whole l) h f m b e =
+      let p = getD ws (at + 1) 0 in
+      let n = getD ws (at + 2) 0 in
+      let u : at + 3 + p - (at + 3) ≡ p = omega arith in
+      let v : at + 3 + p + n - (at + 3 + p) ≡ n = omega arith in
+      subst (λ (y : RuleFound). told y) e (
+        _∙_ {b = call-of-rule}
+            (ap₂ (λ (j k : ℕ). some (record {
+              call = change (of (record {
+                head = getD ws at 0;
+                positives = take j (drop (at + 3) ws);
+                negatives = take k (drop (at + 3 + p) ws);
+              }));
+              behind = at + 3 + p + n;
+            })) u v)
+            (sym (rule-whole l)),
+        (omega arith, omega arith, l),
+      )
+    where
+      told : RuleFound → Type 0
+      told found.Cut = ⊥
+      told (found.At h f m b) =
+          (some (record { call = change (of (ruleOf ws h f m b)); behind = b }) ≡ placed-rule ws at of)
+          × Parts (length ws) f m b
+
+-- A call of a rule is read.
+module _ (ws files : List ℕ) (at place : ℕ) (of : Rule → book.Call)
+    (stands : placed ws files at ≡ placed-rule ws place of) (x : RuleFound) (F : FindRule ws place x) where
+  pub reads-no-rule : x ≡ found.Cut → NextOf ws files at next.End
+  reads-no-rule e = record { read = sym (stands ∙ found-cut ws place of x F e); order = tt }
+
+  pub reads-rule :
+      (h f m b : ℕ) → x ≡ found.At h f m b → (z : Next)
+      → callOf ws files z ≡ some (record { call = change (of (ruleOf ws h f m b)); behind = b })
+      → (Parts (length ws) f m b → InOrder (length ws) (length files) z) → NextOf ws files at z
+  reads-rule h f m b e z q o =
+      let w = found-whole ws place of x F h f m b e in
+      record { read = q ∙ w .0 ∙ sym stands; order = o (w .1) }
+
+-- What was read has its parts in order.
+pub order-of : (n k : ℕ) (x y : Next) → x ≡ y → InOrder n k x → InOrder n k y
+order-of n k x y e o = subst (InOrder n k) e o
 
 -- Which call of a checklist was made.
 
@@ -238,7 +272,7 @@ made-withdrawn t (suc (suc zero)) i y u l E = absurd (omega arith)
 made-withdrawn t (suc (suc (suc k))) i y u l E = E
 
 -- A call of a checklist is a step.
-checklist-step :
+pub checklist-step :
     {t : Table} (c : list.Call) (y : ChangeAnswer) (u : Table) → ChecklistEnds t c y u
     → Step t (checklist c) (bookChange y) u
 checklist-step (opening n) y u E = opens E
@@ -252,60 +286,17 @@ module _ (ws files : List ℕ) (at : ℕ) (t : Table) (x : Next) (N : NextOf ws 
     made = λ q. absurd (true≢false (sym q));
   }
 
-  pub step-removal :
-      (s b n : ℕ) (y : ChangeAnswer) (u : Table) → x ≡ next.Remove s b → RemoveEnds t s y u
-      → n ≡ encode (bookChange y) → StepOf ws files at t (record { more = true; answer = n; at = b; table = u })
-  step-removal s b n y u e E d = record {
-    over = λ q. absurd (true≢false q);
-    made = λ q. record {
-      call = change (remove s);
-      told = bookChange y;
-      stands = sym (N .read) ∙ ap (callOf ws files) e;
-      step = removes E;
-      number = d;
+  pub step-made :
+      (z : Next) (c : Call) (b : ℕ) (y : Answer) (u : Table) (r : Stepped) → x ≡ z
+      → callOf ws files z ≡ some (record { call = c; behind = b }) → Step t c y u
+      → r ≡ record { more = true; answer = encode y; at = b; table = u } → StepOf ws files at t r
+  step-made z c b y u r q e S d = subst (StepOf ws files at t) (sym d) (record {
+    over = λ m. absurd (true≢false m);
+    made = λ m. record {
+      call = c;
+      told = y;
+      stands = sym (N .read) ∙ ap (callOf ws files) q ∙ e;
+      step = S;
+      number = refl;
     };
-  }
-
-  pub step-addition :
-      (h f m b n : ℕ) (y : AddAnswer) (u : Table) → x ≡ next.Add h f m b
-      → AddEnds t (record { head = h; positives = between ws f m; negatives = between ws m b }) y u
-      → n ≡ encode (bookAdd y) → StepOf ws files at t (record { more = true; answer = n; at = b; table = u })
-  step-addition h f m b n y u e E d = record {
-    over = λ q. absurd (true≢false q);
-    made = λ q. record {
-      call = change (add (record { head = h; positives = between ws f m; negatives = between ws m b }));
-      told = bookAdd y;
-      stands = sym (N .read) ∙ ap (callOf ws files) e;
-      step = adds E;
-      number = d;
-    };
-  }
-
-  pub step-loading :
-      (f e b : ℕ) (r : Stepped) → x ≡ next.Load f e b → LoadMade (between files f e) b r → StepOf ws files at t r
-  step-loading f e b r q L = record {
-    over = λ z. absurd (true≢false (sym (L .more) ∙ z));
-    made = λ z. record {
-      call = load (between files f e);
-      told = bookChange (L .told);
-      stands = sym (N .read) ∙ ap (callOf ws files) q
-          ∙ ap (λ (k : ℕ). some (record { call = load (between files f e); behind = k })) (sym (L .at));
-      step = loads (L .ends);
-      number = L .number;
-    };
-  }
-
-  pub step-listing :
-      (w i b : ℕ) (r : Stepped) → x ≡ next.Checklist w i b → ChecklistMade t (checklistCall w i) b r
-      → StepOf ws files at t r
-  step-listing w i b r q L = record {
-    over = λ z. absurd (true≢false (sym (L .more) ∙ z));
-    made = λ z. record {
-      call = checklist (checklistCall w i);
-      told = bookChange (L .told);
-      stands = sym (N .read) ∙ ap (callOf ws files) q
-          ∙ ap (λ (k : ℕ). some (record { call = checklist (checklistCall w i); behind = k })) (sym (L .at));
-      step = checklist-step (checklistCall w i) (L .told) (r .table) (L .ends);
-      number = L .number;
-    };
-  }
+  })

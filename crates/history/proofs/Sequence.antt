@@ -15,10 +15,10 @@ use Rattle.theory.specs.Models.{AtomSet, valid, Admissible, OnlyModel}
 use Rattle.theory.specs.Dependencies.{NegativeCycle}
 use Rattle.theory.specs.Labels.{Label, out, in-at, Labelled, is-out, is-in}
 use Rattle.theory.specs.Labels.{Spoiler, spoiler, Spoils}
-use Rattle.theory.specs.Questions.{first-no, slot-questions, atom-questions, put-in}
+use Rattle.theory.specs.Questions.{Question, first-no, slot-questions, atom-questions, put-in}
 use Rattle.theory.specs.Questions.{asks, is-some}
 use Rattle.theory.specs.Book as book
-use Rattle.theory.specs.Book.{add, remove, Answer, refused, accepted, empty, answer, after, answers, after-all}
+use Rattle.theory.specs.Book.{add, remove, replace, Answer, refused, accepted, empty, answer, after, answers, after-all}
 use Rattle.theory.specs.Book.{refusal, granted, changed, slot-answer}
 use Rattle.theory.specs.Limits.{document}
 use Rattle.theory.proofs.Lists.{test, clash, lt-ltb}
@@ -35,18 +35,19 @@ use Rattle.table.specs.Sound.{Sound}
 use Rattle.table.proofs.Empty.{empty-sound, free-program}
 use Rattle.blocks.specs.Questions.{file-questions, pagesOf}
 use Rattle.blocks.specs.Book.{loadAnswer, loadPages}
+use Rattle.calls.specs.declared.ChangeAnswer.{ChangeAnswer}
 use Rattle.calls.specs.declared.LabelAnswer.{LabelAnswer}
 use Rattle.calls.specs.declared.SpoilerAnswer.{SpoilerAnswer}
-use Rattle.calls.specs.Answers.{tellLabel, tellSpoiler}
+use Rattle.calls.specs.Answers.{bookChange, tellLabel, tellSpoiler}
 use Rattle.calls.specs.Contracts as contract
-use Rattle.calls.specs.Contracts.{held, LabelEnds, SpoilerEnds}
+use Rattle.calls.specs.Contracts.{held, ChangeEnds, LabelEnds, SpoilerEnds}
 use Rattle.calls.proofs.Determined.{label-determined, spoiler-determined}
 use Rattle.checklist.specs.Book.{opening, of-file, checklistAnswer, checklistAfter}
 use Rattle.checklist.specs.Book as list-book
 use Rattle.checklist.specs.Contracts as list-contract
 use Rattle.checklist.proofs.Ends.{no-list}
 use Rattle.history.specs.Calls.{Call, change, callAnswer, callAfter, callsAnswers, callsAfter}
-use Rattle.history.specs.Claim.{Step, adds, removes, loads, opens, marks, Trace, stop, call}
+use Rattle.history.specs.Claim.{Step, adds, removes, replaces, loads, opens, marks, Trace, stop, call}
 use Rattle.history.specs.Claim.{bookAnswers, bookAfter, Supported, History}
 
 -- The rules of a sound table have one admissible model, and its atoms are below the limit.
@@ -140,6 +141,23 @@ checklist-after-yes :
 unfolding checklistAfter
 checklist-after-yes P c e = rw (e, checklistAfter)
 
+-- A call that changes a table and is answered accepted: a removal, a replacement.
+change-follows :
+    {t u : Table} {x : ChangeAnswer} (c : book.Call) {qs : List Question} → refusal document (held t) c ≡ first-no qs
+    → granted document (held t) c ≡ accepted → Sound t → ChangeEnds qs (changed document (held t) c) t x u
+    → Follows (held t) (change c) (bookChange x) u
+change-follows c r g S (contract.unsound n) = absurd (n S)
+change-follows {t} c r g S (contract.refused f T e) = record {
+  said = sym (answer-no (held t) c _ (r ∙ e));
+  holds = sym (after-no (held t) c _ (r ∙ e));
+  still = S;
+}
+change-follows {t} c r g S (contract.accepted u T e Z h U) = record {
+  said = sym (answer-yes (held t) c (r ∙ e) ∙ g);
+  holds = h ∙ sym (after-yes (held t) c (r ∙ e));
+  still = U;
+}
+
 pub step-follows : {t u : Table} {c : Call} {x : Answer} → Sound t → Step t c x u → Follows (held t) c x u
 step-follows {t} S (adds (contract.unsound n)) = absurd (n S)
 step-follows {t} S (adds {r} (contract.refused f T e)) = record {
@@ -152,17 +170,8 @@ step-follows {t} S (adds {r} (contract.accepted s u T e l Z h U)) = record {
   holds = h ∙ sym (after-yes (held t) (add r) e ∙ ap (λ (o : Option ℕ). put-in (held t) o (theory.kept r)) l);
   still = U;
 }
-step-follows {t} S (removes (contract.unsound n)) = absurd (n S)
-step-follows {t} S (removes {s} (contract.refused f T e)) = record {
-  said = sym (answer-no (held t) (remove s) _ e);
-  holds = sym (after-no (held t) (remove s) _ e);
-  still = S;
-}
-step-follows {t} S (removes {s} (contract.accepted u T e Z h U)) = record {
-  said = sym (answer-yes (held t) (remove s) e);
-  holds = h ∙ sym (after-yes (held t) (remove s) e);
-  still = U;
-}
+step-follows S (removes {s} E) = change-follows (remove s) refl refl S E
+step-follows S (replaces {s} {r} E) = change-follows (replace s r) refl refl S E
 step-follows {t} S (loads {bytes} (contract.refused f e)) = record {
   said = sym (load-answer-no bytes _ e);
   holds = empty-held ∙ sym (load-pages-no bytes _ e);
@@ -332,7 +341,7 @@ history cs xs t T =
     claim cs xs t (w .kept ∙ ap (λ (Q : Program). callsAfter document Q cs) empty-held) (w .sound)
     (w .told ∙ ap (λ (Q : Program). callsAnswers document Q cs) empty-held)
 
--- A list of additions and removals alone is answered, and leaves pages, as theory's book says.
+-- A list of additions, removals and replacements alone is answered, and leaves pages, as theory's book says.
 
 pub changes-answered :
     (P : Program) (cs : List book.Call) → callsAnswers document P (map change cs) ≡ answers document P cs

@@ -4,7 +4,6 @@ use Prim.Native.Nat.{ℕ, zero, suc, _+_, _-_, _^_, _≤_, _<_}
 use native.Mathlib.Omega.{arith}
 use mathlib.Core.Path.{_≡_, refl, sym, _∙_, ap, ap₂, subst}
 use mathlib.Core.Logic.{⊎-elim}
-use mathlib.Core.Bool.{true}
 use mathlib.Core.List.{List, [], _∷_, _++_, map, append-assoc, append-nil, List·Memᴰ, List·Memᴰ·head, List·Memᴰ·tail}
 use mathlib.Core.List.{List·Memᴰ·cases-cons, List·Memᴰ·append-cases, List·Memᴰ·not-nil}
 use mathlib.Core.Option.{some}
@@ -13,21 +12,94 @@ use lib.Seq.{getD-append-seam, getD-append-add, take-append-seam, drop-append-se
 use Rattle.theory.specs.Lists.{_∈_}
 use Rattle.theory.specs.Rules.{Rule}
 use Rattle.theory.specs.Book as book
-use Rattle.theory.specs.Book.{add, remove, Answer}
-use Rattle.theory.proofs.Lists.{le-leb}
+use Rattle.theory.specs.Book.{add, remove, replace, Answer}
 use Rattle.history.specs.declared.Replayed.{Replayed}
 use Rattle.checklist.specs.Questions.{file-sent, file-skipped, skip-withdrawn}
 use Rattle.checklist.specs.Book.{opening, of-file}
 use Rattle.checklist.specs.Book as list
 use Rattle.history.specs.Calls.{Call, change, load, checklist}
 use Rattle.history.specs.Claim.{bookAnswers, History}
-use Rattle.history.specs.Encoding.{Placed, rule-at, addition-at, between, load-at, placed, decode, encode}
-use Rattle.history.specs.Encoding.{checklist-at, placed-kind}
-use Rattle.history.specs.Encoding.{call-file, loaded-files, call-words, written-from, written}
-use Rattle.history.specs.Encoding.{Below, Words, Bytes, CallFits}
+use Rattle.history.specs.Encoding.{rule-at, rule-end, between, load-at, placed, decode, encode}
+use Rattle.history.specs.Encoding.{placed-rule, checklist-at, placed-kind}
+use Rattle.history.specs.Encoding.{call-file, loaded-files, rule-words, call-words, written-from, written}
+use Rattle.history.specs.Encoding.{Below, Words, Bytes, RuleFits, CallFits}
 use Rattle.history.specs.Replays.{Replays, ReplaysCalls, calls-in}
-use Rattle.history.proofs.Reading.{short, by-kind, counts, load-fits}
+use Rattle.history.proofs.Reading.{short, by-kind, rule-whole, load-fits}
 use Rattle.history.proofs.Replaying.{decode-over, decode-next}
+
+-- A rule that stands behind other words is read.
+module _ (xs rest : List ℕ) (r : Rule) where
+  abbrev behind : List ℕ
+  behind = rule-words r ++ rest
+
+  abbrev ws : List ℕ
+  ws = xs ++ behind
+
+  head-read : getD ws (length xs) 0 ≡ r .head
+  head-read = getD-append-seam xs (r .head) (drop 1 behind) 0
+
+  word : (i : ℕ) → getD ws (length xs + i) 0 ≡ getD behind i 0
+  word i = getD-append-add xs behind i 0
+
+  lists : drop (length xs + 3) ws ≡ r .positives ++ (r .negatives ++ rest)
+  lists = drop-append-add xs behind 3 ∙ append-assoc (r .positives) (r .negatives) rest
+
+  positives-read : take (length (r .positives)) (drop (length xs + 3) ws) ≡ r .positives
+  positives-read =
+      ap (take (length (r .positives))) lists ∙ take-append-seam (r .positives) (r .negatives ++ rest)
+
+  negatives-read :
+      take (length (r .negatives)) (drop (length xs + 3 + length (r .positives)) ws) ≡ r .negatives
+  negatives-read =
+      ap (take (length (r .negatives)))
+      (sym (drop-drop (length (r .positives)) (length xs + 3) ws) ∙ ap (drop (length (r .positives))) lists
+      ∙ drop-append-seam (r .positives) (r .negatives ++ rest))
+      ∙ take-append-seam (r .negatives) rest
+
+  rule-read : rule-at ws (length xs) ≡ r
+  rule-read =
+      (λ i. record {
+        head = head-read i;
+        positives = take (word 1 i) (drop (length xs + 3) ws);
+        negatives = take (word 2 i) (drop (length xs + 3 + word 1 i) ws);
+      })
+      ∙ (λ i. record { head = r .head; positives = positives-read i; negatives = negatives-read i })
+
+  end-read : rule-end ws (length xs) ≡ length (xs ++ rule-words r)
+  end-read = omega (
+    arith,
+    word 1,
+    word 2,
+    length-append xs (rule-words r),
+    length-append (r .positives) (r .negatives),
+  )
+
+  pub rule-placed :
+      (of : Rule → book.Call)
+      → placed-rule ws (length xs) of ≡ some (record { call = change (of r); behind = length (xs ++ rule-words r) })
+  rule-placed of =
+      let room : rule-end ws (length xs) ≤ length ws =
+      omega (
+        arith,
+        end-read,
+        length-append xs (rule-words r),
+        length-append xs behind,
+        length-append (rule-words r) rest,
+      ) in
+      rule-whole ws (length xs) of room
+      ∙ (λ i. some (record { call = change (of (rule-read i)); behind = end-read i }))
+
+-- The same of a rule that stands behind a call's first words.
+rule-behind :
+    (xs lead rest : List ℕ) (r : Rule) (of : Rule → book.Call)
+    → placed-rule (xs ++ (lead ++ (rule-words r ++ rest))) (length xs + length lead) of
+    ≡ some (record { call = change (of r); behind = length (xs ++ (lead ++ rule-words r)) })
+rule-behind xs lead rest r of =
+    ap₂ (λ (ws : List ℕ) (k : ℕ). placed-rule ws k of) (sym (append-assoc xs lead (rule-words r ++ rest)))
+    (sym (length-append xs lead))
+    ∙ rule-placed (xs ++ lead) rest r of
+    ∙ ap (λ (ws : List ℕ). some (record { call = change (of r); behind = length ws }))
+    (append-assoc xs lead (rule-words r))
 
 -- A call that stands behind other words is read.
 module _ (files xs rest : List ℕ) where
@@ -42,65 +114,6 @@ module _ (files xs rest : List ℕ) where
       ∙ ap (λ (k : ℕ). some (record { call = change (remove k); behind = length xs + 2 }))
       (getD-append-add xs (0 ∷ s ∷ rest) 1 0)
 
-  module _ (h : ℕ) (ps ns : List ℕ) where
-    abbrev ws : List ℕ
-    ws = xs ++ (1 ∷ h ∷ length ps ∷ length ns ∷ (ps ++ (ns ++ rest)))
-
-    abbrev from : ℕ
-    from = length xs + 4
-
-    word : (i : ℕ) → getD ws (length xs + i) 0 ≡ getD (1 ∷ h ∷ length ps ∷ length ns ∷ (ps ++ (ns ++ rest))) i 0
-    word i = getD-append-add xs (1 ∷ h ∷ length ps ∷ length ns ∷ (ps ++ (ns ++ rest))) i 0
-
-    lists : drop from ws ≡ ps ++ (ns ++ rest)
-    lists = drop-append-add xs (1 ∷ h ∷ length ps ∷ length ns ∷ (ps ++ (ns ++ rest))) 4
-
-    positives-read : take (length ps) (drop from ws) ≡ ps
-    positives-read = ap (take (length ps)) lists ∙ take-append-seam ps (ns ++ rest)
-
-    negatives-read : take (length ns) (drop (from + length ps) ws) ≡ ns
-    negatives-read =
-        ap (take (length ns)) (sym (drop-drop (length ps) from ws) ∙ ap (drop (length ps)) lists
-        ∙ drop-append-seam ps (ns ++ rest))
-        ∙ take-append-seam ns rest
-
-    rule-read : rule-at ws h from (length ps) (length ns) ≡ record { head = h; positives = ps; negatives = ns }
-    rule-read = λ i. record { head = h; positives = positives-read i; negatives = negatives-read i }
-
-    addition-read :
-        addition-at ws (length xs)
-        ≡ record {
-          call = change (add (record { head = h; positives = ps; negatives = ns }));
-          behind = length xs + 4 + length ps + length ns;
-        }
-    addition-read =
-        (λ i. record {
-          call = change (add (rule-at ws (word 1 i) from (word 2 i) (word 3 i)));
-          behind = length xs + 4 + word 2 i + word 3 i;
-        })
-        ∙ ap (λ (r : Rule). record { call = change (add r); behind = length xs + 4 + length ps + length ns }) rule-read
-
-    long : length ws ≡ length xs + 4 + length ps + length ns + length rest
-    long = omega (
-      arith,
-      length-append xs (1 ∷ h ∷ length ps ∷ length ns ∷ (ps ++ (ns ++ rest))),
-      length-append ps (ns ++ rest),
-      length-append ns rest,
-    )
-
-    placed-addition :
-        placed ws files (length xs)
-        ≡ some (record {
-          call = change (add (record { head = h; positives = ps; negatives = ns }));
-          behind = length xs + 4 + length ps + length ns;
-        })
-    placed-addition =
-        let room : addition-at ws (length xs) .behind ≤ length ws =
-        omega (arith, long, ap (λ (p : Placed). p .behind) addition-read) in
-        counts ws files (length xs) true (le-leb _ _ room) (omega (arith, long))
-        (getD-append-seam xs 1 (h ∷ length ps ∷ length ns ∷ (ps ++ (ns ++ rest))) 0)
-        ∙ ap some addition-read
-
   placed-change :
       (passed : ℕ) (c : book.Call)
       → placed (xs ++ (call-words passed (change c) ++ rest)) files (length xs)
@@ -109,18 +122,17 @@ module _ (files xs rest : List ℕ) where
       placed-removal s
       ∙ ap (λ (k : ℕ). some (record { call = change (remove s); behind = k })) (sym (length-append xs (0 ∷ s ∷ [])))
   placed-change passed (add r) =
-      let end : length xs + 4 + length (r .positives) + length (r .negatives)
-      ≡ length (xs ++ call-words passed (change (add r))) =
-      omega (
-        arith,
-        length-append xs (call-words passed (change (add r))),
-        length-append (r .positives) (r .negatives),
-      ) in
-      ap (λ (zs : List ℕ).
-      placed (xs ++ (1 ∷ r .head ∷ length (r .positives) ∷ length (r .negatives) ∷ zs)) files (length xs))
-      (append-assoc (r .positives) (r .negatives) rest)
-      ∙ placed-addition (r .head) (r .positives) (r .negatives)
-      ∙ ap (λ (k : ℕ). some (record { call = change (add r); behind = k })) end
+      let ws = rule-words r ++ rest in
+      by-kind (xs ++ (1 ∷ ws)) files (length xs) (omega (arith, length-append xs (1 ∷ ws))) 1
+      (getD-append-seam xs 1 ws 0)
+      ∙ rule-behind xs (1 ∷ []) rest r add
+  placed-change passed (replace s r) =
+      let ws = rule-words r ++ rest in
+      by-kind (xs ++ (7 ∷ s ∷ ws)) files (length xs) (omega (arith, length-append xs (7 ∷ s ∷ ws))) 7
+      (getD-append-seam xs 7 (s ∷ ws) 0)
+      ∙ ap (λ (k : ℕ). placed-rule (xs ++ (7 ∷ s ∷ ws)) (length xs + 2) (replace k))
+      (getD-append-add xs (7 ∷ s ∷ ws) 1 0)
+      ∙ rule-behind xs (7 ∷ s ∷ []) rest r (replace s)
 
   -- A call of a checklist: by its kind and its number.
   module _ (kind i : ℕ) where
@@ -216,7 +228,9 @@ words-behind :
 unfolding written-from
 words-behind n xs c cs = refl
 
-files-behind : (ys : List ℕ) (c : Call) (cs : List Call) → ys ++ loaded-files (c ∷ cs) ≡ ys ++ (call-file c ++ loaded-files cs)
+files-behind :
+    (ys : List ℕ) (c : Call) (cs : List Call)
+    → ys ++ loaded-files (c ∷ cs) ≡ ys ++ (call-file c ++ loaded-files cs)
 unfolding loaded-files
 files-behind ys c cs = refl
 
@@ -226,7 +240,8 @@ decode-behind :
 decode-behind [] most xs ys l =
     let ws = xs ++ written-from (length ys) [] in
     let e : length ws ≡ length xs = ap length (nothing-behind (length ys) xs) in
-    decode-over most ws (ys ++ loaded-files []) (length xs) (short ws (ys ++ loaded-files []) (length xs) (omega (arith, e)))
+    decode-over most ws (ys ++ loaded-files []) (length xs)
+    (short ws (ys ++ loaded-files []) (length xs) (omega (arith, e)))
 decode-behind (c ∷ cs) zero xs ys l = absurd (omega arith)
 decode-behind (c ∷ cs) (suc most) xs ys l =
     let n = length ys in
@@ -278,10 +293,14 @@ below-cons {n} {x} {xs} l w y m = ⊎-elim
     (λ (i : y ∈ xs). w y i)
     (List·Memᴰ·cases-cons m)
 
+rule-words-fit : (r : Rule) → RuleFits r → Words (rule-words r)
+rule-words-fit r (h, p, k, ps, ns) =
+    below-cons h (below-cons p (below-cons k (below-append (r .positives) ps ns)))
+
 change-fits : (n : ℕ) (c : book.Call) → CallFits (change c) → Words (call-words n (change c))
 change-fits n (remove s) f = below-cons (omega arith) (below-cons f below-nil)
-change-fits n (add r) (h, p, k, ps, ns) =
-    below-cons (omega arith) (below-cons h (below-cons p (below-cons k (below-append (r .positives) ps ns))))
+change-fits n (add r) f = below-cons (omega arith) (rule-words-fit r f)
+change-fits n (replace s r) (l, f) = below-cons (omega arith) (below-cons l (rule-words-fit r f))
 
 checklist-fits : (n : ℕ) (c : list.Call) → CallFits (checklist c) → Words (call-words n (checklist c))
 checklist-fits n (opening k) f = below-cons (omega arith) (below-cons f below-nil)

@@ -10,8 +10,9 @@ use Rattle.blocks.specs.Book.{loadAnswer, loadPages}
 use Rattle.checklist.specs.Book as list
 use Rattle.checklist.specs.Book.{checklistAnswer, checklistAfter}
 
--- An addition or a removal, which changes the table that it gets; a load of some bytes, which gets none and hands one
--- back; a call of a checklist: its opening, which gets no table either, or a call on a file, which changes its table.
+-- An addition, a removal or a replacement, which changes the table that it gets; a load of some bytes, which gets none
+-- and hands one back; a call of a checklist: its opening, which gets no table either, or a call on a file, which
+-- changes its table.
 pub data Call : Type 0 where
   change : book.Call → Call
   load : List ℕ → Call

@@ -13,7 +13,7 @@ use Rattle.theory.specs.Models.{AtomSet, valid, Admissible, OnlyModel}
 use Rattle.theory.specs.Derivations.{Derivation}
 use Rattle.theory.specs.Labels.{Label, out, in-at, Labelled, Shallower, Spoiler, spoiler, Spoils}
 use Rattle.theory.specs.Questions.{is-in-label}
-use Rattle.theory.specs.Book.{add, remove, Answer, empty}
+use Rattle.theory.specs.Book.{add, remove, replace, Answer, empty}
 use Rattle.theory.specs.Limits.{document}
 use Rattle.table.specs.declared.Table.{Table}
 use Rattle.table.specs.Labels.{labelAt}
@@ -23,7 +23,7 @@ use Rattle.calls.specs.declared.ChangeAnswer.{ChangeAnswer}
 use Rattle.calls.specs.declared.LabelAnswer.{LabelAnswer}
 use Rattle.calls.specs.declared.SpoilerAnswer.{SpoilerAnswer}
 use Rattle.calls.specs.Answers.{bookAdd, bookChange, tellLabel, tellSpoiler}
-use Rattle.calls.specs.Contracts.{held, AddEnds, RemoveEnds, LabelEnds, SpoilerEnds, LoadEnds}
+use Rattle.calls.specs.Contracts.{held, AddEnds, RemoveEnds, ReplaceEnds, LabelEnds, SpoilerEnds, LoadEnds}
 use Rattle.checklist.specs.Questions.{FileCall}
 use Rattle.checklist.specs.Book.{opening, of-file}
 use Rattle.checklist.specs.Contracts.{OpenEnds, FileEnds}
@@ -34,6 +34,9 @@ use Rattle.history.specs.Calls.{Call, change, load, checklist, callsAnsw
 pub data Step (t : Table) : Call → Answer → Table → Type 0 where
   adds : {r : Rule} {x : AddAnswer} {u : Table} → AddEnds t r x u → Step t (change (add r)) (bookAdd x) u
   removes : {s : ℕ} {x : ChangeAnswer} {u : Table} → RemoveEnds t s x u → Step t (change (remove s)) (bookChange x) u
+  replaces :
+      {s : ℕ} {r : Rule} {x : ChangeAnswer} {u : Table} → ReplaceEnds t s r x u
+      → Step t (change (replace s r)) (bookChange x) u
   loads : {bytes : List ℕ} {x : ChangeAnswer} {u : Table} → LoadEnds bytes x u → Step t (load bytes) (bookChange x) u
   opens :
       {n : ℕ} {x : ChangeAnswer} {u : Table} → OpenEnds n x u → Step t (checklist (opening n)) (bookChange x) u

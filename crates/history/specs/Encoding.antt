@@ -7,7 +7,8 @@ use lib.Dec.{leb}
 use lib.ListN.{length, getD, take, drop}
 use Rattle.theory.specs.Lists.{_∈_}
 use Rattle.theory.specs.Rules.{Rule}
-use Rattle.theory.specs.Book.{add, remove, Answer, refused, slot, accepted}
+use Rattle.theory.specs.Book as book
+use Rattle.theory.specs.Book.{add, remove, replace, Answer, refused, slot, accepted}
 use Rattle.checklist.specs.Questions.{file, file-sent, file-skipped, skip-withdrawn}
 use Rattle.checklist.specs.Book.{opening, of-file}
 use Rattle.checklist.specs.Book as list
@@ -18,18 +19,18 @@ pub record Placed : Type 0 where
   pub call : Call
   pub behind : ℕ
 
--- The rule of an addition whose lists begin at a place: p positives, then n negatives.
-abbrev pub rule-at : List ℕ → ℕ → ℕ → ℕ → ℕ → Rule
-rule-at ws head from p n =
-    record { head = head; positives = take p (drop from ws); negatives = take n (drop (from + p) ws) }
-
--- An addition whose head stands at the place after its kind, and the place behind it.
-abbrev pub addition-at : List ℕ → ℕ → Placed
-addition-at ws at =
+-- The rule whose head stands at a place: behind it how many positives and how many negatives, then these. And the place
+-- behind the rule.
+abbrev pub rule-at : List ℕ → ℕ → Rule
+rule-at ws at =
     record {
-      call = change (add (rule-at ws (getD ws (at + 1) 0) (at + 4) (getD ws (at + 2) 0) (getD ws (at + 3) 0)));
-      behind = at + 4 + getD ws (at + 2) 0 + getD ws (at + 3) 0;
+      head = getD ws at 0;
+      positives = take (getD ws (at + 1) 0) (drop (at + 3) ws);
+      negatives = take (getD ws (at + 2) 0) (drop (at + 3 + getD ws (at + 1) 0) ws);
     }
+
+abbrev pub rule-end : List ℕ → ℕ → ℕ
+rule-end ws at = at + 3 + getD ws (at + 1) 0 + getD ws (at + 2) 0
 
 -- The entries of a list from a place to below another.
 abbrev pub between : List ℕ → ℕ → ℕ → List ℕ
@@ -52,6 +53,12 @@ when false o = none
 abbrev pub in-files : List ℕ → ℕ → ℕ → Bool
 in-files files from to = leb from to && leb to (length files)
 
+-- A call of the rule whose head stands at a place.
+unfoldable pub placed-rule : List ℕ → ℕ → (Rule → book.Call) → Option Placed
+placed-rule ws at of =
+    when (leb (rule-end ws at) (length ws))
+    (some (record { call = change (of (rule-at ws at)); behind = rule-end ws at }))
+
 unfoldable pub placed-load : List ℕ → List ℕ → ℕ → Option Placed
 placed-load ws files at =
     when (leb (at + 3) (length ws) && in-files files (getD ws (at + 1) 0) (getD ws (at + 2) 0))
@@ -59,18 +66,21 @@ placed-load ws files at =
 
 -- 0 and a slot: a removal. 1, a head, how many positives and how many negatives, then these: an addition. 2 and two
 -- places: a load of the bytes of the files from the first to below the second. 3 and a number of files: the opening of
--- a checklist. 4, 5, 6 and a file: file sent, file skipped, skip withdrawn. Any other number is no call; what is cut
--- short is none, and neither is a load of bytes that the files do not have.
+-- a checklist. 4, 5, 6 and a file: file sent, file skipped, skip withdrawn. 7, a slot, then as behind the 1 of an
+-- addition: a replacement. Any other number is no call; what is cut short is none, and neither is a load of bytes that
+-- the files do not have.
 abbrev pub placed-kind : List ℕ → List ℕ → ℕ → ℕ → Option Placed
 placed-kind ws files at zero = some (record { call = change (remove (getD ws (at + 1) 0)); behind = at + 2 })
-placed-kind ws files at (suc zero) = when (leb (addition-at ws at .behind) (length ws)) (some (addition-at ws at))
+placed-kind ws files at (suc zero) = placed-rule ws (at + 1) add
 placed-kind ws files at (suc (suc zero)) = placed-load ws files at
 placed-kind ws files at (suc (suc (suc zero))) = some (checklist-at ws at opening)
 placed-kind ws files at (suc (suc (suc (suc zero)))) = some (checklist-at ws at (λ i. of-file (file-sent i)))
 placed-kind ws files at (suc (suc (suc (suc (suc zero))))) = some (checklist-at ws at (λ i. of-file (file-skipped i)))
 placed-kind ws files at (suc (suc (suc (suc (suc (suc zero)))))) =
     some (checklist-at ws at (λ i. of-file (skip-withdrawn i)))
-placed-kind ws files at (suc (suc (suc (suc (suc (suc (suc k))))))) = none
+placed-kind ws files at (suc (suc (suc (suc (suc (suc (suc zero))))))) =
+    placed-rule ws (at + 2) (replace (getD ws (at + 1) 0))
+placed-kind ws files at (suc (suc (suc (suc (suc (suc (suc (suc k)))))))) = none
 
 unfoldable pub placed : List ℕ → List ℕ → ℕ → Option Placed
 placed ws files at = when (leb (at + 2) (length ws)) (placed-kind ws files at (getD ws at 0))
@@ -87,16 +97,21 @@ call-file (change c) = []
 call-file (load bytes) = bytes
 call-file (checklist c) = []
 
--- The files of a list of calls, one behind another; and the words that are read as this list: each call's, one after
--- another, where so many bytes of the files stand before those of the first.
+-- The files of a list of calls, one behind another.
 unfoldable pub loaded-files : List Call → List ℕ
 loaded-files [] = []
 loaded-files (c ∷ cs) = call-file c ++ loaded-files cs
 
+-- A rule's words: its head, how many positives and how many negatives, then these.
+abbrev pub rule-words : Rule → List ℕ
+rule-words r = r .head ∷ length (r .positives) ∷ length (r .negatives) ∷ (r .positives ++ r .negatives)
+
+-- The words that are read as a list of calls: each call's, one after another, where so many bytes of the files stand
+-- before those of the first.
 abbrev pub call-words : ℕ → Call → List ℕ
 call-words passed (change (remove s)) = 0 ∷ s ∷ []
-call-words passed (change (add r)) =
-    1 ∷ r .head ∷ length (r .positives) ∷ length (r .negatives) ∷ (r .positives ++ r .negatives)
+call-words passed (change (add r)) = 1 ∷ rule-words r
+call-words passed (change (replace s r)) = 7 ∷ s ∷ rule-words r
 call-words passed (load bytes) = 2 ∷ passed ∷ (passed + length bytes) ∷ []
 call-words passed (checklist (opening n)) = 3 ∷ n ∷ []
 call-words passed (checklist (of-file (file-sent i))) = 4 ∷ i ∷ []
@@ -120,12 +135,16 @@ Words = Below (2 ^ 32)
 abbrev pub Bytes : List ℕ → Type 0
 Bytes = Below 256
 
--- A call whose numbers and whose lists' lengths have 32 bits, and whose file is of bytes.
-abbrev pub CallFits : Call → Type 0
-CallFits (change (remove s)) = s < 2 ^ 32
-CallFits (change (add r)) =
+-- A rule whose numbers and whose lists' lengths have 32 bits; such a call, whose file is of bytes.
+abbrev pub RuleFits : Rule → Type 0
+RuleFits r =
     (r .head < 2 ^ 32) × (length (r .positives) < 2 ^ 32) × (length (r .negatives) < 2 ^ 32) × Words (r .positives)
     × Words (r .negatives)
+
+abbrev pub CallFits : Call → Type 0
+CallFits (change (remove s)) = s < 2 ^ 32
+CallFits (change (add r)) = RuleFits r
+CallFits (change (replace s r)) = (s < 2 ^ 32) × RuleFits r
 CallFits (load bytes) = Bytes bytes
 CallFits (checklist (opening n)) = n < 2 ^ 32
 CallFits (checklist (of-file c)) = file c < 2 ^ 32

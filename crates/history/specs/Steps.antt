@@ -1,25 +1,26 @@
 -- Private: what the functions behind `replay` tell each other. No exported contract speaks of it. Assumes nothing.
-use Prim.Native.Nat.{ℕ, zero, suc, _-_, _≤_, _<_}
+use Prim.Native.Nat.{ℕ, zero, suc, _+_, _-_, _≤_, _<_}
 use mathlib.Core.Path.{_≡_}
 use mathlib.Core.Bool.{true, false}
 use mathlib.Core.List.{List}
 use mathlib.Core.Option.{Option, none, some}
-use lib.ListN.{length}
-use Rattle.theory.specs.Book.{add, remove, Answer}
+use lib.ListN.{length, getD}
+use Rattle.theory.specs.Rules.{Rule}
+use Rattle.theory.specs.Book.{add, remove, replace, Answer}
 use Rattle.table.specs.declared.Table.{Table}
 use Rattle.calls.specs.declared.ChangeAnswer.{ChangeAnswer}
-use Rattle.calls.specs.Answers.{bookChange}
-use Rattle.calls.specs.Contracts.{LoadEnds}
 use Rattle.checklist.specs.Questions.{file-sent, file-skipped, skip-withdrawn}
 use Rattle.checklist.specs.Book.{opening, of-file}
 use Rattle.checklist.specs.Book as list
 use Rattle.checklist.specs.Contracts.{OpenEnds, FileEnds}
 use Rattle.history.specs.declared.Next.{Next}
 use Rattle.history.specs.declared.Next.the-variants as next
+use Rattle.history.specs.declared.RuleFound.{RuleFound}
+use Rattle.history.specs.declared.RuleFound.the-variants as found
 use Rattle.history.specs.declared.Stepped.{Stepped}
 use Rattle.history.specs.Calls.{Call, change, load, checklist}
 use Rattle.history.specs.Claim.{Step}
-use Rattle.history.specs.Encoding.{Placed, between, placed-load, placed, encode}
+use Rattle.history.specs.Encoding.{Placed, rule-end, between, placed-load, placed, encode}
 
 -- Which call of a checklist, by its kind less 3.
 abbrev pub checklistCall : ℕ → ℕ → list.Call
@@ -28,28 +29,32 @@ checklistCall (suc zero) i = of-file (file-sent i)
 checklistCall (suc (suc zero)) i = of-file (file-skipped i)
 checklistCall (suc (suc (suc k))) i = of-file (skip-withdrawn i)
 
+-- The rule whose lists are parts of the list.
+abbrev pub ruleOf : List ℕ → ℕ → ℕ → ℕ → ℕ → Rule
+ruleOf ws head from middle to =
+    record { head = head; positives = between ws from middle; negatives = between ws middle to }
+
 -- The call that is read at a place, and the place behind it.
 abbrev pub callOf : List ℕ → List ℕ → Next → Option Placed
 callOf ws files next.End = none
 callOf ws files (next.Remove s behind) = some (record { call = change (remove s); behind = behind })
 callOf ws files (next.Add head from middle to) =
-    some (record {
-      call = change (add (record {
-        head = head;
-        positives = between ws from middle;
-        negatives = between ws middle to;
-      }));
-      behind = to;
-    })
+    some (record { call = change (add (ruleOf ws head from middle to)); behind = to })
+callOf ws files (next.Replace slot head from middle to) =
+    some (record { call = change (replace slot (ruleOf ws head from middle to)); behind = to })
 callOf ws files (next.Load from to behind) = some (record { call = load (between files from to); behind = behind })
 callOf ws files (next.Checklist which number behind) =
     some (record { call = checklist (checklistCall which number); behind = behind })
 
 -- The parts of the lists lie in the list, and a file in the files.
+abbrev pub Parts : ℕ → ℕ → ℕ → ℕ → Type 0
+Parts words from middle to = (from ≤ middle) × (middle ≤ to) × (to ≤ words)
+
 abbrev pub InOrder : ℕ → ℕ → Next → Type 0
 InOrder words bytes next.End = Unit {0}
 InOrder words bytes (next.Remove s behind) = behind ≤ words
-InOrder words bytes (next.Add head from middle to) = (from ≤ middle) × (middle ≤ to) × (to ≤ words)
+InOrder words bytes (next.Add head from middle to) = Parts words from middle to
+InOrder words bytes (next.Replace slot head from middle to) = Parts words from middle to
 InOrder words bytes (next.Load from to behind) = (from ≤ to) × (to ≤ bytes)
 InOrder words bytes (next.Checklist which number behind) = behind ≤ words
 
@@ -65,7 +70,14 @@ NextLoad ws files at r = ReadAs ws files (placed-load ws files at) r
 abbrev pub NextOf : List ℕ → List ℕ → ℕ → Next → Type 0
 NextOf ws files at r = ReadAs ws files (placed ws files at) r
 
--- Kinds 3 to 6 are a checklist's, no other from 3 on is a call's.
+-- The rule whose head stands at a place: it is cut short, or where its lists begin and end.
+pub data FindRule (ws : List ℕ) (at : ℕ) : RuleFound → Type 0 where
+  cut : length ws < rule-end ws at → FindRule ws at found.Cut
+  whole :
+      rule-end ws at ≤ length ws
+      → FindRule ws at (found.At (getD ws at 0) (at + 3) (at + 3 + getD ws (at + 1) 0) (rule-end ws at))
+
+-- Kinds 3 to 6 are a checklist's.
 pub data NextChecklist (kind number behind : ℕ) : Next → Type 0 where
   below : kind < 3 → NextChecklist kind number behind next.End
   above : 6 < kind → NextChecklist kind number behind next.End
@@ -84,22 +96,7 @@ pub record StepOf (ws files : List ℕ) (at : ℕ) (t : Table) (r : Stepped) : T
   pub over : r .more ≡ false → placed ws files at ≡ none
   pub made : r .more ≡ true → CallMade ws files at t (r .answer) (r .at) (r .table)
 
--- A load of these bytes was made, and the place behind it is told.
-pub record LoadMade (bytes : List ℕ) (behind : ℕ) (r : Stepped) : Type 0 where
-  pub told : ChangeAnswer
-  pub more : r .more ≡ true
-  pub at : r .at ≡ behind
-  pub ends : LoadEnds bytes told (r .table)
-  pub number : r .answer ≡ encode (bookChange told)
-
--- A call of a checklist, as its contract says; that one was made, and the place behind it is told.
+-- A call of a checklist, as its contract says.
 abbrev pub ChecklistEnds : Table → list.Call → ChangeAnswer → Table → Type 0
 ChecklistEnds t (opening n) x u = OpenEnds n x u
 ChecklistEnds t (of-file c) x u = FileEnds t c x u
-
-pub record ChecklistMade (t : Table) (c : list.Call) (behind : ℕ) (r : Stepped) : Type 0 where
-  pub told : ChangeAnswer
-  pub more : r .more ≡ true
-  pub at : r .at ≡ behind
-  pub ends : ChecklistEnds t c told (r .table)
-  pub number : r .answer ≡ encode (bookChange told)

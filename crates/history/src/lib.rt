@@ -10,14 +10,16 @@ use checklist::file_skipped;
 use checklist::open;
 use checklist::skip_withdrawn;
 use files::load;
+use replacing::replace;
 use table::Table;
 ghost use mathlib.Core.Path.{_≡_};
+ghost use mathlib.Core.Bool.{true};
 ghost use Prim.Native.Nat.{_+_};
 ghost use Rattle.calls.specs.Answers.{bookAdd, bookChange};
 ghost use Rattle.history.specs.Encoding.{encode};
 ghost use Rattle.history.specs.Replays.{Replays};
-ghost use Rattle.history.specs.Steps.{NextLoad, NextChecklist, NextOf, LoadMade, StepOf};
-ghost use Rattle.history.specs.Steps.{checklistCall, ChecklistEnds, ChecklistMade};
+ghost use Rattle.history.specs.Steps.{FindRule, NextLoad, NextChecklist, NextOf, StepOf};
+ghost use Rattle.history.specs.Steps.{checklistCall, ChecklistEnds};
 
 // How many calls were made, and the table that the last handed back.
 #[repr(C)]
@@ -27,14 +29,21 @@ pub struct Replayed {
 }
 
 // The call at a place: none, a removal and the place behind it, an addition with the ends of its two lists, a load with
-// the ends of its file and the place behind it, or a call of a checklist: which (its kind less 3), its number and the
-// place behind it.
+// the ends of its file and the place behind it, a call of a checklist: which (its kind less 3), its number and the
+// place behind it; or a replacement of a slot's rule, with the ends of the new one's lists.
 enum Next {
     End,
     Remove(u32, usize),
     Add(u32, usize, usize, usize),
     Load(usize, usize, usize),
     Checklist(u32, u32, usize),
+    Replace(u32, u32, usize, usize, usize),
+}
+
+// The rule at a place: cut short, or its head, where its positives begin, where its negatives do, and where these end.
+enum RuleFound {
+    Cut,
+    At(u32, usize, usize, usize),
 }
 
 // One step: was there a call, what did it answer, where does the next stand, and the table.
@@ -55,13 +64,32 @@ fn added(answer: AddAnswer) -> u32
     }
 }
 
-// What a removal, a load or a call of a checklist answered, as a number.
+// What a call that does not take a slot answered, as a number.
 fn accepted(answer: ChangeAnswer) -> u32
     ensures { λ r. ⌜ r ≡ encode (bookChange answer) ⌝ }
 {
     match answer {
         ChangeAnswer::Accepted => 65536,
         ChangeAnswer::Refused(f) => 65536 + refusal_number(f),
+    }
+}
+
+// The step that a call made which hands back a table and answers whether it was accepted; the next call stands behind.
+fn step_changed(done: Changed, behind: usize) -> Stepped
+    ensures { λ r. ⌜ r ≡ record {
+      more = true;
+      answer = encode (bookChange (done .answer));
+      at = behind;
+      table = done .table;
+    } ⌝ }
+{
+    let answer = done.answer;
+    let after = done.table;
+    Stepped {
+        more: true,
+        answer: accepted(answer),
+        at: behind,
+        table: after,
     }
 }
 
@@ -100,6 +128,30 @@ fn next_checklist(kind: u32, number: u32, behind: usize) -> Next
     Next::Checklist(kind - 3, number, behind)
 }
 
+// Finds the rule whose head stands at a place of the list: an addition's and a replacement's words tell it alike.
+fn find_rule(words: &[u32], at: usize) -> RuleFound
+    ensures { λ r. ⌜ FindRule (now (words .entry)) at r ⌝ }
+{
+    let n = words.len();
+    if at > n {
+        return RuleFound::Cut;
+    }
+    if n - at < 3 {
+        return RuleFound::Cut;
+    }
+    let from = at + 3;
+    let positives = words[at + 1] as usize;
+    if n - from < positives {
+        return RuleFound::Cut;
+    }
+    let middle = from + positives;
+    let negatives = words[at + 2] as usize;
+    if n - middle < negatives {
+        return RuleFound::Cut;
+    }
+    RuleFound::At(words[at], from, middle, middle + negatives)
+}
+
 // Reads the call at a place of the list.
 fn next_call(words: &[u32], files: &[u8], at: usize) -> Next
     ensures { λ r. ⌜ NextOf (now (words .entry)) (now (files .entry)) at r ⌝ }
@@ -112,44 +164,28 @@ fn next_call(words: &[u32], files: &[u8], at: usize) -> Next
         return Next::End;
     }
     let kind = words[at];
+    let number = words[at + 1];
     if kind == 0 {
-        return Next::Remove(words[at + 1], at + 2);
+        return Next::Remove(number, at + 2);
+    }
+    if kind == 1 {
+        let rule = find_rule(words, at + 1);
+        return match rule {
+            RuleFound::Cut => Next::End,
+            RuleFound::At(head, from, middle, to) => Next::Add(head, from, middle, to),
+        };
     }
     if kind == 2 {
         return next_load(words, files, at);
     }
-    if kind != 1 {
-        return next_checklist(kind, words[at + 1], at + 2);
+    if kind == 7 {
+        let rule = find_rule(words, at + 2);
+        return match rule {
+            RuleFound::Cut => Next::End,
+            RuleFound::At(head, from, middle, to) => Next::Replace(number, head, from, middle, to),
+        };
     }
-    if n - at < 4 {
-        return Next::End;
-    }
-    let from = at + 4;
-    let positives = words[at + 2] as usize;
-    if n - from < positives {
-        return Next::End;
-    }
-    let middle = from + positives;
-    let negatives = words[at + 3] as usize;
-    if n - middle < negatives {
-        return Next::End;
-    }
-    Next::Add(words[at + 1], from, middle, middle + negatives)
-}
-
-// Loads a file; the next call stands behind.
-fn step_load(file: &[u8], behind: usize) -> Stepped
-    ensures { λ r. ⌜ LoadMade (now (file .entry)) behind r ⌝ }
-{
-    let done = load(file);
-    let answer = done.answer;
-    let after = done.table;
-    Stepped {
-        more: true,
-        answer: accepted(answer),
-        at: behind,
-        table: after,
-    }
+    next_checklist(kind, number, at + 2)
 }
 
 // Makes the call of a checklist.
@@ -168,21 +204,6 @@ fn call_checklist(which: u32, number: u32, table: Table) -> Changed
     skip_withdrawn(table, number)
 }
 
-// Makes it; the next call stands behind.
-fn step_checklist(which: u32, number: u32, table: Table, behind: usize) -> Stepped
-    ensures { λ r. ⌜ ChecklistMade table (checklistCall which number) behind r ⌝ }
-{
-    let done = call_checklist(which, number, table);
-    let answer = done.answer;
-    let list = done.table;
-    Stepped {
-        more: true,
-        answer: accepted(answer),
-        at: behind,
-        table: list,
-    }
-}
-
 // Makes the call at a place of the list, if one stands there.
 fn step(words: &[u32], files: &[u8], at: usize, table: Table) -> Stepped
     ensures { λ r. ⌜ StepOf (now (words .entry)) (now (files .entry)) at table r ⌝ }
@@ -195,17 +216,7 @@ fn step(words: &[u32], files: &[u8], at: usize, table: Table) -> Stepped
             at: at,
             table: table,
         },
-        Next::Remove(slot, behind) => {
-            let done = remove(table, slot);
-            let answer = done.answer;
-            let after = done.table;
-            Stepped {
-                more: true,
-                answer: accepted(answer),
-                at: behind,
-                table: after,
-            }
-        },
+        Next::Remove(slot, behind) => step_changed(remove(table, slot), behind),
         Next::Add(head, from, middle, to) => {
             let done = add(table, head, &words[from..middle], &words[middle..to]);
             let answer = done.answer;
@@ -217,8 +228,14 @@ fn step(words: &[u32], files: &[u8], at: usize, table: Table) -> Stepped
                 table: after,
             }
         },
-        Next::Load(from, to, behind) => step_load(&files[from..to], behind),
-        Next::Checklist(which, number, behind) => step_checklist(which, number, table, behind),
+        Next::Load(from, to, behind) => step_changed(load(&files[from..to]), behind),
+        Next::Checklist(which, number, behind) => {
+            step_changed(call_checklist(which, number, table), behind)
+        },
+        Next::Replace(slot, head, from, middle, to) => {
+            let done = replace(table, slot, head, &words[from..middle], &words[middle..to]);
+            step_changed(done, to)
+        },
     }
 }
 

@@ -13,7 +13,7 @@ use Rattle.sheets.specs.Lines.{Prints}
 use Rattle.judging.specs.declared.Judged.{Judged}
 use Rattle.judging.specs.declared.Judged.the-variants as judged
 
--- The lists of an addition, as they stand beside it.
+-- The lists of an addition or a replacement, as they stand beside it.
 abbrev pub positives : Parsed → List ℕ
 positives p = take (p .positives) (p .entries)
 

@@ -11,14 +11,18 @@ use lib.ListN.{length, take, drop, replicate, length-replicate, length-append, d
 use lib.Seq.{sets, sets-eq, take-append-seam, drop-append-seam, drop-append-add}
 use borrow.Author.Tests.{le-leb, lt-leb, lt-ltb, le-ltb}
 use Rattle.tokens.specs.Tokens.{pieces, filled, tokens, one}
-use Rattle.lines.specs.Commands.{Command, add, after, made, command}
+use Rattle.lines.specs.Commands as spec
+use Rattle.lines.specs.Commands.{after, made, command}
 use Rattle.lines.specs.Readings.{LINE, ENTRIES, spaces, blank, Line, is-blank, too-long, no-command, is, whether}
 use Rattle.lines.specs.Readings.{lineOf, reading, positivesOf, negativesOf, Answers}
 use Rattle.tokens.specs.Parts.{firstOf, restOf, empty, numberOf}
-use Rattle.lines.specs.Parts.{leadingNumbers, pastNumbers, listed}
+use Rattle.lines.specs.Parts.{leadingNumbers, pastNumbers, changeOf, IsChange, listed}
 use Rattle.places.specs.Places.{isSpace}
 use Rattle.places.specs.declared.Place.{Place}
-use Rattle.lines.specs.declared.Command.the-variants.{Add, Remove, Why, Labels}
+use Rattle.lines.specs.declared.read.Change.{Change}
+use Rattle.lines.specs.declared.read.Change.the-variants.{Adds, Replaces}
+use Rattle.lines.specs.declared.Command.{Command}
+use Rattle.lines.specs.declared.Command.the-variants.{Add, Remove, Replace, Why, Labels}
 use Rattle.lines.specs.declared.Reading.{Reading}
 use Rattle.lines.specs.declared.Reading.the-variants as of
 use Rattle.tokens.specs.declared.Number.{Number}
@@ -44,6 +48,7 @@ none-positive of.TooLong = refl
 none-positive of.NoCommand = refl
 none-positive (of.Command (Add head)) = refl
 none-positive (of.Command (Remove slot)) = refl
+none-positive (of.Command (Replace slot head)) = refl
 none-positive (of.Command (Why atom)) = refl
 none-positive (of.Command Labels) = refl
 
@@ -53,21 +58,22 @@ none-negative of.TooLong = refl
 none-negative of.NoCommand = refl
 none-negative (of.Command (Add head)) = refl
 none-negative (of.Command (Remove slot)) = refl
+none-negative (of.Command (Replace slot head)) = refl
 none-negative (of.Command (Why atom)) = refl
 none-negative (of.Command Labels) = refl
 
 -- A number that was found, or none, is what a form has after its sign.
-pub made-read : (f : ℕ → Command) {o p : Number} {n : Option ℕ} {r : Parsed} → numberOf o ≡ n → o ≡ p
+pub made-read : (f : ℕ → spec.Command) {o p : Number} {n : Option ℕ} {r : Parsed} → numberOf o ≡ n → o ≡ p
     → Answers (whether (made f (numberOf p))) r → Answers (whether (made f n)) r
 made-read f e g a =
     as-read a (sym (ap (λ (q : Number). whether (made f (numberOf q))) g) ∙ ap (λ (m : Option ℕ). whether (made f m)) e)
 
--- What the lists of an addition are, by where the numbers end.
-module _ (h : ℕ) (ts : List (List ℕ)) where
+-- What the lists of a rule are, by where the numbers end.
+module _ (c : Change) (h : ℕ) (ts : List (List ℕ)) where
   abbrev said : Line
-  said = whether (listed h ts)
+  said = whether (listed c h ts)
 
-  pub said-over : empty (pastNumbers ts) ≡ true → is (add h (leadingNumbers ts) []) ≡ said
+  pub said-over : empty (pastNumbers ts) ≡ true → is (changeOf c h (leadingNumbers ts) []) ≡ said
   said-over e = let w = over ts e in rw (w .positives, w .negatives)
 
   pub said-spoiled : empty (pastNumbers ts) ≡ false → one 33 (firstOf (pastNumbers ts)) ≡ false → no-command ≡ said
@@ -75,7 +81,7 @@ module _ (h : ℕ) (ts : List (List ℕ)) where
 
   module _ (bang : one 33 (firstOf (pastNumbers ts)) ≡ true) where
     pub said-parted : empty (pastNumbers (restOf (pastNumbers ts))) ≡ true
-        → is (add h (leadingNumbers ts) (leadingNumbers (restOf (pastNumbers ts)))) ≡ said
+        → is (changeOf c h (leadingNumbers ts) (leadingNumbers (restOf (pastNumbers ts)))) ≡ said
     said-parted e =
         let w = parted ts bang in
         rw (w .positives, w .negatives, numerals-all (restOf (pastNumbers ts)) e)
@@ -118,12 +124,22 @@ module _ (ps ns : List ℕ) (size : length ps + length ns ≤ ENTRIES) where
       ∙ append-assoc ps ns (zeros ((ENTRIES - length ps) - length ns))
       ∙ ap (λ (k : ℕ). ps ++ (ns ++ zeros k)) left
 
--- The answer that has an addition's lists.
-pub lists-answer : (q : Place) (h : ℕ) (ps ns : List ℕ) (p n : ℕ) (xs : List ℕ) → length ps + length ns ≤ ENTRIES
+-- The lists of a change are those of its rule.
+positives-of : (c : Change) (h : ℕ) (ps ns : List ℕ) → length ps ≡ length (positivesOf (is (changeOf c h ps ns)))
+positives-of Adds h ps ns = refl
+positives-of (Replaces s) h ps ns = refl
+
+negatives-of : (c : Change) (h : ℕ) (ps ns : List ℕ) → length ns ≡ length (negativesOf (is (changeOf c h ps ns)))
+negatives-of Adds h ps ns = refl
+negatives-of (Replaces s) h ps ns = refl
+
+-- The answer that has a rule's lists.
+pub lists-answer : (c : Change) (h : ℕ) (x : Command) → IsChange c h x
+    → (q : Place) (ps ns : List ℕ) (p n : ℕ) (xs : List ℕ) → length ps + length ns ≤ ENTRIES
     → p ≡ length ps → n ≡ length ns → xs ≡ sets (sets (zeros ENTRIES) 0 ps) p ns
-    → Answers (is (add h ps ns))
-    (record { place = q; reading = of.Command (Add h); positives = p; negatives = n; entries = xs })
-lists-answer q h ps ns p n xs size e f g =
+    → Answers (is (changeOf c h ps ns))
+    (record { place = q; reading = of.Command x; positives = p; negatives = n; entries = xs })
+lists-answer c h x same q ps ns p n xs size e f g =
     let zs = zeros (ENTRIES - (length ps + length ns)) in
     let whole : xs ≡ ps ++ (ns ++ zs) =
     g ∙ ap (λ (k : ℕ). sets (sets (zeros ENTRIES) 0 ps) k ns) e ∙ behind-both ps ns size in
@@ -131,7 +147,13 @@ lists-answer q h ps ns p n xs size e f g =
     let two : take n (drop p xs) ≡ ns = rw (whole, e, f, drop-append-seam ps (ns ++ zs)) (take-append-seam ns zs) in
     let three : drop (p + n) xs ≡ zeros (ENTRIES - (p + n)) =
     rw (whole, e, f, drop-append-add ps (ns ++ zs) (length ns)) (drop-append-seam ns zs) in
-    record { meaning = rw (one, two); positives = e; negatives = f; within = omega arith; filler = three }
+    record {
+      meaning = rw (one, two, same ps ns);
+      positives = e ∙ positives-of c h ps ns;
+      negatives = f ∙ negatives-of c h ps ns;
+      within = omega arith;
+      filler = three;
+    }
 
 pub rest-length : (ts : List (List ℕ)) → length (restOf ts) ≤ length ts
 rest-length [] = omega arith

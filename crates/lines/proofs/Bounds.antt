@@ -1,5 +1,5 @@
 -- No line has more than 57 entries: it would take more tokens than 120 bytes can hold. Assumes nothing.
-use Prim.Native.Nat.{ℕ, suc, _+_, _≤_}
+use Prim.Native.Nat.{ℕ, suc, _+_, _-_, _≤_}
 use native.Mathlib.Omega.{arith}
 use mathlib.Core.Path.{_≡_, refl}
 use mathlib.Core.Bool.{Bool, true, false, cond}
@@ -9,9 +9,9 @@ use lib.ListN.{length}
 use Rattle.tokens.specs.Tokens.{tokens}
 use Rattle.tokens.specs.Numerals.{numeral}
 use Rattle.tokens.specs.Tokens.{one}
-use Rattle.lines.specs.Commands.{add, remove, why, consed, numerals, before, after, added}
-use Rattle.lines.specs.Commands.{addition, only, made, listing, form, command}
-use Rattle.lines.specs.Readings.{LINE}
+use Rattle.lines.specs.Commands.{Command, add, remove, replace, why, labels, consed, numerals, before, after}
+use Rattle.lines.specs.Commands.{madeOfRule, ruleForm, inSlot, replacement, only, made, listing, form, command}
+use Rattle.lines.specs.Readings.{LINE, is, positivesOf, negativesOf}
 use Rattle.tokens.proofs.Tokens.{tokens-bound}
 
 -- As many numbers as tokens.
@@ -36,58 +36,73 @@ parts-length (t ∷ ts) = go (one 33 t) refl (parts-length ts)
     go true b h = rw b (omega arith)
     go false b h = rw b (omega arith)
 
-module _ (h : ℕ) (ps ns : List ℕ) where
-  abbrev entries : ℕ
-  entries = length ps + length ns
+-- The entries of a command, and what makes a command of a rule's entries.
+abbrev entries : Command → ℕ
+entries c = length (positivesOf (is c)) + length (negativesOf (is c))
 
-  added-length : (o : Option ℕ) (p n : Option (List ℕ)) → added o p n ≡ some (add h ps ns)
-      → (p ≡ some ps) × (n ≡ some ns)
-  added-length none p n e = absurd (let z : _≡_ {A = ℕ} 0 1 = cc in omega arith)
-  added-length (some k) none n e = absurd (let z : _≡_ {A = ℕ} 0 1 = cc in omega arith)
-  added-length (some k) (some qs) none e = absurd (let z : _≡_ {A = ℕ} 0 1 = cc in omega arith)
-  added-length (some k) (some qs) (some ms) e = (cc, cc)
+abbrev OfRule : (ℕ → List ℕ → List ℕ → Command) → Type 0
+OfRule f = (h : ℕ) (ps ns : List ℕ) → entries (f h ps ns) ≡ length ps + length ns
 
-  addition-length : (ts : List (List ℕ)) → addition ts ≡ some (add h ps ns) → entries + 2 ≤ length ts
-  unfolding addition
-  addition-length [] e = absurd (let z : _≡_ {A = ℕ} 0 1 = cc in omega arith)
-  addition-length (t ∷ []) e = absurd (let z : _≡_ {A = ℕ} 0 1 = cc in omega arith)
-  addition-length (t ∷ c ∷ ts) e = go (one 58 c) e
+module _ (c : Command) where
+  module _ (f : ℕ → List ℕ → List ℕ → Command) (same : OfRule f) where
+    rule-made : (o : Option ℕ) (p n : Option (List ℕ)) (j k : ℕ) → ((ps : List ℕ) → p ≡ some ps → length ps ≡ j)
+        → ((ns : List ℕ) → n ≡ some ns → length ns ≡ k) → madeOfRule f o p n ≡ some c → entries c ≡ j + k
+    rule-made none p n j k l m e = absurd (let z : _≡_ {A = ℕ} 0 1 = cc in omega arith)
+    rule-made (some h) none n j k l m e = absurd (let z : _≡_ {A = ℕ} 0 1 = cc in omega arith)
+    rule-made (some h) (some ps) none j k l m e = absurd (let z : _≡_ {A = ℕ} 0 1 = cc in omega arith)
+    rule-made (some h) (some ps) (some ns) j k l m e =
+        let q : c ≡ f h ps ns = cc in
+        rw q (omega (arith, same h ps ns, l ps refl, m ns refl))
+
+    rule-length : (ts : List (List ℕ)) → ruleForm f ts ≡ some c → entries c + 2 ≤ length ts
+    unfolding ruleForm
+    rule-length [] e = absurd (let z : _≡_ {A = ℕ} 0 1 = cc in omega arith)
+    rule-length (t ∷ []) e = absurd (let z : _≡_ {A = ℕ} 0 1 = cc in omega arith)
+    rule-length (t ∷ s ∷ ts) e = go (one 58 s) e
+      where
+        go : (b : Bool)
+            → cond b (madeOfRule f (numeral t) (numerals (before ts)) (numerals (after ts))) none ≡ some c
+            → entries c + 2 ≤ suc (suc (length ts))
+        go true e =
+            let w = rule-made (numeral t) (numerals (before ts)) (numerals (after ts))
+            (length (before ts)) (length (after ts)) (numerals-length (before ts)) (numerals-length (after ts)) e in
+            omega (arith, w, parts-length ts)
+        go false e = absurd (let z : _≡_ {A = ℕ} 0 1 = cc in omega arith)
+
+  replacement-length : (ts : List (List ℕ)) → replacement ts ≡ some c → entries c + 3 ≤ length ts
+  unfolding replacement
+  replacement-length [] e = absurd (let z : _≡_ {A = ℕ} 0 1 = cc in omega arith)
+  replacement-length (t ∷ ts) e = go (numeral t) e
     where
-      go : (b : Bool)
-          → cond b (added (numeral t) (numerals (before ts)) (numerals (after ts))) none ≡ some (add h ps ns)
-          → entries + 2 ≤ suc (suc (length ts))
-      go true e =
-          let w = added-length (numeral t) (numerals (before ts)) (numerals (after ts)) e in
-          omega (arith, numerals-length (before ts) ps (w .0), numerals-length (after ts) ns (w .1), parts-length ts)
-      go false e = absurd (let z : _≡_ {A = ℕ} 0 1 = cc in omega arith)
+      go : (o : Option ℕ) → inSlot o ts ≡ some c → entries c + 3 ≤ suc (length ts)
+      go none e = absurd (let z : _≡_ {A = ℕ} 0 1 = cc in omega arith)
+      go (some s) e = omega (arith, rule-length (replace s) (λ h ps ns. refl) ts e)
 
-  remove-not : (o : Option ℕ) → made remove o ≡ some (add h ps ns) → ⊥
-  remove-not none e = let z : _≡_ {A = ℕ} 0 1 = cc in omega arith
-  remove-not (some n) e = let z : _≡_ {A = ℕ} 0 1 = cc in omega arith
+  made-none : (f : ℕ → Command) → ((n : ℕ) → entries (f n) ≡ 0) → (o : Option ℕ) → made f o ≡ some c → entries c ≡ 0
+  made-none f same none e = absurd (let z : _≡_ {A = ℕ} 0 1 = cc in omega arith)
+  made-none f same (some n) e = let q : c ≡ f n = cc in rw q (same n)
 
-  why-not : (o : Option ℕ) → made why o ≡ some (add h ps ns) → ⊥
-  why-not none e = let z : _≡_ {A = ℕ} 0 1 = cc in omega arith
-  why-not (some n) e = let z : _≡_ {A = ℕ} 0 1 = cc in omega arith
-
-  listing-not : (ts : List (List ℕ)) → listing ts ≡ some (add h ps ns) → ⊥
+  listing-none : (ts : List (List ℕ)) → listing ts ≡ some c → entries c ≡ 0
   unfolding listing
-  listing-not [] e = let z : _≡_ {A = ℕ} 0 1 = cc in omega arith
-  listing-not (t ∷ ts) e = let z : _≡_ {A = ℕ} 0 1 = cc in omega arith
+  listing-none [] e = let q : c ≡ labels = cc in rw q
+  listing-none (t ∷ ts) e = absurd (let z : _≡_ {A = ℕ} 0 1 = cc in omega arith)
 
-  form-length : (ts : List (List ℕ)) → form ts ≡ some (add h ps ns) → entries + 3 ≤ length ts
+  form-length : (ts : List (List ℕ)) → form ts ≡ some c → entries c ≤ length ts - 3
   unfolding form
   form-length [] e = absurd (let z : _≡_ {A = ℕ} 0 1 = cc in omega arith)
-  form-length (t ∷ ts) e = go (one 65 t) (one 82 t) (one 87 t) (one 76 t) e
+  form-length (t ∷ ts) e = go (one 65 t) (one 82 t) (one 80 t) (one 87 t) (one 76 t) e
     where
-      go : (a r w l : Bool) → cond a (addition ts)
-          (cond r (made remove (only ts)) (cond w (made why (only ts)) (cond l (listing ts) none))) ≡ some (add h ps ns)
-          → entries + 3 ≤ suc (length ts)
-      go true r w l e = omega (arith, addition-length ts e)
-      go false true w l e = absurd (remove-not (only ts) e)
-      go false false true l e = absurd (why-not (only ts) e)
-      go false false false true e = absurd (listing-not ts e)
-      go false false false false e = absurd (let z : _≡_ {A = ℕ} 0 1 = cc in omega arith)
+      go : (a r p w l : Bool) → cond a (ruleForm add ts)
+          (cond r (made remove (only ts))
+          (cond p (replacement ts) (cond w (made why (only ts)) (cond l (listing ts) none)))) ≡ some c
+          → entries c ≤ suc (length ts) - 3
+      go true r p w l e = omega (arith, rule-length add (λ h ps ns. refl) ts e)
+      go false true p w l e = omega (arith, made-none remove (λ n. refl) (only ts) e)
+      go false false true w l e = omega (arith, replacement-length ts e)
+      go false false false true l e = omega (arith, made-none why (λ n. refl) (only ts) e)
+      go false false false false true e = omega (arith, listing-none ts e)
+      go false false false false false e = absurd (let z : _≡_ {A = ℕ} 0 1 = cc in omega arith)
 
-  pub entries-most : (line : List ℕ) → length line ≤ LINE → command line ≡ some (add h ps ns) → entries ≤ 57
+  pub entries-most : (line : List ℕ) → length line ≤ LINE → command line ≡ some c → entries c ≤ 57
   unfolding command
   entries-most line l e = omega (arith, form-length (tokens line) e, tokens-bound line)

@@ -5,15 +5,16 @@ use mathlib.Core.Path.{_≡_, refl, sym}
 use mathlib.Core.Bool.{Bool, true, false, cond}
 use mathlib.Core.List.{List, [], _∷_}
 use mathlib.Core.Option.{Option, none, some}
-use lib.ListN.{length, getD}
+use lib.ListN.{length}
 use lib.Dec.{eqb}
 use borrow.Author.Tests.{eqb-true}
 use Rattle.tokens.specs.Numerals.{digits, needless, spelledFrom, numeral}
 use Rattle.tokens.specs.Tokens.{one}
-use Rattle.lines.specs.Commands.{remove, why, labels, numerals, before, after, added}
-use Rattle.lines.specs.Commands.{addition, only, made, listing, form}
+use Rattle.lines.specs.Commands.{Command, add, remove, replace, why, labels, numerals, before, after}
+use Rattle.lines.specs.Commands.{madeOfRule, ruleForm, inSlot, replacement, only, made, listing, form}
 use Rattle.tokens.specs.Parts.{firstOf, restOf, empty}
-use Rattle.lines.specs.Parts.{leadingNumbers, pastNumbers, listed}
+use Rattle.lines.specs.Parts.{leadingNumbers, pastNumbers, changeOf, listed}
+use Rattle.lines.specs.declared.read.Change.{Change}
 
 -- A number alone; nothing.
 
@@ -44,39 +45,56 @@ listing-more (t ∷ ts) e = refl
 
 -- The first token of a form decides.
 
-pub form-first : (ts : List (List ℕ)) → cond (one 65 (firstOf ts)) (addition (restOf ts))
+pub form-first : (ts : List (List ℕ)) → cond (one 65 (firstOf ts)) (ruleForm add (restOf ts))
     (cond (one 82 (firstOf ts)) (made remove (only (restOf ts)))
+    (cond (one 80 (firstOf ts)) (replacement (restOf ts))
     (cond (one 87 (firstOf ts)) (made why (only (restOf ts)))
-    (cond (one 76 (firstOf ts)) (listing (restOf ts)) none))) ≡ form ts
+    (cond (one 76 (firstOf ts)) (listing (restOf ts)) none)))) ≡ form ts
 unfolding form one
 form-first [] = refl
 form-first (t ∷ ts) = refl
 
-pub addition-first : (ts : List (List ℕ)) → cond (one 58 (firstOf (restOf ts)))
-    (added (numeral (firstOf ts)) (numerals (before (restOf (restOf ts)))) (numerals (after (restOf (restOf ts))))) none
-    ≡ addition ts
-unfolding addition one
-addition-first [] = refl
-addition-first (h ∷ []) = refl
-addition-first (h ∷ c ∷ ts) = refl
+pub rule-first : (f : ℕ → List ℕ → List ℕ → Command) (ts : List (List ℕ)) → cond (one 58 (firstOf (restOf ts)))
+    (madeOfRule f (numeral (firstOf ts))
+    (numerals (before (restOf (restOf ts)))) (numerals (after (restOf (restOf ts))))) none
+    ≡ ruleForm f ts
+unfolding ruleForm one
+rule-first f [] = refl
+rule-first f (h ∷ []) = refl
+rule-first f (h ∷ c ∷ ts) = refl
+
+pub replacement-first : (ts : List (List ℕ)) → inSlot (numeral (firstOf ts)) (restOf ts) ≡ replacement ts
+unfolding replacement numeral
+replacement-first [] = refl
+replacement-first (s ∷ ts) = refl
+
+module _ (c : Change) (ts : List (List ℕ)) where
+  abbrev stated : Option Command
+  stated = ruleForm (changeOf c) ts
+
+  pub rule-no-head : numeral (firstOf ts) ≡ none → none ≡ stated
+  rule-no-head e = go (one 58 (firstOf (restOf ts))) refl
+    where
+      go : (b : Bool) → one 58 (firstOf (restOf ts)) ≡ b → none ≡ stated
+      go true t = rw (← rule-first (changeOf c) ts, t, e)
+      go false t = rw (← rule-first (changeOf c) ts, t)
+
+  pub rule-no-sign : one 58 (firstOf (restOf ts)) ≡ false → none ≡ stated
+  rule-no-sign t = rw (← rule-first (changeOf c) ts, t)
+
+  pub rule-is : (h : ℕ) (us : List (List ℕ)) → numeral (firstOf ts) ≡ some h → one 58 (firstOf (restOf ts)) ≡ true
+      → us ≡ restOf (restOf ts) → listed c h us ≡ stated
+  rule-is h us e t u = rw (← rule-first (changeOf c) ts, t, e, u)
 
 module _ (ts : List (List ℕ)) where
-  pub addition-no-head : numeral (firstOf ts) ≡ none → none ≡ addition ts
-  addition-no-head e = go (one 58 (firstOf (restOf ts))) refl
-    where
-      go : (b : Bool) → one 58 (firstOf (restOf ts)) ≡ b → none ≡ addition ts
-      go true t = rw (← addition-first ts, t, e)
-      go false t = rw (← addition-first ts, t)
+  pub replacement-no-slot : numeral (firstOf ts) ≡ none → none ≡ replacement ts
+  replacement-no-slot e = rw (← replacement-first ts, e)
 
-  pub addition-no-sign : one 58 (firstOf (restOf ts)) ≡ false → none ≡ addition ts
-  addition-no-sign t = rw (← addition-first ts, t)
+  pub replacement-is : (s : ℕ) → numeral (firstOf ts) ≡ some s → ruleForm (replace s) (restOf ts) ≡ replacement ts
+  replacement-is s e = rw (← replacement-first ts, e)
 
-  pub addition-is : (h : ℕ) (us : List (List ℕ)) → numeral (firstOf ts) ≡ some h → one 58 (firstOf (restOf ts)) ≡ true
-      → us ≡ restOf (restOf ts) → listed h us ≡ addition ts
-  addition-is h us e t u = rw (← addition-first ts, t, e, u)
-
-  -- The first token that is one of the four signs.
-  pub form-add : one 65 (firstOf ts) ≡ true → addition (restOf ts) ≡ form ts
+  -- The first token that is one of the five signs.
+  pub form-add : one 65 (firstOf ts) ≡ true → ruleForm add (restOf ts) ≡ form ts
   form-add a = rw (← form-first ts, a)
 
   module _ (a : one 65 (firstOf ts) ≡ false) where
@@ -84,15 +102,19 @@ module _ (ts : List (List ℕ)) where
     form-remove r = rw (← form-first ts, a, r)
 
     module _ (r : one 82 (firstOf ts) ≡ false) where
-      pub form-why : one 87 (firstOf ts) ≡ true → made why (only (restOf ts)) ≡ form ts
-      form-why w = rw (← form-first ts, a, r, w)
+      pub form-replace : one 80 (firstOf ts) ≡ true → replacement (restOf ts) ≡ form ts
+      form-replace p = rw (← form-first ts, a, r, p)
 
-      module _ (w : one 87 (firstOf ts) ≡ false) where
-        pub form-labels : one 76 (firstOf ts) ≡ true → listing (restOf ts) ≡ form ts
-        form-labels l = rw (← form-first ts, a, r, w, l)
+      module _ (p : one 80 (firstOf ts) ≡ false) where
+        pub form-why : one 87 (firstOf ts) ≡ true → made why (only (restOf ts)) ≡ form ts
+        form-why w = rw (← form-first ts, a, r, p, w)
 
-        pub form-none : one 76 (firstOf ts) ≡ false → none ≡ form ts
-        form-none l = rw (← form-first ts, a, r, w, l)
+        module _ (w : one 87 (firstOf ts) ≡ false) where
+          pub form-labels : one 76 (firstOf ts) ≡ true → listing (restOf ts) ≡ form ts
+          form-labels l = rw (← form-first ts, a, r, p, w, l)
+
+          pub form-none : one 76 (firstOf ts) ≡ false → none ≡ form ts
+          form-none l = rw (← form-first ts, a, r, p, w, l)
 
 -- The lists: numbers, then the end, or `!` and numbers again.
 

@@ -8,8 +8,8 @@ use Rattle.fields.specs.Texts.{bytes}
 use Rattle.tokens.specs.Tokens.{onto, pieces, filled, tokens}
 use Rattle.tokens.specs.Numerals.{digits, valueFrom, needless, spelledFrom, numeral}
 use Rattle.tokens.specs.Tokens.{one}
-use Rattle.lines.specs.Commands.{add, remove, why, labels, numerals, before, after}
-use Rattle.lines.specs.Commands.{addition, only, listing, form, command}
+use Rattle.lines.specs.Commands.{add, remove, replace, why, labels, numerals, before, after}
+use Rattle.lines.specs.Commands.{ruleForm, replacement, only, listing, form, command}
 use Rattle.lines.specs.Readings.{spaces, blank, Line, is-blank, too-long, no-command, is, reading}
 
 record Example : Type 0 where
@@ -36,6 +36,9 @@ examples =
     ∷ example "A 1 : 1 2 3 4 5 6 7 8 9" (is (add 1 (1 ∷ 2 ∷ 3 ∷ 4 ∷ 5 ∷ 6 ∷ 7 ∷ 8 ∷ 9 ∷ []) []))
     ∷ example "A 1 : 1 2 3 4 5 6 7 8 9 x" no-command
     ∷ example "  R   3  " (is (remove 3))
+    ∷ example "P 3 1 : 2 ! 4" (is (replace 3 1 (2 ∷ []) (4 ∷ [])))
+    ∷ example " P  255  0 : " (is (replace 255 0 [] []))
+    ∷ example "P 256 256 : 1 2 3 4 5 6 7 8 9" (is (replace 256 256 (1 ∷ 2 ∷ 3 ∷ 4 ∷ 5 ∷ 6 ∷ 7 ∷ 8 ∷ 9 ∷ []) []))
     ∷ example "W 1" (is (why 1))
     ∷ example "L" (is labels)
     ∷ example "R 0" (is (remove 0))
@@ -58,6 +61,17 @@ examples =
     ∷ example "R 01" no-command
     ∷ example "R 100000" no-command
     ∷ example "R x" no-command
+    ∷ example "P" no-command
+    ∷ example "P 1" no-command
+    ∷ example "P 1 2" no-command
+    ∷ example "P : 1" no-command
+    ∷ example "P 1 : 2" no-command
+    ∷ example "P 1 2 3 : 4" no-command
+    ∷ example "P x 1 :" no-command
+    ∷ example "P 1 x :" no-command
+    ∷ example "P 01 1 :" no-command
+    ∷ example "P 1 2 : 3 ! 4 ! 5" no-command
+    ∷ example "p 0 1 :" no-command
     ∷ example "L 1" no-command
     ∷ example "l" no-command
     ∷ example "W" no-command
@@ -72,9 +86,10 @@ examples =
     ∷ record { line = replicate 120 65; what = no-command }
     ∷ record { line = replicate 121 65; what = too-long }
     ∷ record { line = bytes "A 1 :" ++ sevens 57; what = is (add 1 (replicate 57 7) []) }
+    ∷ record { line = bytes "P 0 1 :" ++ sevens 56; what = is (replace 0 1 (replicate 56 7) []) }
     ∷ []
 
 holds : map (λ (e : Example). reading (e .line)) examples ≡ map (λ (e : Example). e .what) examples
 unfolding bytes example sevens examples onto pieces filled tokens digits valueFrom needless spelledFrom numeral
-    one numerals before after addition only listing form command spaces blank reading
+    one numerals before after ruleForm replacement only listing form command spaces blank reading
 holds = refl

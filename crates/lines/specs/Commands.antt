@@ -10,6 +10,7 @@ use Rattle.tokens.specs.Numerals.{numeral}
 pub data Command : Type 0 where
   add : ℕ → List ℕ → List ℕ → Command  -- head, positives, negatives
   remove : ℕ → Command  -- slot
+  replace : ℕ → ℕ → List ℕ → List ℕ → Command  -- slot, head, positives, negatives
   why : ℕ → Command  -- atom
   labels : Command
 
@@ -32,17 +33,28 @@ unfoldable pub after : List (List ℕ) → List (List ℕ)
 after [] = []
 after (t ∷ ts) = cond (one (code "!") t) ts (after ts)
 
-abbrev pub added : Option ℕ → Option (List ℕ) → Option (List ℕ) → Option Command
-added none ps ns = none
-added (some h) none ns = none
-added (some h) (some ps) none = none
-added (some h) (some ps) (some ns) = some (add h ps ns)
+-- What is made of a rule: its head, its positives and its negatives, if each is there.
+abbrev pub madeOfRule : (ℕ → List ℕ → List ℕ → Command) → Option ℕ → Option (List ℕ) → Option (List ℕ) → Option Command
+madeOfRule f none ps ns = none
+madeOfRule f (some h) none ns = none
+madeOfRule f (some h) (some ps) none = none
+madeOfRule f (some h) (some ps) (some ns) = some (f h ps ns)
 
--- What follows `A`: head, `:`, positives, then optionally `!` and negatives.
-unfoldable pub addition : List (List ℕ) → Option Command
-addition [] = none
-addition (h ∷ []) = none
-addition (h ∷ c ∷ ts) = cond (one (code ":") c) (added (numeral h) (numerals (before ts)) (numerals (after ts))) none
+-- What follows `A`, or the slot of `P`: head, `:`, positives, then optionally `!` and negatives.
+unfoldable pub ruleForm : (ℕ → List ℕ → List ℕ → Command) → List (List ℕ) → Option Command
+ruleForm f [] = none
+ruleForm f (h ∷ []) = none
+ruleForm f (h ∷ c ∷ ts) =
+    cond (one (code ":") c) (madeOfRule f (numeral h) (numerals (before ts)) (numerals (after ts))) none
+
+-- What follows `P`: a slot, then what follows `A`.
+abbrev pub inSlot : Option ℕ → List (List ℕ) → Option Command
+inSlot none ts = none
+inSlot (some s) ts = ruleForm (replace s) ts
+
+unfoldable pub replacement : List (List ℕ) → Option Command
+replacement [] = none
+replacement (s ∷ ts) = inSlot (numeral s) ts
 
 -- What follows `R` or `W`: one number.
 unfoldable pub only : List (List ℕ) → Option ℕ
@@ -59,14 +71,15 @@ unfoldable pub listing : List (List ℕ) → Option Command
 listing [] = some labels
 listing (t ∷ ts) = none
 
--- The forms: `A`, `R`, `W` or `L`, and what follows it.
+-- The forms: `A`, `R`, `P`, `W` or `L`, and what follows it.
 unfoldable pub form : List (List ℕ) → Option Command
 form [] = none
 form (t ∷ ts) =
-    cond (one (code "A") t) (addition ts)
+    cond (one (code "A") t) (ruleForm add ts)
     (cond (one (code "R") t) (made remove (only ts))
+    (cond (one (code "P") t) (replacement ts)
     (cond (one (code "W") t) (made why (only ts))
-    (cond (one (code "L") t) (listing ts) none)))
+    (cond (one (code "L") t) (listing ts) none))))
 
 unfoldable pub command : List ℕ → Option Command
 command line = form (tokens line)

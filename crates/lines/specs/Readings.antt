@@ -10,7 +10,7 @@ use Rattle.places.specs.Places.{isSpace}
 use Rattle.lines.specs.Commands as spec
 use Rattle.lines.specs.Commands.{command}
 use Rattle.lines.specs.declared.Command.{Command}
-use Rattle.lines.specs.declared.Command.the-variants.{Add, Remove, Why, Labels}
+use Rattle.lines.specs.declared.Command.the-variants.{Add, Remove, Replace, Why, Labels}
 use Rattle.lines.specs.declared.Reading.{Reading}
 use Rattle.lines.specs.declared.Reading.the-variants as reading-of
 use Rattle.lines.specs.declared.Parsed.{Parsed}
@@ -50,6 +50,7 @@ reading line = cond (blank line) is-blank (cond (ltb LINE (length line)) too-lon
 abbrev pub commandOf : Command → List ℕ → List ℕ → spec.Command
 commandOf (Add head) ps ns = spec.add head ps ns
 commandOf (Remove slot) ps ns = spec.remove slot
+commandOf (Replace slot head) ps ns = spec.replace slot head ps ns
 commandOf (Why atom) ps ns = spec.why atom
 commandOf Labels ps ns = spec.labels
 
@@ -63,13 +64,14 @@ abbrev pub readingOf : Parsed → Line
 readingOf r =
     lineOf (r .reading) (take (r .positives) (r .entries)) (take (r .negatives) (drop (r .positives) (r .entries)))
 
--- The lists of a line: an addition's; any other line has none.
+-- The lists of a line: those of an addition or a replacement; any other line has none.
 abbrev pub positivesOf : Line → List ℕ
 positivesOf is-blank = []
 positivesOf too-long = []
 positivesOf no-command = []
 positivesOf (is (spec.add head ps ns)) = ps
 positivesOf (is (spec.remove slot)) = []
+positivesOf (is (spec.replace slot head ps ns)) = ps
 positivesOf (is (spec.why atom)) = []
 positivesOf (is spec.labels) = []
 
@@ -79,6 +81,7 @@ negativesOf too-long = []
 negativesOf no-command = []
 negativesOf (is (spec.add head ps ns)) = ns
 negativesOf (is (spec.remove slot)) = []
+negativesOf (is (spec.replace slot head ps ns)) = ns
 negativesOf (is (spec.why atom)) = []
 negativesOf (is spec.labels) = []
 

@@ -3,10 +3,11 @@ use places::Place;
 
 pub mod read; // read.rt: what a line is
 
-// The commands of a sheet. The lists of an addition stand beside it (`Parsed`).
+// The commands of a sheet. The lists of an addition or a replacement stand beside it (`Parsed`).
 pub enum Command {
     Add(u32),
     Remove(u32),
+    Replace(u32, u32), // slot, head
     Why(u32),
     Labels,
 }
@@ -19,8 +20,8 @@ pub enum Reading {
     Command(Command),
 }
 
-// A line that was read. An addition's positives stand first among the entries, then its negatives; all that follow
-// are 0. Any other reading has none. The place is in the line that was read, as far on as the reader came.
+// A line that was read. The positives of a rule stand first among the entries, then its negatives; all that follow
+// are 0. A reading without a rule has none. The place is in the line that was read, as far on as the reader came.
 pub struct Parsed {
     pub place: Place,
     pub reading: Reading,

@@ -16,11 +16,17 @@ ghost use Prim.Native.Nat.{_+_, _≤_};
 ghost use lib.ListN.{length, drop};
 ghost use Rattle.places.specs.Places.{Onward};
 ghost use Rattle.tokens.specs.Tokens.{tokens};
-ghost use Rattle.lines.specs.Commands.{made, remove, why, only, command};
-ghost use Rattle.lines.specs.Commands.{addition as addition-of, listing as listing-of};
+ghost use Rattle.lines.specs.Commands.{remove, why, made, only, ruleForm, command};
+ghost use Rattle.lines.specs.Commands.{replacement as replacement-of, listing as listing-of};
 ghost use Rattle.lines.specs.Readings.{Answers, LINE, ENTRIES, whether, lineOf};
 ghost use Rattle.lines.specs.Readings.{reading as reading-of};
-ghost use Rattle.lines.specs.Parts.{listed, Collected};
+ghost use Rattle.lines.specs.Parts.{changeOf, IsChange, listed, Collected};
+
+// What becomes of the rule that a line states: it is added, or it replaces the rule in a slot.
+enum Change {
+    Adds,
+    Replaces(u32),
+}
 
 // The first count of the entries are numbers that were read. The rest of the line begins at next.
 struct Numbers {
@@ -70,18 +76,28 @@ fn plain(reading: Reading, place: Place) -> Parsed
     }
 }
 
-// The lists of an addition, with its head.
-fn lists(line: &[u8], head: u32, place: Place) -> Parsed
+// The command that a change is, with the head of its rule.
+fn with_head(change: Change, head: u32) -> Command
+    ensures { λ r. ⌜ IsChange change head r ⌝ }
+{
+    match change {
+        Change::Adds => Command::Add(head),
+        Change::Replaces(slot) => Command::Replace(slot, head),
+    }
+}
+
+// The lists of a rule, with its head.
+fn lists(line: &[u8], change: Change, head: u32, place: Place) -> Parsed
     requires { ⌜ place .offset ≤ length (now line) ⌝ }
     requires { ⌜ length (tokens (drop (place .offset) (now line))) ≤ ENTRIES ⌝ }
-    ensures { λ r. ⌜ Answers (whether (listed head (tokens (drop (place .offset) (now (line .entry)))))) r ⌝ }
+    ensures { λ r. ⌜ Answers (whether (listed change head (tokens (drop (place .offset) (now (line .entry)))))) r ⌝ }
     ensures { λ r. ⌜ Onward (now (line .entry)) place (r .place) ⌝ }
 {
     let p = collect(line, [0; Parsed::ENTRIES], 0, place);
     let positives = p.count;
     let rest = p.next;
     let found = p.entries;
-    let reading = Reading::Command(Command::Add(head));
+    let reading = Reading::Command(with_head(change, head));
     if ended(line, rest) {
         return Parsed {
             place: rest,
@@ -113,11 +129,12 @@ fn lists(line: &[u8], head: u32, place: Place) -> Parsed
     }
 }
 
-// What follows the `A` of an addition.
-fn addition(line: &[u8], place: Place) -> Parsed
+// What follows the `A` of an addition, or the slot of a replacement.
+fn rule(line: &[u8], place: Place, change: Change) -> Parsed
     requires { ⌜ place .offset ≤ length (now line) ⌝ }
     requires { ⌜ length (tokens (drop (place .offset) (now line))) ≤ ENTRIES ⌝ }
-    ensures { λ r. ⌜ Answers (whether (addition-of (tokens (drop (place .offset) (now (line .entry)))))) r ⌝ }
+    ensures { λ r. ⌜ Answers (whether (ruleForm (changeOf change)
+        (tokens (drop (place .offset) (now (line .entry)))))) r ⌝ }
     ensures { λ r. ⌜ Onward (now (line .entry)) place (r .place) ⌝ }
 {
     let h = next_token(line, place);
@@ -134,7 +151,24 @@ fn addition(line: &[u8], place: Place) -> Parsed
     if !is(&line[from..to], b':') {
         return plain(Reading::NoCommand, next);
     }
-    lists(line, head, next)
+    lists(line, change, head, next)
+}
+
+// What follows the `P` of a replacement: a slot, and then a rule.
+fn replacement(line: &[u8], place: Place) -> Parsed
+    requires { ⌜ place .offset ≤ length (now line) ⌝ }
+    requires { ⌜ length (tokens (drop (place .offset) (now line))) ≤ ENTRIES ⌝ }
+    ensures { λ r. ⌜ Answers (whether (replacement-of (tokens (drop (place .offset) (now (line .entry)))))) r ⌝ }
+    ensures { λ r. ⌜ Onward (now (line .entry)) place (r .place) ⌝ }
+{
+    let t = next_token(line, place);
+    let start = t.start;
+    let next = t.next;
+    let end = next.offset;
+    let Number::Is(slot) = numeral(&line[start..end]) else {
+        return plain(Reading::NoCommand, next);
+    };
+    rule(line, next, Change::Replaces(slot))
 }
 
 // What follows the `R` of a removal, or else the `W` of a request for a reason: one number.
@@ -184,10 +218,13 @@ fn form(line: &[u8], place: Place) -> Parsed
     let end = next.offset;
     let word = &line[start..end];
     if is(word, b'A') {
-        return addition(line, next);
+        return rule(line, next, Change::Adds);
     }
     if is(word, b'R') {
         return numbered(line, next, true);
+    }
+    if is(word, b'P') {
+        return replacement(line, next);
     }
     if is(word, b'W') {
         return numbered(line, next, false);

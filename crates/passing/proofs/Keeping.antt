@@ -36,6 +36,8 @@ prints-same e (prints.long h) = prints.long (sym e ∙ h)
 prints-same e (prints.unread h) = prints.unread (sym e ∙ h)
 prints-same e (prints.add head ps ns answer u h ends) = prints.add head ps ns answer u (sym e ∙ h) ends
 prints-same e (prints.remove slot answer u h ends) = prints.remove slot answer u (sym e ∙ h) ends
+prints-same e (prints.replace slot head ps ns answer u h ends) =
+    prints.replace slot head ps ns answer u (sym e ∙ h) ends
 prints-same e (prints.why atom answer buffer h ends) = prints.why atom answer buffer (sym e ∙ h) ends
 prints-same e (prints.unsound h not) = prints.unsound (sym e ∙ h) not
 prints-same e (prints.labels M label h s m l) = prints.labels M label (sym e ∙ h) s m l

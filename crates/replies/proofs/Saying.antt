@@ -43,6 +43,11 @@ replied {t} {p} {line} {bs} {cs} {u} {before} {at} {after} {r} d e s =
       number = ap (λ (x : Place). x .line) (s .place);
     }
 
+pub wrote-same :
+    {bs cs before : List ℕ} {at : ℕ} {after : List ℕ} {next : ℕ} → bs ≡ cs → Wrote bs before at after next
+    → Wrote cs before at after next
+wrote-same {before = before} {at} {after} {next} e w = subst (λ (xs : List ℕ). Wrote xs before at after next) e w
+
 count-not-refused : (f : Refusal) (k : ℕ) → listed.Refused f ≡ listed.Count k → ⊥
 count-not-refused f k e = let z : _≡_ {A = ℕ} 0 1 = cc in omega arith
 

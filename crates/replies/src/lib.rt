@@ -2,6 +2,7 @@
 use calls::AddAnswer;
 use calls::Added;
 use calls::ChangeAnswer;
+use calls::Changed;
 use calls::ListAnswer;
 use calls::Refusal;
 use calls::refusal_number;
@@ -19,17 +20,20 @@ use printing::write_named;
 use printing::write_refusal;
 use printing::write_why;
 use reasons::reason;
+use replacing::replace;
 use sound::sound;
 use table::Table;
 ghost use mathlib.Core.Path.{_≡_};
 ghost use Prim.Native.Nat.{_+_, _≤_};
 ghost use lib.ListN.{length, take, drop};
 ghost use Rattle.table.specs.Questions.{ruleFrom};
-ghost use Rattle.calls.specs.Contracts.{AddEnds};
+ghost use Rattle.calls.specs.Contracts.{AddEnds, ReplaceEnds};
 ghost use Rattle.lines.specs.Commands as sheet;
 ghost use Rattle.lines.specs.Readings.{ENTRIES, commandOf};
 ghost use Rattle.printing.specs.Printed.{refusalLine};
 ghost use Rattle.printing.specs.Printed.{named as namedLine};
+ghost use Rattle.sheets.specs.Lines.{tellChange};
+ghost use Rattle.fields.specs.Written.{Wrote};
 ghost use Rattle.judging.specs.Judging.{ROOM};
 ghost use Rattle.judging.specs.Parts.{positives, negatives};
 ghost use Rattle.replies.specs.Replies.{RepliesIn};
@@ -64,6 +68,26 @@ fn named(table: Table, place: Place, word: &[u8], n: u32, out: &mut [u8], at: us
         table: table,
         place: place,
         next: next,
+    }
+}
+
+// The line that tells the answer of a removal or a replacement: its word and the slot, or its refusal. The table is not
+// handed through: it is some kilobytes.
+fn tell_change(
+    answer: ChangeAnswer,
+    line: u32,
+    word: &[u8],
+    slot: u32,
+    out: &mut [u8],
+    at: usize,
+) -> usize
+    requires { ⌜ (length (now word) ≤ 8) × (at + ROOM ≤ length (now out)) ⌝ }
+    ensures { λ r. ⌜ Wrote (tellChange (now (word .entry)) line slot answer)
+        (now (out .entry)) at (now (out .exit)) r ⌝ }
+{
+    match answer {
+        ChangeAnswer::Accepted => write_named(out, at, word, slot),
+        ChangeAnswer::Refused(f) => write_refusal(out, at, line, refusal_number(f)),
     }
 }
 
@@ -102,10 +126,56 @@ fn removed(table: Table, place: Place, slot: u32, out: &mut [u8], at: usize) -> 
 {
     let done = remove(table, slot);
     let answer = done.answer;
+    let rest = done.table;
+    let next = tell_change(answer, place.line, b"removed", slot, out, at);
+    Reply {
+        table: rest,
+        place: place,
+        next: next,
+    }
+}
+
+// Replaces the rule in a slot by one whose lists are parts of the entries: p positives, then n negatives.
+fn replace_listed(
+    table: Table,
+    slot: u32,
+    head: u32,
+    entries: &[u32],
+    p: usize,
+    n: usize,
+) -> Changed
+    requires { ⌜ p + n ≤ length (now entries) ⌝ }
+    ensures { λ r. ⌜ ReplaceEnds table slot
+        (ruleFrom head (take p (now (entries .entry))) (take n (drop p (now (entries .entry)))))
+        (r .answer) (r .table) ⌝ }
+{
+    let end = p + n;
+    replace(table, slot, head, &entries[..p], &entries[p..end])
+}
+
+// `P`: the replacement.
+fn replaced(table: Table, slot: u32, head: u32, parsed: Parsed, out: &mut [u8], at: usize) -> Reply
+    requires { ⌜ (parsed .positives + parsed .negatives ≤ ENTRIES) × (at + ROOM ≤ length (now out)) ⌝ }
+    ensures { λ r. ⌜ Obeys table (parsed .place) (sheet.replace slot head (positives parsed) (negatives parsed))
+        (now (out .entry)) at (now (out .exit)) r ⌝ }
+{
+    let place = parsed.place;
+    let entries = parsed.entries;
+    let done = replace_listed(
+        table,
+        slot,
+        head,
+        &entries,
+        parsed.positives,
+        parsed.negatives,
+    );
+    let answer = done.answer;
     let after = done.table;
-    match answer {
-        ChangeAnswer::Accepted => named(after, place, b"removed", slot, out, at),
-        ChangeAnswer::Refused(f) => refused(after, place, refusal_number(f), out, at),
+    let next = tell_change(answer, place.line, b"replaced", slot, out, at);
+    Reply {
+        table: after,
+        place: place,
+        next: next,
     }
 }
 
@@ -156,6 +226,7 @@ fn obeyed(table: Table, command: Command, parsed: Parsed, out: &mut [u8], at: us
     match command {
         Command::Add(head) => added(table, head, parsed, out, at),
         Command::Remove(slot) => removed(table, place, slot, out, at),
+        Command::Replace(slot, head) => replaced(table, slot, head, parsed, out, at),
         Command::Why(atom) => explained(table, place, atom, out, at),
         Command::Labels => listed(table, place, out, at),
     }

@@ -1,14 +1,14 @@
 -- The lines and calls of some sheets, document 01's among them. Assumes nothing.
 use mathlib.Core.Path.{_≡_, refl}
 use mathlib.Core.List.{[], _∷_, map}
-use Rattle.theory.specs.Book.{add, remove}
+use Rattle.theory.specs.Book.{add, remove, replace}
 use Rattle.table.specs.Questions.{ruleFrom}
 use Rattle.history.specs.Calls.{change}
 use Rattle.fields.specs.Texts.{bytes}
 use Rattle.tokens.specs.Tokens.{onto, pieces, filled, tokens}
 use Rattle.tokens.specs.Numerals.{digits, valueFrom, needless, spelledFrom, numeral}
 use Rattle.tokens.specs.Tokens.{one}
-use Rattle.lines.specs.Commands.{numerals, before, after, addition, only, listing, form, command}
+use Rattle.lines.specs.Commands.{numerals, before, after, ruleForm, replacement, only, listing, form, command}
 use Rattle.lines.specs.Readings.{spaces, blank, reading}
 use Rattle.sheets.specs.Calls.{endedLines, behindNewlines, linesOf, linesCalls, callsOf}
 
@@ -24,18 +24,25 @@ pub lines-shown :
 unfolding bytes endedLines behindNewlines
 lines-shown = refl
 
--- Document 01's sheet; and one with a blank line, an unread line, a refused number and a last line without its newline.
+-- Document 01's sheet; and one with a blank line, an unread line, a refused number, a replacement and a last line
+-- without its newline.
 pub calls-shown :
     map callsOf
-    (bytes "A 1 : 2\nA 2 : ! 3\nA 4 : 1\nA 3 :\nL\nR 3\nL\nW 1\nW 3\n" ∷ bytes "\nA 1:2\nR 999\nA 5 : 6 ! 7" ∷ [])
+    (bytes "A 1 : 2\nA 2 : ! 3\nA 4 : 1\nA 3 :\nL\nR 3\nL\nW 1\nW 3\n"
+    ∷ bytes "\nA 1:2\nR 999\nP 0 8 : 9\nA 5 : 6 ! 7"
+    ∷ [])
     ≡ (change (add (ruleFrom 1 (2 ∷ []) []))
     ∷ change (add (ruleFrom 2 [] (3 ∷ [])))
     ∷ change (add (ruleFrom 4 (1 ∷ []) []))
     ∷ change (add (ruleFrom 3 [] []))
     ∷ change (remove 3)
     ∷ [])
-    ∷ (change (remove 999) ∷ change (add (ruleFrom 5 (6 ∷ []) (7 ∷ []))) ∷ [])
+    ∷ (change (remove 999)
+    ∷ change (replace 0 (ruleFrom 8 (9 ∷ []) []))
+    ∷ change (add (ruleFrom 5 (6 ∷ []) (7 ∷ [])))
+    ∷ [])
     ∷ []
-unfolding bytes endedLines behindNewlines linesCalls reading blank spaces command form addition only listing
+unfolding bytes endedLines behindNewlines linesCalls reading blank spaces command form ruleForm replacement only
+    listing
     numerals before after one tokens pieces filled onto numeral digits needless spelledFrom valueFrom
 calls-shown = refl

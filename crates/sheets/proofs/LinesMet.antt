@@ -32,16 +32,17 @@ use Rattle.calls.specs.Contracts as contract
 use Rattle.calls.specs.Contracts.{held, ReasonEnds}
 use Rattle.calls.proofs.Determined.{same-model}
 use Rattle.history.specs.Calls.{Call}
-use Rattle.history.specs.Claim.{adds, removes, Trace, stop, call}
+use Rattle.history.specs.Claim.{adds, removes, replaces, Trace, stop, call}
 use Rattle.history.proofs.Sequence.{step-follows, sound-model, sound-below}
 use Rattle.history.proofs.Demands.{label-in-model}
 use Rattle.lines.specs.Commands as sheet
 use Rattle.lines.specs.Readings.{Line, is-blank, too-long, no-command, is, reading, blank}
+use Rattle.fields.specs.Texts.{bytes}
 use Rattle.printing.specs.Printed.{whyLine, refusalLine}
 use Rattle.sheets.specs.Lines as prints
-use Rattle.sheets.specs.Lines.{Prints, lent, tellAdd, tellRemove, tellReason}
+use Rattle.sheets.specs.Lines.{Prints, lent, tellAdd, tellChange, tellReason}
 use Rattle.sheets.specs.Calls.{lineCalls}
-use Rattle.sheets.specs.Seen.{addLine, removeLine, ReasonLine, SeesReason, Seen}
+use Rattle.sheets.specs.Seen.{addLine, changeLine, ReasonLine, SeesReason, Seen}
 
 -- Any admissible model of a sound table's rules is the one.
 only-of : {t : Table} {M : AtomSet} → Sound t → Admissible (held t) M → OnlyModel (held t) M
@@ -54,9 +55,9 @@ add-told : (n : ℕ) (x : AddAnswer) → tellAdd n x ≡ addLine n (bookAdd x)
 add-told n (added.Taken s) = refl
 add-told n (added.Refused f) = refl
 
-remove-told : (n s : ℕ) (x : ChangeAnswer) → tellRemove n s x ≡ removeLine n s (bookChange x)
-remove-told n s changed.Accepted = refl
-remove-told n s (changed.Refused f) = refl
+change-told : (word : List ℕ) (n s : ℕ) (x : ChangeAnswer) → tellChange word n s x ≡ changeLine word n s (bookChange x)
+change-told word n s changed.Accepted = refl
+change-told word n s (changed.Refused f) = refl
 
 -- A reason. Question 10 is answered by the number alone, so a number past the limit needs no label.
 module _ (t : Table) (S : Sound t) (n a : ℕ) where
@@ -144,6 +145,10 @@ line-done {t} {u} {n} {line} {printed} S p = go p
         → LineDone t n (reading line) bs v
     on {bs} {v} l e d = subst (λ (k : Line). LineDone t n k bs v) (sym e) d
 
+    told : (word : List ℕ) (slot : ℕ) (x : ChangeAnswer) {y : Answer} → bookChange x ≡ y
+        → tellChange word n slot x ≡ changeLine word n slot y
+    told word slot x e = change-told word n slot x ∙ ap (changeLine word n slot) e
+
     go : {bs : List ℕ} {v : Table} → Prints t n line bs v → LineDone t n (reading line) bs v
     go (prints.blank e) = on is-blank e (no-call is-blank refl refl)
     go (prints.long e) = on too-long e (no-call too-long refl refl)
@@ -158,7 +163,13 @@ line-done {t} {u} {n} {line} {printed} S p = go p
         on (is (sheet.remove slot)) e (record {
           told = bookChange x ∷ [];
           trace = call (removes ends) stop;
-          seen = remove-told n slot x ∙ ap (removeLine n slot) (step-follows S (removes ends) .said);
+          seen = told (bytes "removed") slot x (step-follows S (removes ends) .said);
+        })
+    go (prints.replace slot head ps ns x v e ends) =
+        on (is (sheet.replace slot head ps ns)) e (record {
+          told = bookChange x ∷ [];
+          trace = call (replaces ends) stop;
+          seen = told (bytes "replaced") slot x (step-follows S (replaces ends) .said);
         })
     go (prints.why atom x buffer e ends) =
         on (is (sheet.why atom)) e (no-call (is (sheet.why atom)) refl (reason-seen t S n atom ends))

@@ -8,7 +8,6 @@ use Rattle.theory.specs.Models.{AtomSet, OnlyModel}
 use Rattle.theory.specs.Labels.{Label, Labelled}
 use Rattle.theory.specs.Questions.{first-no, reason-questions}
 use Rattle.theory.specs.Limits.{document}
-use Rattle.theory.specs.Book.{add, remove}
 use Rattle.theory.proofs.Labels.{label-unique}
 use Rattle.theory.proofs.Explanations.{reason-unique}
 use Rattle.lines.specs.Commands as sheet
@@ -55,6 +54,7 @@ seen-unique P n too-long out more e g = e ∙ sym g
 seen-unique P n no-command out more e g = e ∙ sym g
 seen-unique P n (is (sheet.add head ps ns)) out more e g = e ∙ sym g
 seen-unique P n (is (sheet.remove s)) out more e g = e ∙ sym g
+seen-unique P n (is (sheet.replace s head ps ns)) out more e g = e ∙ sym g
 seen-unique P n (is (sheet.why atom)) out more A B = reason-unique-line P n atom out more A B
 seen-unique P n (is sheet.labels) out more A B = labels-unique-lines P out more A B
 

@@ -16,15 +16,16 @@ use Rattle.calls.specs.declared.ChangeAnswer.{ChangeAnswer}
 use Rattle.calls.specs.declared.ListAnswer.{ListAnswer}
 use Rattle.calls.specs.declared.Refusal.the-variants.{Unsound}
 use Rattle.calls.specs.Answers.{numberOf}
-use Rattle.calls.specs.Contracts.{held, AddEnds, RemoveEnds, ReasonEnds}
+use Rattle.calls.specs.Contracts.{held, AddEnds, RemoveEnds, ReplaceEnds, ReasonEnds}
 use Rattle.calls.proofs.OneTable.{same-label}
-use Rattle.calls.proofs.Determined.{add-determined, remove-determined, reason-determined}
+use Rattle.calls.proofs.Determined.{add-determined, remove-determined, replace-determined, reason-determined}
 use Rattle.lines.specs.Commands as sheet
 use Rattle.lines.specs.Readings.{Line, is-blank, too-long, no-command, is, reading}
+use Rattle.fields.specs.Texts.{bytes}
 use Rattle.printing.specs.Printed.{refusalLine}
 use Rattle.label_lines.specs.LabelLines.{labelLine, labelLines}
 use Rattle.sheets.specs.Lines as prints
-use Rattle.sheets.specs.Lines.{lent, tellAdd, tellRemove, tellReason, Prints}
+use Rattle.sheets.specs.Lines.{lent, tellAdd, tellChange, tellReason, Prints}
 use Rattle.sheets.specs.Sheets.{State, longer, ended, Reads, stop, byte, newline, SheetPrints}
 
 -- Every label of a sound table, and the lines that list them.
@@ -44,7 +45,10 @@ Ends t n no-command bs u = (bs ≡ refusalLine n 13) × (u ≡ t)
 Ends t n (is (sheet.add head ps ns)) bs u =
     (answer : AddAnswer) × AddEnds t (ruleFrom head ps ns) answer u × (bs ≡ tellAdd n answer)
 Ends t n (is (sheet.remove slot)) bs u =
-    (answer : ChangeAnswer) × RemoveEnds t slot answer u × (bs ≡ tellRemove n slot answer)
+    (answer : ChangeAnswer) × RemoveEnds t slot answer u × (bs ≡ tellChange (bytes "removed") n slot answer)
+Ends t n (is (sheet.replace slot head ps ns)) bs u =
+    (answer : ChangeAnswer) × ReplaceEnds t slot (ruleFrom head ps ns) answer u
+    × (bs ≡ tellChange (bytes "replaced") n slot answer)
 Ends t n (is (sheet.why atom)) bs u =
     (answer : ListAnswer) × (buffer : List ℕ) × ReasonEnds t atom lent answer buffer
     × (bs ≡ tellReason n answer buffer) × (u ≡ t)
@@ -61,6 +65,7 @@ module _ (t : Table) (n : ℕ) (line : List ℕ) where
   ends (prints.unread e) = on _ _ e (refl, refl)
   ends (prints.add head ps ns answer u e f) = on _ _ e (answer, f, refl)
   ends (prints.remove slot answer u e f) = on _ _ e (answer, f, refl)
+  ends (prints.replace slot head ps ns answer u e f) = on _ _ e (answer, f, refl)
   ends (prints.why atom answer buffer e f) = on _ _ e (answer, buffer, f, refl, refl)
   ends (prints.unsound e f) = on _ _ e (inl (f, refl), refl)
   ends (prints.labels M label e s a l) =
@@ -92,7 +97,10 @@ ends-same t n (is (sheet.add head ps ns)) bs cs u v (x, p, e) (y, q, g) =
     (e ∙ ap (tellAdd n) (same .0) ∙ sym g, same .1)
 ends-same t n (is (sheet.remove slot)) bs cs u v (x, p, e) (y, q, g) =
     let same = remove-determined t slot x y u v p q in
-    (e ∙ ap (tellRemove n slot) (same .0) ∙ sym g, same .1)
+    (e ∙ ap (tellChange (bytes "removed") n slot) (same .0) ∙ sym g, same .1)
+ends-same t n (is (sheet.replace slot head ps ns)) bs cs u v (x, p, e) (y, q, g) =
+    let same = replace-determined t slot (ruleFrom head ps ns) x y u v p q in
+    (e ∙ ap (tellChange (bytes "replaced") n slot) (same .0) ∙ sym g, same .1)
 ends-same t n (is (sheet.why atom)) bs cs u v (x, b, p, e, f) (y, d, q, g, h) =
     let same = reason-determined t atom lent x y b d p q in
     (e ∙ ap₂ (tellReason n) (same .0) (same .1) ∙ sym g, f ∙ sym h)

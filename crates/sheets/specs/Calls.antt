@@ -4,7 +4,7 @@ use Prim.Native.Nat.{ℕ}
 use mathlib.Core.Bool.{cond}
 use mathlib.Core.List.{List, [], _∷_, _++_}
 use lib.Dec.{eqb}
-use Rattle.theory.specs.Book.{add, remove}
+use Rattle.theory.specs.Book.{add, remove, replace}
 use Rattle.table.specs.Questions.{ruleFrom}
 use Rattle.history.specs.Calls.{Call, change}
 use Rattle.lines.specs.Commands as sheet
@@ -30,13 +30,14 @@ lastLine (b ∷ bs) = (b ∷ bs) ∷ []
 abbrev pub linesOf : List ℕ → List (List ℕ)
 linesOf sheet = endedLines [] sheet ++ lastLine (behindNewlines [] sheet)
 
--- The call that a line is, if it is an addition or a removal. Other lines change nothing.
+-- The call that a line is, if it is an addition, a removal or a replacement. Other lines change nothing.
 abbrev pub lineCalls : Line → List Call
 lineCalls is-blank = []
 lineCalls too-long = []
 lineCalls no-command = []
 lineCalls (is (sheet.add head ps ns)) = change (add (ruleFrom head ps ns)) ∷ []
 lineCalls (is (sheet.remove slot)) = change (remove slot) ∷ []
+lineCalls (is (sheet.replace slot head ps ns)) = change (replace slot (ruleFrom head ps ns)) ∷ []
 lineCalls (is (sheet.why atom)) = []
 lineCalls (is sheet.labels) = []
 

@@ -17,21 +17,22 @@ use Rattle.calls.specs.declared.ListAnswer.{ListAnswer}
 use Rattle.calls.specs.declared.ListAnswer.the-variants as listed
 use Rattle.calls.specs.declared.Refusal.the-variants.{Unsound}
 use Rattle.calls.specs.Answers.{numberOf}
-use Rattle.calls.specs.Contracts.{held, AddEnds, RemoveEnds, ReasonEnds}
+use Rattle.calls.specs.Contracts.{held, AddEnds, RemoveEnds, ReplaceEnds, ReasonEnds}
 use Rattle.lines.specs.Commands as sheet
 use Rattle.lines.specs.Readings.{is-blank, too-long, no-command, is, reading}
 use Rattle.fields.specs.Texts.{bytes}
 use Rattle.printing.specs.Printed.{named, whyLine, refusalLine}
 use Rattle.label_lines.specs.LabelLines.{labelLines}
 
--- The line that tells the answer of a call, on line n of the sheet.
+-- The line that tells the answer of a call, on line n of the sheet: of an addition; of a removal or a replacement, by
+-- its word; of a reason.
 abbrev pub tellAdd : ℕ → AddAnswer → List ℕ
 tellAdd n (added.Taken s) = named (bytes "slot") (s .0)
 tellAdd n (added.Refused f) = refusalLine n (numberOf f)
 
-abbrev pub tellRemove : ℕ → ℕ → ChangeAnswer → List ℕ
-tellRemove n slot changed.Accepted = named (bytes "removed") slot
-tellRemove n slot (changed.Refused f) = refusalLine n (numberOf f)
+abbrev pub tellChange : List ℕ → ℕ → ℕ → ChangeAnswer → List ℕ
+tellChange word n slot changed.Accepted = named word slot
+tellChange word n slot (changed.Refused f) = refusalLine n (numberOf f)
 
 abbrev pub tellReason : ℕ → ListAnswer → List ℕ → List ℕ
 tellReason n (listed.Count k) buffer = whyLine (take k buffer)
@@ -53,7 +54,11 @@ pub data Prints (t : Table) (n : ℕ) (line : List ℕ) : List ℕ → Table →
       → AddEnds t (ruleFrom head ps ns) answer u → Prints t n line (tellAdd n answer) u
   remove :
       (slot : ℕ) (answer : ChangeAnswer) (u : Table) → reading line ≡ is (sheet.remove slot)
-      → RemoveEnds t slot answer u → Prints t n line (tellRemove n slot answer) u
+      → RemoveEnds t slot answer u → Prints t n line (tellChange (bytes "removed") n slot answer) u
+  replace :
+      (slot head : ℕ) (ps ns : List ℕ) (answer : ChangeAnswer) (u : Table)
+      → reading line ≡ is (sheet.replace slot head ps ns) → ReplaceEnds t slot (ruleFrom head ps ns) answer u
+      → Prints t n line (tellChange (bytes "replaced") n slot answer) u
   why :
       (atom : ℕ) (answer : ListAnswer) (buffer : List ℕ) → reading line ≡ is (sheet.why atom)
       → ReasonEnds t atom lent answer buffer → Prints t n line (tellReason n answer buffer) t

@@ -10,7 +10,7 @@ use Rattle.theory.specs.Labels.{Label, Labelled}
 use Rattle.theory.specs.Explanations.{Reason}
 use Rattle.theory.specs.Questions.{first-no, reason-questions}
 use Rattle.theory.specs.Limits.{document}
-use Rattle.theory.specs.Book.{add, remove, Answer, refused, slot, accepted, empty, answer}
+use Rattle.theory.specs.Book.{add, remove, replace, Answer, refused, slot, accepted, empty, answer}
 use Rattle.table.specs.Questions.{ruleFrom}
 use Rattle.history.specs.Calls.{callsAfter}
 use Rattle.lines.specs.Commands as sheet
@@ -21,16 +21,17 @@ use Rattle.label_lines.specs.LabelLines.{labelLines}
 use Rattle.sheets.specs.Calls.{lineCalls, linesOf}
 
 -- The line that tells the book's answer, on line n of the sheet: to an addition, which is never answered "accepted"
--- (the law `add-not-accepted`), and to a removal, which is never answered a slot (`remove-not-a-slot`).
+-- (the law `add-not-accepted`); and, by its word, to a removal or a replacement, which is never answered a slot
+-- (`remove-not-a-slot`, `replace-not-a-slot`).
 abbrev pub addLine : ℕ → Answer → List ℕ
 addLine n (slot s) = named (bytes "slot") s
 addLine n (refused k) = refusalLine n k
 addLine n accepted = []
 
-abbrev pub removeLine : ℕ → ℕ → Answer → List ℕ
-removeLine n s accepted = named (bytes "removed") s
-removeLine n s (refused k) = refusalLine n k
-removeLine n s (slot t) = []
+abbrev pub changeLine : List ℕ → ℕ → ℕ → Answer → List ℕ
+changeLine word n s accepted = named word s
+changeLine word n s (refused k) = refusalLine n k
+changeLine word n s (slot t) = []
 
 -- `W` and an atom: of 10 (its number) and 12 (its label) the first answered no is the refusal; else the slots of its
 -- reason. Label and reason are those defined for the book's rules, in their one admissible model. 11 cannot be met:
@@ -60,7 +61,9 @@ Seen P n is-blank out = out ≡ []
 Seen P n too-long out = out ≡ refusalLine n 14
 Seen P n no-command out = out ≡ refusalLine n 13
 Seen P n (is (sheet.add head ps ns)) out = out ≡ addLine n (answer document P (add (ruleFrom head ps ns)))
-Seen P n (is (sheet.remove s)) out = out ≡ removeLine n s (answer document P (remove s))
+Seen P n (is (sheet.remove s)) out = out ≡ changeLine (bytes "removed") n s (answer document P (remove s))
+Seen P n (is (sheet.replace s head ps ns)) out =
+    out ≡ changeLine (bytes "replaced") n s (answer document P (replace s (ruleFrom head ps ns)))
 Seen P n (is (sheet.why atom)) out = SeesReason P n atom out
 Seen P n (is sheet.labels) out = SeesLabels P out
 

@@ -1,14 +1,14 @@
--- What the plain book never answers: "accepted" to an addition, a slot to a removal. Assumes nothing.
+-- What the plain book never answers: "accepted" to an addition, a slot to a removal or a replacement. Assumes nothing.
 use Prim.Native.Nat.{ℕ}
 use native.Mathlib.Omega.{arith}
-use mathlib.Core.Path.{_≡_, refl, sym, _∙_, ap}
+use mathlib.Core.Path.{_≡_, refl, sym, _∙_}
 use mathlib.Core.Bool.{true, true≢false}
 use mathlib.Core.Option.{Option, none, some}
 use Rattle.theory.specs.Rules.{Program, Rule}
 use Rattle.theory.specs.Limits.{Limits}
 use Rattle.theory.specs.Questions.{add-questions, first-no, is-some, lowest-free}
-use Rattle.theory.specs.Book.{accepted, add, answer, Answer, granted, refusal, refused, remove, slot}
-use Rattle.theory.specs.Book.{slot-answer}
+use Rattle.theory.specs.Book.{accepted, add, answer, Call, granted, refusal, refused, remove, replace}
+use Rattle.theory.specs.Book.{slot, slot-answer}
 use Rattle.theory.proofs.Questions.{first-no-none}
 
 refused-other : {k : ℕ} → refused k ≡ accepted → ⊥
@@ -45,10 +45,17 @@ module _ (limits : Limits) (P : Program) where
       go none q e = taken (lowest-free P) (free-slot limits P r q) e
       go (some k) q e = refused-other e
 
-  pub remove-not-a-slot : (s t : ℕ) → answer limits P (remove s) ≡ slot t → ⊥
+  -- A call that is granted "accepted" is never answered a slot.
+  not-a-slot : (c : Call) → granted limits P c ≡ accepted → (t : ℕ) → answer limits P c ≡ slot t → ⊥
   unfolding answer
-  remove-not-a-slot s t = go (refusal limits P (remove s))
+  not-a-slot c g t = go (refusal limits P c)
     where
-      go : (o : Option ℕ) → elim o [ none ↦ granted limits P (remove s) | some k ↦ refused k ] ≡ slot t → ⊥
-      go none e = slot-other (sym e)
+      go : (o : Option ℕ) → elim o [ none ↦ granted limits P c | some k ↦ refused k ] ≡ slot t → ⊥
+      go none e = slot-other (sym e ∙ g)
       go (some k) e = refused-no-slot e
+
+  pub remove-not-a-slot : (s t : ℕ) → answer limits P (remove s) ≡ slot t → ⊥
+  remove-not-a-slot s = not-a-slot (remove s) refl
+
+  pub replace-not-a-slot : (s t : ℕ) (r : Rule) → answer limits P (replace s r) ≡ slot t → ⊥
+  replace-not-a-slot s t r = not-a-slot (replace s r) refl t

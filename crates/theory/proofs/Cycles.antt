@@ -10,7 +10,7 @@ use mathlib.Core.List.{List, [], _∷_, _++_, List·Memᴰ, Memᴰ·append-left,
 use lib.Dec.{eqb}
 use lib.ListN.{length}
 use Rattle.theory.specs.Lists.{_∈_, any}
-use Rattle.theory.specs.Rules.{entries, Program, Rule}
+use Rattle.theory.specs.Rules.{entries, Held, Program, Rule}
 use Rattle.theory.specs.Dependencies.{DependencyPath, Depends, here, negative, NegativeCycle, Negatively}
 use Rattle.theory.specs.Dependencies.{positive}
 use Rattle.theory.specs.Questions.{reaches, rules, stratified}
@@ -220,3 +220,22 @@ module _ (P : Program) where
       (λ (t : stratified P ≡ true). no (stratified-iff .0 t))
       (λ (t : stratified P ≡ false). yes (found-cycle t))
       (test (stratified P))
+
+-- Where every rule of Q is held by P, in whatever slot, a path by Q is one by P. So Q has no negative cycle where P has
+-- none.
+module _ (P Q : Program) (held : (s : ℕ) (r : Rule) → Held Q s r → (k : ℕ) × Held P k r) where
+  held-step : (list : Rule → List ℕ) (a x : ℕ) → Depends Q list a x → Depends P list a x
+  held-step list a x d =
+      let w = held (d .slot) (d .rule) (d .held) in
+      record { slot = w .0; rule = d .rule; held = w .1; heads = d .heads; entry = d .entry }
+
+  fewer-path : {a c k : ℕ} → DependencyPath Q a c k → DependencyPath P a c k
+  fewer-path (here e) = here e
+  fewer-path (positive {a = a} {x = x} d w) = positive (held-step (λ r. r .positives) a x d) (fewer-path w)
+  fewer-path (negative {a = a} {x = x} d w) = negative (held-step (λ r. r .negatives) a x d) (fewer-path w)
+
+  pub fewer-cycle : NegativeCycle Q → NegativeCycle P
+  fewer-cycle c = record { atom = c .atom; further = c .further; cycle = fewer-path (c .cycle) }
+
+  pub fewer-stratified : stratified P ≡ true → stratified Q ≡ true
+  fewer-stratified t = stratified-iff Q .1 (λ c. stratified-iff P .0 t (fewer-cycle c))

@@ -20,5 +20,6 @@ pub mod Explanations
 pub mod Sameness
 pub mod Kept
 pub mod Removal
+pub mod Replacing
 pub mod Spoilers
 pub mod Tables

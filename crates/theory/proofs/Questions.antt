@@ -1,19 +1,19 @@
 -- Laws of questions asked in order, and of the lowest free slot. Assumes nothing.
 use Prim.Native.Nat.{ℕ, zero, suc, _<_}
 use native.Mathlib.Omega.{arith}
-use mathlib.Core.Path.{_≡_, refl, sym, _∙_}
+use mathlib.Core.Path.{_≡_, refl, sym, _∙_, ap, subst}
 use mathlib.Core.Logic.{⊎-elim}
-use mathlib.Core.Bool.{true, false}
-use mathlib.Core.List.{List, [], _∷_, map, List·Memᴰ, List·Memᴰ·head, List·Memᴰ·tail, List·Memᴰ·cases-cons}
+use mathlib.Core.Bool.{true, false, not, _||_}
+use mathlib.Core.List.{List, [], _∷_, _++_, map, List·Memᴰ, List·Memᴰ·head, List·Memᴰ·tail, List·Memᴰ·cases-cons}
 use mathlib.Core.Option.{Option, none, some, Option·some-injective, Option·none-ne-some}
 use lib.ListN.{length, getD, set, take, drop}
 use lib.Seq.{getD-set-same, getD-set-other}
-use lib.Dec.{ltb}
-use Rattle.theory.specs.Lists.{_∈_}
+use lib.Dec.{eqb, ltb}
+use Rattle.theory.specs.Lists.{_∈_, every}
 use Rattle.theory.specs.Rules.{Bounded, entries, Held, Program, Rule}
 use Rattle.theory.specs.Limits.{Limits}
-use Rattle.theory.specs.Questions.{first-no, lowest-free, Question, rule-questions}
-use Rattle.theory.proofs.Lists.{every-at, ltb-lt, test}
+use Rattle.theory.specs.Questions.{first-no, is-some, lowest-free, Question, rule-questions}
+use Rattle.theory.proofs.Lists.{clash, eqb-of, every-at, ltb-lt, not-true, or-cases, test}
 
 -- A question answered yes is passed over; the first answered no is the refusal.
 
@@ -69,6 +69,44 @@ lowest-free-none [] f = unfold lowest-free in refl
 lowest-free-none (none ∷ P) f = (let w = f zero (omega arith) in absurd (Option·none-ne-some (w .0) (w .1)))
 lowest-free-none (some r ∷ P) f = lowest-free-full r P (lowest-free-none P (λ t l. f (suc t) (omega arith)))
 
+-- The lowest free slot is one of the program's, and free; where there is none, each slot is held.
+
+pub lowest-free-at : (P : Program) (s : ℕ) → lowest-free P ≡ some s → (s < length P) × (getD P s none ≡ none)
+lowest-free-at [] s e = absurd (Option·none-ne-some s (unfold lowest-free in e))
+lowest-free-at (none ∷ P) s e =
+    let q : 0 ≡ s = Option·some-injective 0 s (unfold lowest-free in e) in
+    (omega arith, subst (λ (k : ℕ). getD (none ∷ P) k none ≡ none) q refl)
+lowest-free-at (some r ∷ P) s e = go (lowest-free P) refl (lowest-free-at P)
+  where
+    go :
+        (o : Option ℕ) → lowest-free P ≡ o
+        → ((t : ℕ) → lowest-free P ≡ some t → (t < length P) × (getD P t none ≡ none))
+        → (s < suc (length P)) × (getD (some r ∷ P) s none ≡ none)
+    go none d f = absurd (Option·none-ne-some s (sym (lowest-free-full r P d) ∙ e))
+    go (some t) d f =
+        let q = Option·some-injective (suc t) s (sym (lowest-free-step r P t d) ∙ e) in
+        let w = f t d in
+        (omega (arith, w .0), subst (λ (k : ℕ). getD (some r ∷ P) k none ≡ none) q (w .1))
+
+pub full-held : (P : Program) → lowest-free P ≡ none → (t : ℕ) → t < length P → (r : Rule) × Held P t r
+full-held [] e t l = absurd (omega arith)
+full-held (none ∷ P) e t l =
+    (let d : some zero ≡ none = unfold lowest-free in e in absurd (Option·none-ne-some zero (sym d)))
+full-held (some r ∷ P) e zero l = (r, refl)
+full-held (some r ∷ P) e (suc t) l = full-held P (go (lowest-free P) refl) t (omega arith)
+  where
+    go : (o : Option ℕ) → lowest-free P ≡ o → lowest-free P ≡ none
+    go none d = d
+    go (some k) d = absurd (Option·none-ne-some (suc k) (sym e ∙ lowest-free-step r P k d))
+
+-- A program with a free slot has a lowest one.
+pub free-found : (P : Program) (s : ℕ) → s < length P → getD P s none ≡ none → is-some (lowest-free P) ≡ true
+free-found P s l e = go (lowest-free P) refl
+  where
+    go : (o : Option ℕ) → lowest-free P ≡ o → is-some (lowest-free P) ≡ true
+    go none d = (let w = full-held P d s l in absurd (Option·none-ne-some (w .0) (sym e ∙ w .1)))
+    go (some k) d = ap is-some d
+
 -- The rules after one slot is put or freed: the others stay.
 
 pub set-held : (P : Program) (s : ℕ) (r : Rule) → s < length P → Held (set P s (some r)) s r
@@ -106,6 +144,44 @@ first-no-at (q ∷ qs) k e = ⊎-elim
     (λ (t : q .yes? ≡ false).
     (q, List·Memᴰ·head refl, Option·some-injective _ k (sym (first-no-here q qs t) ∙ e), t))
     (test (q .yes?))
+
+-- A number that only questions answered yes have is no refusal.
+pub never-refused :
+    (k : ℕ) (qs : List Question) → every (λ q. not (eqb (q .number) k) || q .yes?) qs ≡ true
+    → first-no qs ≡ some k → ⊥
+never-refused k qs t e =
+    let w = first-no-at qs k e in
+    ⊎-elim
+    (λ (n : not (eqb (w .0 .number) k) ≡ true). clash (eqb-of _ _ (w .2)) (not-true _ n))
+    (λ (n : w .0 .yes? ≡ true). clash n (w .3))
+    (or-cases (not (eqb (w .0 .number) k)) (w .0 .yes?)
+    (every-at (λ q. not (eqb (q .number) k) || q .yes?) qs t (w .0) (w .1)))
+
+-- Questions asked behind others: where one of the others is answered no, they change nothing; they may give way to any
+-- that have the same answer; where all others are answered yes, they decide.
+
+pub first-no-before : (xs ys : List Question) (k : ℕ) → first-no xs ≡ some k → first-no (xs ++ ys) ≡ some k
+first-no-before [] ys k e = absurd (Option·none-ne-some k (unfold first-no in e))
+first-no-before (x ∷ xs) ys k e = ⊎-elim
+    (λ (t : x .yes? ≡ true).
+    first-no-yes x (xs ++ ys) t ∙ first-no-before xs ys k (sym (first-no-yes x xs t) ∙ e))
+    (λ (t : x .yes? ≡ false). first-no-here x (xs ++ ys) t ∙ sym (first-no-here x xs t) ∙ e)
+    (test (x .yes?))
+
+pub first-no-behind :
+    (qs xs ys : List Question) → first-no xs ≡ first-no ys → first-no (qs ++ xs) ≡ first-no (qs ++ ys)
+first-no-behind [] xs ys e = e
+first-no-behind (q ∷ qs) xs ys e = ⊎-elim
+    (λ (t : q .yes? ≡ true).
+    first-no-yes q (qs ++ xs) t ∙ first-no-behind qs xs ys e ∙ sym (first-no-yes q (qs ++ ys) t))
+    (λ (t : q .yes? ≡ false). first-no-here q (qs ++ xs) t ∙ sym (first-no-here q (qs ++ ys) t))
+    (test (q .yes?))
+
+pub first-no-past : (xs ys : List Question) → first-no xs ≡ none → first-no (xs ++ ys) ≡ first-no ys
+first-no-past [] ys e = refl
+first-no-past (x ∷ xs) ys e =
+    let w = first-no-none x xs e in
+    first-no-yes x (xs ++ ys) (w .0) ∙ first-no-past xs ys (w .1)
 
 -- Rules that pass questions 1 and 3 name only atoms below the limit.
 pub passed-bounded :

@@ -19,7 +19,7 @@ use Rattle.theory.proofs.Questions.{held-below, other-set}
 use Rattle.theory.proofs.Sameness.{same-sym, same-trans}
 
 -- A rule held after slot s was freed stands in another slot, where it was held before.
-freed :
+pub freed :
     (P : Program) (s t : ℕ) (r : Rule) → s < length P → Held (set P s none) t r → (t ≡ s → ⊥) × Held P t r
 freed P s t r l h = (other, other-set P s t none r other h)
   where

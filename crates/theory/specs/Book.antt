@@ -5,12 +5,14 @@ use mathlib.Core.Option.{Option, none, some}
 use lib.ListN.{set, replicate}
 use Rattle.theory.specs.Rules.{Rule, Program}
 use Rattle.theory.specs.Limits.{Limits}
-use Rattle.theory.specs.Questions.{first-no, add-questions, slot-questions, lowest-free, with-added}
+use Rattle.theory.specs.Questions.{first-no, add-questions, slot-questions, replace-questions, lowest-free}
+use Rattle.theory.specs.Questions.{with-added, with-replaced}
 
 -- The calls that change a table.
 pub data Call : Type 0 where
   add : Rule → Call
   remove : ℕ → Call
+  replace : ℕ → Rule → Call
 
 -- An answer: a refusal's number, the slot that an addition took, or that the call was accepted.
 pub data Answer : Type 0 where
@@ -31,15 +33,19 @@ module _ (limits : Limits) where
   abbrev pub refusal : Program → Call → Option ℕ
   refusal P (add r) = first-no (add-questions limits P r)
   refusal P (remove s) = first-no (slot-questions limits P s)
+  refusal P (replace s r) = first-no (replace-questions limits P s r)
 
-  -- What an accepted call answers, and what it leaves: the rule, as it is kept, on the lowest free page; the page free.
+  -- What an accepted call answers, and what it leaves: the rule, as it is kept, on the lowest free page; the page free;
+  -- the rule, as it is kept, on that page.
   abbrev pub granted : Program → Call → Answer
   granted P (add r) = slot-answer (lowest-free P)
   granted P (remove s) = accepted
+  granted P (replace s r) = accepted
 
   abbrev pub changed : Program → Call → Program
   changed P (add r) = with-added P r
   changed P (remove s) = set P s none
+  changed P (replace s r) = with-replaced P s r
 
   -- What a call answers and leaves: at the first no, that number, and the book stays.
   unfoldable pub answer : Program → Call → Answer

@@ -45,6 +45,10 @@ put-in P (some s) r = set P s (some r)
 abbrev pub with-added : Program → Rule → Program
 with-added P r = put-in P (lowest-free P) (kept r)
 
+-- The program with a slot's rule replaced: the new one kept in the same slot.
+abbrev pub with-replaced : Program → ℕ → Rule → Program
+with-replaced P s r = set P s (some (kept r))
+
 -- The rules held, in the order of their slots.
 unfoldable pub rules : Program → List Rule
 rules [] = []
@@ -85,6 +89,16 @@ module _ (limits : Limits) where
   -- Remove, and Spoiler of a slot. 8: Is the slot number below 256?  9: Does the slot hold a rule?
   abbrev pub slot-questions : Program → ℕ → List Question
   slot-questions P s = asks 8 (ltb s (limits .slots)) ∷ asks 9 (is-some (getD P s none)) ∷ []
+
+  -- Replace: 8 and 9, then 1 to 4, then 5 of the table without the slot's rule, and 7 of the table with this rule in
+  -- that slot. (6 is not asked: the table without the slot's rule has a free slot, by the law `never-full`.)
+  abbrev pub replace-questions : Program → ℕ → Rule → List Question
+  replace-questions P s r =
+      slot-questions P s
+      ++ (rule-questions r
+      ++ (asks 5 (not (any-rule (same r) (set P s none)))
+      ∷ asks 7 (stratified (with-replaced P s r))
+      ∷ []))
 
   -- Label, justifications, consequences, repercussions. 10: Is the atom number below 256?
   abbrev pub atom-questions : ℕ → List Question

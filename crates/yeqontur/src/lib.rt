@@ -29,12 +29,13 @@ use queries::label;
 use queries::repercussions;
 use queries::spoiler;
 use reasons::reason;
+use replacing::replace;
 use table::Table;
 ghost use mathlib.Core.Path.{_≡_};
 ghost use Rattle.table.specs.Clean.{emptyTable};
 ghost use Rattle.table.specs.Questions.{ruleFrom};
 ghost use Rattle.calls.specs.Contracts.{JustificationsEnd, ConsequencesEnd, RepercussionsEnd, ReasonEnds};
-ghost use Rattle.calls.specs.Contracts.{SaveEnds, LoadEnds};
+ghost use Rattle.calls.specs.Contracts.{ReplaceEnds, SaveEnds, LoadEnds};
 ghost use Rattle.checklist.specs.Questions.{file-sent, file-skipped, skip-withdrawn};
 ghost use Rattle.checklist.specs.Contracts.{OpenEnds, FileEnds, MissingEnds};
 ghost use Rattle.yeqontur.specs.Crossing.{AddCrosses, RemoveCrosses, LabelCrosses, SpoilerCrosses, ListCrosses};
@@ -71,6 +72,23 @@ pub extern "C" fn yeqontur_remove(table: Table, slot: u32) -> Change
     let answer = done.answer;
     let after = done.table;
     crossed_remove(slot, answer, after)
+}
+
+#[no_mangle]
+pub extern "C" fn yeqontur_replace(
+    table: Table,
+    slot: u32,
+    head: u32,
+    positives: &[u32],
+    negatives: &[u32],
+) -> Accepted
+    ensures { λ r. ⌜ ChangeCrosses
+        (ReplaceEnds table slot (ruleFrom head (now (positives .entry)) (now (negatives .entry)))) r ⌝ }
+{
+    let done = replace(table, slot, head, positives, negatives);
+    let answer = done.answer;
+    let replaced = done.table;
+    crossed_change(answer, replaced)
 }
 
 #[no_mangle]

@@ -1,14 +1,54 @@
-//! Additions that come again: the same rule in another order, and what is nearly the same.
+//! Rules as calls name them, and additions that come again: the same rule in another order, and what is nearly the
+//! same.
 
+use crate::calls::Call;
+use crate::questions::rule_from;
 use crate::random::Random;
+use crate::rules::{Program, Rule};
 use crate::table::{RawRule, RawTable, HELD};
 
-/// A head and two lists, as an addition names them.
+/// A head and two lists, as a call names them.
 #[derive(Clone, PartialEq, Eq, Debug)]
 pub struct Named {
     pub head: u32,
     pub positives: Vec<u32>,
     pub negatives: Vec<u32>,
+}
+
+impl Named {
+    /// The rule, its lists as they are kept.
+    pub fn of(rule: &Rule) -> Named {
+        Named {
+            head: rule.head,
+            positives: rule.positives.iter().copied().collect(),
+            negatives: rule.negatives.iter().copied().collect(),
+        }
+    }
+
+    /// The same with its lists in any order.
+    pub fn shuffled(mut self, random: &mut Random) -> Named {
+        random.shuffle(&mut self.positives);
+        random.shuffle(&mut self.negatives);
+        self
+    }
+
+    pub fn addition(self) -> Call {
+        Call::Add {
+            head: self.head,
+            positives: self.positives,
+            negatives: self.negatives,
+        }
+    }
+
+    /// The replacement of what the slot holds.
+    pub fn replacing(self, slot: u32) -> Call {
+        Call::Replace {
+            slot,
+            head: self.head,
+            positives: self.positives,
+            negatives: self.negatives,
+        }
+    }
 }
 
 /// What was named so far.
@@ -36,9 +76,7 @@ impl Earlier {
         if self.named.is_empty() {
             return None;
         }
-        let mut named = random.pick(&self.named).clone();
-        random.shuffle(&mut named.positives);
-        random.shuffle(&mut named.negatives);
+        let mut named = random.pick(&self.named).clone().shuffled(random);
         match random.below(10) {
             0 => std::mem::swap(&mut named.positives, &mut named.negatives),
             1 => named.negatives.extend(named.positives.pop()),
@@ -57,4 +95,14 @@ fn held_in(raw: &RawRule) -> Named {
         positives: entries.by_ref().take(raw.positives.into()).collect(),
         negatives: entries.take(raw.negatives.into()).collect(),
     }
+}
+
+/// What the slots of any table hold, as far as it passes questions 1 to 4.
+pub fn pages_of(table: &RawTable) -> Program {
+    let page = |raw: &RawRule| {
+        let named = held_in(raw);
+        let rule = rule_from(named.head, &named.positives, &named.negatives);
+        rule.ok().filter(|_| raw.state == HELD)
+    };
+    table.rules.iter().map(page).collect()
 }

@@ -3,8 +3,9 @@
 use crate::book::Book;
 use crate::calls::Call;
 use crate::file;
-use crate::generate::again::{Earlier, Named};
+use crate::generate::again::{pages_of, Earlier, Named};
 use crate::generate::files::any_file;
+use crate::generate::replacements::any_replacement;
 use crate::random::Random;
 use crate::table::RawTable;
 
@@ -21,6 +22,9 @@ const LIMITS: [u32; 9] = [
     u32::MAX,
 ];
 
+/// Numbers that no atom and no slot has.
+pub(super) const TOO_LARGE: [u32; 7] = [256, 257, 511, 65_535, 65_536, u32::MAX - 1, u32::MAX];
+
 /// A number below the bound, now and then one at the limits.
 fn number(random: &mut Random, bound: usize) -> u32 {
     if random.percent(3) {
@@ -36,11 +40,13 @@ fn list(random: &mut Random, atoms: usize) -> Vec<u32> {
     (0..count).map(|_| number(random, atoms)).collect()
 }
 
-/// Draws calls over about so many atoms and slots. Some additions name an earlier rule again.
+/// Draws calls over about so many atoms and slots. Some additions name an earlier rule again. The book has made every
+/// call that was noted: replacements are drawn with its pages in view.
 pub struct Calls {
     atoms: usize,
     slots: usize,
     earlier: Earlier,
+    book: Book,
 }
 
 impl Calls {
@@ -50,6 +56,7 @@ impl Calls {
             atoms,
             slots,
             earlier: Earlier::in_table(table),
+            book: Book::holding(pages_of(table)),
         }
     }
 
@@ -74,18 +81,23 @@ impl Calls {
     }
 
     pub fn addition(&mut self, random: &mut Random) -> Call {
-        let named = self.named(random);
-        Call::Add {
-            head: named.head,
-            positives: named.positives,
-            negatives: named.negatives,
-        }
+        self.named(random).addition()
     }
 
     pub fn removal(&self, random: &mut Random) -> Call {
         Call::Remove {
             slot: number(random, self.slots),
         }
+    }
+
+    /// One drawn for what it comes to, for the most part; else with any slot and any rule.
+    pub fn replacement(&mut self, random: &mut Random) -> Call {
+        if random.percent(75) {
+            let (slot, named) = any_replacement(random, self.book.pages());
+            return named.replacing(slot);
+        }
+        let slot = number(random, self.slots);
+        self.named(random).replacing(slot)
     }
 
     /// The file of what some additions and removals leave: its rules are like those of the calls around it.
@@ -112,12 +124,25 @@ impl Calls {
         Call::Load { bytes }
     }
 
+    /// Makes a drawn call on the book, so that what is drawn next has its pages in view.
+    pub fn note(&mut self, call: &Call) {
+        // A call that changes no table is none of the book's.
+        let _ = self.book.make(call);
+    }
+
     /// Any call; most of them change the table. Loads are rare, since each begins from nothing.
     pub fn call(&mut self, random: &mut Random) -> Call {
+        let call = self.drawn(random);
+        self.note(&call);
+        call
+    }
+
+    fn drawn(&mut self, random: &mut Random) -> Call {
         let atom = number(random, self.atoms);
-        match random.below(21) {
+        match random.below(25) {
             0..=9 => self.addition(random),
             10..=12 => self.removal(random),
+            21..=24 => self.replacement(random),
             13 => Call::Label { atom },
             14 => Call::Spoiler {
                 slot: number(random, self.slots),

@@ -5,7 +5,9 @@ use crate::book::Book;
 use crate::calls::Call;
 use crate::checklist::{frame_rule, good, Checklist, Mark};
 use crate::file;
+use crate::generate::again::Named;
 use crate::generate::calls::Calls;
+use crate::generate::replacements::any_replacement;
 use crate::limits::{FILES, SLOTS};
 use crate::random::Random;
 use crate::rules::{Program, Rule};
@@ -26,15 +28,7 @@ const NO_FILES: [u32; 9] = [
 
 /// The addition of a rule, its lists in any order.
 fn addition(random: &mut Random, rule: &Rule) -> Call {
-    let mut positives: Vec<u32> = rule.positives.iter().copied().collect();
-    let mut negatives: Vec<u32> = rule.negatives.iter().copied().collect();
-    random.shuffle(&mut positives);
-    random.shuffle(&mut negatives);
-    Call::Add {
-        head: rule.head,
-        positives,
-        negatives,
-    }
+    Named::of(rule).shuffled(random).addition()
 }
 
 /// Draws calls on a checklist. The book has made every call that was drawn.
@@ -202,6 +196,28 @@ impl Checklists {
         Call::Remove { slot }
     }
 
+    /// Replaces a rule of the frame by what is nearly the same or by itself, a mark by a mark, or anything. The old
+    /// rule mends it.
+    fn replacement(&mut self, random: &mut Random) -> Call {
+        let frame = random.between(0, self.files as usize) as u32;
+        let file = random.between(1, self.files.max(1) as usize) as u32;
+        let other = random.pick(&Mark::BOTH).fact(file);
+        let behind = (0..).zip(self.book.pages()).skip(self.files as usize + 1);
+        let marks = behind.filter(|(_, page)| page.is_some());
+        let marks: Vec<u32> = marks.map(|(page, _)| page).collect();
+        let (slot, named) = match random.below(10) {
+            0..=1 => (frame, Named::of(&self.nearly(random, frame_rule(frame)))),
+            2 => (frame, Named::of(&frame_rule(frame))),
+            3..=6 if !marks.is_empty() => (*random.pick(&marks), Named::of(&other)),
+            _ => any_replacement(random, self.book.pages()),
+        };
+        if let Some(Some(old)) = self.book.pages().get(slot as usize) {
+            let mend = Named::of(old).shuffled(random).replacing(slot);
+            self.mends.push(mend);
+        }
+        named.shuffled(random).replacing(slot)
+    }
+
     /// The pages, with what stands behind the frame moved anywhere behind it.
     fn moved(&self, random: &mut Random) -> Program {
         let mut pages = self.book.pages().clone();
@@ -252,6 +268,7 @@ impl Checklists {
         match random.below(100 + 3 * self.files as usize) {
             0..=11 => self.break_or_move(random),
             12..=25 => self.mark_by_hand(random),
+            26..=33 => self.replacement(random),
             _ => self.on_file(random),
         }
     }

@@ -61,7 +61,7 @@ pub fn faulty(random: &mut Random, fault: Fault) -> RawTable {
 }
 
 /// One of those, if there are any.
-fn any_of<T>(random: &mut Random, mut those: Vec<T>) -> Option<T> {
+pub(super) fn any_of<T>(random: &mut Random, mut those: Vec<T>) -> Option<T> {
     if those.is_empty() {
         return None;
     }

@@ -5,7 +5,7 @@ use crate::limits::LINE_BYTES;
 use crate::random::Random;
 
 /// Lines that are not blank and don't have the form of a command.
-pub const FORMLESS: [&[u8]; 62] = [
+pub const FORMLESS: [&[u8]; 95] = [
     b"A",
     b"A 1",
     b"A 1 2",
@@ -43,6 +43,39 @@ pub const FORMLESS: [&[u8]; 62] = [
     b"A 18446744073709551617 :",
     b"A 1 : 1 2 3 4 5 6 7 8 9 x",
     b"A 256 : x",
+    b"P",
+    b"P 1",
+    b"P 1 2",
+    b"P : 1",
+    b"P :",
+    b"P 1 :",
+    b"P 1 : 2",
+    b"P 1 2 3",
+    b"P 1 2 3 : 4",
+    b"P 1 2: 3",
+    b"P 1 2 :3",
+    b"P 1 2 : !3",
+    b"P 1 2 ! 3",
+    b"P 1 2 ! 3 : 4",
+    b"P 1 2 : : 3",
+    b"P 1 2 : 3 ! 4 ! 5",
+    b"P1 2 : 3",
+    b"PP 1 2 :",
+    b"p 1 2 :",
+    b"P x 2 :",
+    b"P 1 x :",
+    b"P 1 2 : x",
+    b"P 00 2 :",
+    b"P 01 2 :",
+    b"P 1 02 :",
+    b"P 1 2 : 03",
+    b"P -1 2 :",
+    b"P 100000 2 :",
+    b"P 1 100000 :",
+    b"P 1 2 : ! 100000",
+    b"P 4294967296 2 :",
+    b"P 256 256 : x",
+    b"A P 1 2 :",
     b"R",
     b"R1",
     b"R 1 2",
@@ -71,7 +104,7 @@ pub const FORMLESS: [&[u8]; 62] = [
 ];
 
 /// Lines that have a form but name numbers past a limit or break another question.
-const REFUSED: [&[u8]; 20] = [
+const REFUSED: [&[u8]; 34] = [
     b"A 256 :",
     b"A 65536 :",
     b"A 65537 : 1",
@@ -87,6 +120,20 @@ const REFUSED: [&[u8]; 20] = [
     b"A 1 : 256 2 2",
     b"A 1 : ! 1",
     b"A 7 : 7 ! 7",
+    b"P 256 1 :",
+    b"P 65536 1 :",
+    b"P 99999 99999 : 1 1",
+    b"P 256 256 : 1 2 3 4 5 6 7 8 9",
+    b"P 255 256 :",
+    b"P 0 256 :",
+    b"P 0 256 : 1 2 3 4 5 6 7 8 9",
+    b"P 0 1 : 1 2 3 4 5 ! 6 7 8 256",
+    b"P 0 1 : 256 2 2",
+    b"P 0 1 : ! 65537",
+    b"P 0 1 : 2 2",
+    b"P 0 1 : ! 3 3",
+    b"P 0 1 : ! 1",
+    b"P 1 7 : 7 ! 7",
     b"R 256",
     b"R 65536",
     b"R 99999",
@@ -114,10 +161,11 @@ fn fields(numbers: &[u32]) -> String {
 
 /// A command that reads well, over about that many atoms and slots.
 pub fn command(random: &mut Random, atoms: usize, slots: usize) -> Vec<u8> {
-    let line = match random.below(20) {
+    let line = match random.below(23) {
         0..=11 => addition(random, atoms),
         12..=14 => format!("R {}", random.below(slots)),
         15..=17 => format!("W {}", random.below(atoms)),
+        18..=20 => format!("P {} {}", random.below(slots), drawn_rule(random, atoms)),
         _ => "L".to_string(),
     };
     if random.percent(15) {
@@ -129,21 +177,35 @@ pub fn command(random: &mut Random, atoms: usize, slots: usize) -> Vec<u8> {
 
 /// An addition over about that many atoms.
 pub fn addition(random: &mut Random, atoms: usize) -> String {
+    format!("A {}", drawn_rule(random, atoms))
+}
+
+/// A rule as it stands in a line.
+fn drawn_rule(random: &mut Random, atoms: usize) -> String {
     let head = random.below(atoms);
     let most = *random.pick(&[2, 2, 3, 5]);
     let positives = fields(&numbers(random, atoms, most));
     if random.percent(60) {
-        return format!("A {head} :{positives}");
+        return format!("{head} :{positives}");
     }
     let negatives = fields(&numbers(random, atoms, most));
-    format!("A {head} :{positives} !{negatives}")
+    format!("{head} :{positives} !{negatives}")
 }
 
-/// The line that names this rule.
-pub fn named(named: &Named) -> String {
+fn rule(named: &Named) -> String {
     let (positives, negatives) = (fields(&named.positives), fields(&named.negatives));
     let mark = if negatives.is_empty() { "" } else { " !" };
-    format!("A {} :{positives}{mark}{negatives}", named.head)
+    format!("{} :{positives}{mark}{negatives}", named.head)
+}
+
+/// The line that adds this rule.
+pub fn named(named: &Named) -> String {
+    format!("A {}", rule(named))
+}
+
+/// The line that replaces what the slot holds by this rule.
+pub fn replacing(slot: u32, named: &Named) -> String {
+    format!("P {slot} {}", rule(named))
 }
 
 /// The line with more spaces between its tokens and at its ends.
@@ -163,9 +225,15 @@ pub fn any_line(random: &mut Random, atoms: usize, slots: usize) -> Vec<u8> {
         11..=13 => random.pick(&FORMLESS).to_vec(),
         14..=16 => random.pick(&REFUSED).to_vec(),
         17 => bytes_of(random, b" ", 5),
-        18 => bytes_of(random, b"ARWL:! 0123456789\t\r\0\xff", 40),
+        18 => bytes_of(random, b"APRWL:! 0123456789\t\r\0\xff", 40),
         _ => long_line(random),
     }
+}
+
+/// The start of a line with many numbers behind it.
+fn filled(start: &[u8], length: usize) -> Vec<u8> {
+    let numbers = b" 2".iter().cycle();
+    start.iter().chain(numbers).copied().take(length).collect()
 }
 
 /// A line at or around the longest length, or far past it: spaces, a command among spaces,
@@ -176,15 +244,11 @@ fn long_line(random: &mut Random) -> Vec<u8> {
     } else {
         random.between(LINE_BYTES, 5_000)
     };
-    let mut line: Vec<u8> = match random.below(4) {
+    let mut line: Vec<u8> = match random.below(5) {
         0 => Vec::new(),
         1 => command(random, 6, 8),
-        2 => b"A 1 :"
-            .iter()
-            .copied()
-            .chain(b" 2".iter().copied().cycle())
-            .take(length)
-            .collect(),
+        2 => filled(b"A 1 :", length),
+        3 => filled(b"P 0 1 :", length),
         _ => vec![*random.pick(b"Ax\t\r\0\xff"); length],
     };
     line.resize(length, b' ');

@@ -11,6 +11,8 @@ mod file_records;
 pub mod files;
 pub mod lines;
 pub mod programs;
+pub mod replacement_kinds;
+pub mod replacements;
 pub mod sheets;
 pub mod words;
 

@@ -1,8 +1,13 @@
 //! Random sheets: stories, refusals, lines without a form, garbage, and lengths at the limits.
 
-use crate::command::{read_line, Command, Line};
+use crate::book::Book;
+use crate::calls::Call;
+use crate::command::{read_line, Line};
 use crate::generate::again::{Earlier, Named};
-use crate::generate::lines::{addition, any_line, bytes_of, command, long_or_command, named};
+use crate::generate::lines::{
+    addition, any_line, bytes_of, command, long_or_command, named, replacing,
+};
+use crate::generate::replacements::any_replacement;
 use crate::limits::{INPUT_BYTES, SLOTS};
 use crate::random::Random;
 
@@ -43,15 +48,15 @@ pub fn sheet(random: &mut Random, flavour: Flavour) -> Vec<u8> {
         Flavour::Empty => bytes_of(random, b"  \n", 400),
         Flavour::Story => {
             let story = repeated(random, 50, |random| command(random, 6, 8));
-            with_some_again(random, &story)
+            with_some_more(random, &story)
         }
         Flavour::Mixed => {
             let mixed = repeated(random, 100, |random| any_line(random, 6, 8));
-            with_some_again(random, &mixed)
+            with_some_more(random, &mixed)
         }
         Flavour::Crowded => {
             let crowded = crowded(random);
-            with_some_again(random, &crowded)
+            with_some_more(random, &crowded)
         }
         Flavour::Chain => chain(random),
         Flavour::LongLines => repeated(random, 60, long_or_command),
@@ -74,38 +79,66 @@ fn repeated(random: &mut Random, most: usize, line: impl Fn(&mut Random) -> Vec<
     sheet
 }
 
-/// The sheet, with an addition named again after one line in six.
-fn with_some_again(random: &mut Random, sheet: &[u8]) -> Vec<u8> {
-    let mut earlier = Earlier::default();
-    let mut longer = Vec::new();
-    for line in sheet.split_inclusive(|&byte| byte == b'\n') {
-        longer.extend(line);
-        if let Some(named) = addition_in(line) {
-            earlier.note(named);
-        }
-        let again = (random.below(6) == 0).then(|| earlier.again(random));
-        if let Some(again) = again.flatten() {
-            longer.extend(named(&again).into_bytes());
-            longer.push(b'\n');
-        }
-    }
-    longer
+/// A sheet that gets longer, what its additions named, and the pages that its lines leave.
+struct Longer {
+    sheet: Vec<u8>,
+    earlier: Earlier,
+    book: Book,
 }
 
-/// What a line of a sheet, with its newline, names in an addition.
-fn addition_in(line: &[u8]) -> Option<Named> {
-    match read_line(line.strip_suffix(b"\n")?) {
-        Line::Command(Command::Add {
-            head,
-            positives,
-            negatives,
-        }) => Some(Named {
-            head,
-            positives,
-            negatives,
-        }),
-        _ => None,
+impl Longer {
+    fn start() -> Longer {
+        Longer {
+            sheet: Vec::new(),
+            earlier: Earlier::default(),
+            book: Book::empty(),
+        }
     }
+
+    /// Puts a line behind the others, with its newline.
+    fn push(&mut self, line: &[u8]) {
+        self.sheet.extend(line);
+        let Line::Command(command) = read_line(line.strip_suffix(b"\n").unwrap_or(line)) else {
+            return;
+        };
+        let Some(call) = command.change() else { return };
+        // A refused change leaves the pages.
+        let _ = self.book.make(&call);
+        if let Call::Add {
+            head,
+            positives,
+            negatives,
+        } = call
+        {
+            self.earlier.note(Named {
+                head,
+                positives,
+                negatives,
+            });
+        }
+    }
+
+    /// A replacement on the pages.
+    fn replace(&mut self, random: &mut Random) {
+        let (slot, rule) = any_replacement(random, self.book.pages());
+        self.push((replacing(slot, &rule) + "\n").as_bytes());
+    }
+}
+
+/// The sheet, with an addition named again after one line in six, and a replacement after one in eight.
+fn with_some_more(random: &mut Random, sheet: &[u8]) -> Vec<u8> {
+    let mut longer = Longer::start();
+    for line in sheet.split_inclusive(|&byte| byte == b'\n') {
+        longer.push(line);
+        let again = (random.below(6) == 0).then(|| longer.earlier.again(random));
+        if let Some(again) = again.flatten() {
+            longer.push((named(&again) + "\n").as_bytes());
+        }
+        if random.below(8) == 0 {
+            longer.replace(random);
+        }
+    }
+    longer.sheet
 }
 
 fn crowded(random: &mut Random) -> Vec<u8> {
@@ -133,16 +166,21 @@ fn chain(random: &mut Random) -> Vec<u8> {
     if random.percent(50) {
         atoms.reverse();
     }
-    let mut sheet: String = atoms
+    let rules = atoms
         .iter()
-        .map(|atom| format!("A {atom} : {}\n", atom - 1))
-        .collect();
-    sheet.push_str(&format!(
-        "A 0 :\nL\nW {}\nR {}\nL\n",
-        length - 1,
-        random.below(length)
-    ));
-    sheet.into_bytes()
+        .map(|atom| format!("A {atom} : {}\n", atom - 1));
+    let mut sheet = Longer::start();
+    rules.for_each(|line| sheet.push(line.as_bytes()));
+    sheet.push(b"A 0 :\n");
+    sheet.push(b"L\n");
+    sheet.push(format!("W {}\n", length - 1).as_bytes());
+    for _ in 0..random.below(4) {
+        sheet.replace(random);
+    }
+    sheet.push(b"L\n");
+    sheet.push(format!("R {}\n", random.below(length)).as_bytes());
+    sheet.push(b"L\n");
+    sheet.sheet
 }
 
 fn garbage(random: &mut Random) -> Vec<u8> {
@@ -166,6 +204,7 @@ fn cut(random: &mut Random) -> Vec<u8> {
     let last = *random.pick(&[
         &b"A 200 : 1 2 ! 34\nL\n"[..],
         b"R 12\nL\n",
+        b"P 12 200 : 1 2 ! 34\nL\n",
         b"W 255\n",
         b"L\nL\n",
     ]);

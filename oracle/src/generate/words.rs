@@ -43,6 +43,16 @@ impl List {
                 self.words.extend(positives.iter().chain(negatives));
             }
             Call::Remove { slot } => self.words.extend([0, *slot]),
+            Call::Replace {
+                slot,
+                head,
+                positives,
+                negatives,
+            } => {
+                let (p, n) = (positives.len() as u32, negatives.len() as u32);
+                self.words.extend([7, *slot, *head, p, n]);
+                self.words.extend(positives.iter().chain(negatives));
+            }
             Call::Load { bytes } => {
                 self.files.resize(self.files.len() + random.below(3), 0);
                 let from = self.files.len() as u32;
@@ -85,20 +95,24 @@ fn on_rules(random: &mut Random) -> List {
     let (count, removals, loads) = if full {
         (300, 2, 0)
     } else {
-        (random.between(0, 120), 25, 3)
+        (random.between(0, 120), 22, 3)
     };
     let mut calls = Calls::on(&RawTable::empty(), atoms, 2 * atoms);
     let mut list = List::default();
     if full && random.percent(50) {
         let bytes = file(random, Kind::FullTable);
-        list.push(random, &Call::Load { bytes });
+        let load = Call::Load { bytes };
+        calls.note(&load);
+        list.push(random, &load);
     }
     for _ in 0..count {
         let call = match random.below(100) {
             share if share < removals => calls.removal(random),
             share if share < removals + loads => calls.load(random),
+            80.. => calls.replacement(random),
             _ => calls.addition(random),
         };
+        calls.note(&call);
         list.push(random, &call);
     }
     list
@@ -117,7 +131,7 @@ fn whole(random: &mut Random) -> List {
 /// that is far too large.
 fn any(random: &mut Random) -> u32 {
     match random.below(5) {
-        0 => random.below(8) as u32,
+        0 => random.below(9) as u32,
         1 => random.below(12) as u32,
         2 => 512 * random.below(14) as u32,
         3 => random.word() as u32,

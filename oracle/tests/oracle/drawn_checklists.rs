@@ -132,6 +132,7 @@ fn kinds(words: &[u32]) -> (Vec<u32>, Option<(u32, usize)>) {
             (0 | 3..=6, _) => 2,
             (2, _) => 3,
             (1, [_, _, p, n, ..]) => 4 + *p as usize + *n as usize,
+            (7, [_, _, _, p, n, ..]) => 5 + *p as usize + *n as usize,
             _ => return (met, Some((kind, rest.len()))),
         };
         if rest.len() < length {
@@ -157,16 +158,19 @@ fn lists_of_numbers_have_every_kind_some_cut_and_some_that_is_none() {
             ends.extend(end);
         }
     }
-    for kind in 0..=6 {
+    for kind in 0..=7 {
         assert!(met.get(&kind).is_some_and(|&n| n > 100), "{kind}: {met:?}");
     }
-    for kind in 3..=6 {
+    for kind in 3..=7 {
         assert!(
             ends.contains(&(kind, 1)),
             "{kind} without its number: {ends:?}"
         );
     }
-    assert!(ends.iter().any(|&(kind, words)| kind == 7 && words > 1));
+    for words in 2..=6 {
+        assert!(ends.contains(&(7, words)), "7 and {words}: {ends:?}");
+    }
+    assert!(ends.iter().any(|&(kind, words)| kind == 8 && words > 1));
 }
 
 #[test]

@@ -60,7 +60,7 @@ impl Orders {
 fn additions_come_in_any_order_and_again_in_another() {
     let mut random = Random::seeded(106);
     let mut orders = Orders::default();
-    for round in 0..100 {
+    for round in 0..150 {
         let mut book = Book::empty();
         let mut calls = Calls::on(&RawTable::empty(), [4, 8, 20, 60, 256][round % 5], 20);
         for _ in 0..100 {
@@ -70,9 +70,7 @@ fn additions_come_in_any_order_and_again_in_another() {
                     positives,
                     negatives,
                 } => orders.add(&mut book, head, &positives, &negatives),
-                Call::Remove { slot } => drop(book.remove(slot)),
-                Call::Load { bytes } => drop(book.load(&bytes)),
-                _ => {}
+                other => drop(book.make(&other)),
             }
         }
     }
@@ -121,7 +119,7 @@ fn lists_of_numbers_and_sheets_name_rules_again_in_another_order() {
                     positives,
                     negatives,
                 }) => orders.add(&mut book, head, &positives, &negatives),
-                Line::Command(Command::Remove { slot }) => drop(book.remove(slot)),
+                Line::Command(other) => drop(other.change().map(|call| book.make(&call))),
                 _ => {}
             }
         }

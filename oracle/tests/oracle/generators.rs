@@ -190,7 +190,14 @@ fn sheets_meet_every_refusal_that_a_sheet_can_meet() {
             "{number}"
         );
     }
-    for answer in ["\nslot 255\n", "\nremoved ", "\nwhy ", " in 256 ", " out\n"] {
+    for answer in [
+        "\nslot 255\n",
+        "\nremoved ",
+        "\nreplaced ",
+        "\nwhy ",
+        " in 256 ",
+        " out\n",
+    ] {
         assert!(printed.contains(answer), "{answer:?}");
     }
 }

@@ -7,7 +7,7 @@ use oracle::sheet::shown;
 use oracle::table::RawTable;
 
 /// The head and both lists, in the order in which they are written.
-fn lists(text: &str) -> (u32, Vec<u32>, Vec<u32>) {
+pub fn lists(text: &str) -> (u32, Vec<u32>, Vec<u32>) {
     let (head, entries) = text.split_once('<').expect("a rule has a <");
     let number = |token: &str| token.parse().expect("a number");
     let (negatives, positives): (Vec<&str>, Vec<&str>) = entries
@@ -39,6 +39,13 @@ pub fn program(rules: &[&str]) -> Program {
 pub fn add(table: &mut RawTable, text: &str) -> Result<u32, u32> {
     let (head, positives, negatives) = lists(text);
     calls::add(table, head, &positives, &negatives).map_err(|refusal| refusal.number())
+}
+
+/// Replaces what the slot holds; the number of the refusal where it is refused.
+pub fn replace(table: &mut RawTable, slot: u32, text: &str) -> Result<(), u32> {
+    let (head, positives, negatives) = lists(text);
+    let answer = calls::replace(table, slot, head, &positives, &negatives);
+    answer.map_err(|refusal| refusal.number())
 }
 
 /// The table after adding the rules to the empty one; their slots count from 0.

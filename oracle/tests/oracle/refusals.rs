@@ -54,6 +54,12 @@ fn every_call_that_takes_a_table_asks_first_whether_it_is_sound() {
             negatives: vec![],
         },
         Call::Remove { slot: large },
+        Call::Replace {
+            slot: large,
+            head: large,
+            positives: vec![],
+            negatives: vec![],
+        },
         Call::Label { atom: large },
         Call::Spoiler { slot: large },
         Call::Justifications { atom: large },

@@ -23,6 +23,41 @@ fn an_addition_answers_its_slot_a_removal_that_it_was_accepted() {
 }
 
 #[test]
+fn a_replacement_answers_that_it_was_accepted_and_takes_the_slot() {
+    let added = [1, 5, 0, 0, 1, 6, 0, 0, 0, 0];
+    let replaced = [7, 1, 9, 2, 1, 4, 3, 2, 7, 1, 9, 2, 1, 3, 4, 2];
+    let (answers, book) = replay(&[&added[..], &replaced].concat(), &[], 100);
+    assert_eq!(answers, [0, 1, 65_536, 65_536, 65_536]);
+    let mut other = Book::empty();
+    assert_eq!(other.add(5, &[], &[]), Ok(0));
+    assert_eq!(other.add(9, &[3, 4], &[2]), Ok(1));
+    assert_eq!(other.remove(0), Ok(()));
+    assert_eq!(book, other);
+}
+
+#[test]
+fn a_refused_replacement_answers_its_number_above_accepted_and_leaves_the_old_rule() {
+    let added = [1, 5, 0, 0, 1, 6, 1, 0, 5];
+    for (call, number) in [
+        (&[7, 256, 256, 0, 0][..], 8),
+        (&[7, 2, 256, 0, 0], 9),
+        (&[7, 0, 256, 0, 1, 256], 1),
+        (&[7, 0, 5, 8, 1, 1, 1, 1, 1, 1, 1, 1, 1, 256], 2),
+        (&[7, 0, 5, 2, 1, 1, 1, 256], 3),
+        (&[7, 0, 5, 0, 2, 1, 1], 4),
+        (&[7, 0, 6, 1, 0, 5], 5),
+        (&[7, 0, 5, 0, 1, 6], 7),
+    ] {
+        let (answers, book) = replay(&[&added[..], call].concat(), &[], 100);
+        assert_eq!(answers, [0, 1, 65_536 + number], "{call:?}");
+        let mut other = Book::empty();
+        assert_eq!(other.add(5, &[], &[]), Ok(0));
+        assert_eq!(other.add(6, &[5], &[]), Ok(1));
+        assert_eq!(book, other, "{call:?}");
+    }
+}
+
+#[test]
 fn a_refusal_answers_its_number_above_accepted() {
     assert_eq!(answers(&[0, 3]), [65_536 + 9]);
     assert_eq!(answers(&[0, 256]), [65_536 + 8]);
@@ -60,7 +95,14 @@ fn a_refused_opening_frees_every_page_and_pages_that_are_no_checklist_meet_15() 
 fn another_number_or_a_call_cut_short_ends_the_list() {
     for end in [
         &[][..],
+        &[8, 0],
+        &[7],
         &[7, 0],
+        &[7, 0, 2],
+        &[7, 0, 2, 0],
+        &[7, 0, 2, 1, 0],
+        &[7, 0, 2, 0, 1],
+        &[7, 0, 2, 1, 1, 3],
         &[3],
         &[4],
         &[5],
@@ -76,7 +118,8 @@ fn another_number_or_a_call_cut_short_ends_the_list() {
         assert_eq!(answers(&list), [0], "{end:?}");
     }
     assert_eq!(answers(&[1, 2, u32::MAX, u32::MAX, 0, 0]), []);
-    assert_eq!(answers(&[1, 9, 0, 0, 7, 0, 1, 8, 0, 0]), [0]);
+    assert_eq!(answers(&[1, 9, 0, 0, 8, 0, 1, 8, 0, 0]), [0]);
+    assert_eq!(answers(&[1, 9, 0, 0, 7, 0, 2, u32::MAX, u32::MAX, 0]), [0]);
 }
 
 #[test]

@@ -176,6 +176,13 @@ fn called(table: &mut RawTable, command: &Command) -> Result<String, Refusal> {
         Command::Remove { slot } => {
             calls::remove(table, *slot).map(|()| format!("removed {slot}\n"))
         }
+        Command::Replace {
+            slot,
+            head,
+            positives,
+            negatives,
+        } => calls::replace(table, *slot, *head, positives, negatives)
+            .map(|()| format!("replaced {slot}\n")),
         Command::Why { atom } => {
             let mut buffer = [0; 256];
             let count = calls::reason(table, *atom, &mut buffer)? as usize;

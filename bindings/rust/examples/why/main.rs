@@ -3,8 +3,8 @@
 //!     why checklist FILES [sent NUMBER..] [skipped NUMBER..] > PICTURE
 //!     why SHEET ATOM [NAMES] > PICTURE
 //!
-//! Of a checklist it draws why it is complete or is not. Of a sheet the additions and removals are made in order; its
-//! other lines only print, and are passed over. NAMES has a line `atom name` for each atom that has a name.
+//! Of a checklist it draws why it is complete or is not. Of a sheet additions, removals and replacements are made in
+//! order; its other lines only print, and are passed over. NAMES has a line `atom name` for each atom that has a name.
 
 mod cards;
 mod layout;

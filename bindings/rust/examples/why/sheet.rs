@@ -9,18 +9,28 @@ fn numbers(words: &[&str]) -> Option<Vec<u32>> {
     words.iter().map(|word| word.parse().ok()).collect()
 }
 
+/// The positives, and behind a `!` the negatives.
+fn lists(words: &[&str]) -> Option<(Vec<u32>, Vec<u32>)> {
+    let (positives, negatives) = match words.iter().position(|word| *word == "!") {
+        Some(mark) => (&words[..mark], &words[mark + 1..]),
+        None => (words, &[][..]),
+    };
+    Some((numbers(positives)?, numbers(negatives)?))
+}
+
 /// Makes the line's change; none if the line is no command.
 fn obey(table: &mut Table, line: &str) -> Option<Result<(), yeqontur::Refusal>> {
     let words: Vec<&str> = line.split_whitespace().collect();
     match words[..] {
-        ["A", head, ":", ref lists @ ..] => {
-            let (positives, negatives) = match lists.iter().position(|word| *word == "!") {
-                Some(mark) => (&lists[..mark], &lists[mark + 1..]),
-                None => (lists, &[][..]),
-            };
-            let (positives, negatives) = (numbers(positives)?, numbers(negatives)?);
+        ["A", head, ":", ref entries @ ..] => {
+            let (positives, negatives) = lists(entries)?;
             let added = table.add(head.parse().ok()?, &positives, &negatives);
             Some(added.map(|_| ()))
+        }
+        ["P", slot, head, ":", ref entries @ ..] => {
+            let (positives, negatives) = lists(entries)?;
+            let (slot, head) = (slot.parse().ok()?, head.parse().ok()?);
+            Some(table.replace(slot, head, &positives, &negatives))
         }
         ["R", slot] => Some(table.remove(slot.parse().ok()?)),
         [] | ["L"] | ["W", _] => Some(Ok(())),

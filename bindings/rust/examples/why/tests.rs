@@ -94,6 +94,29 @@ fn of_an_atom_in_both_lists_the_entry_that_stops_is_marked() {
 }
 
 #[test]
+fn a_replaced_rule_is_drawn_in_its_slot() {
+    let two = "A 1 : 2\nA 2 :\n";
+    let replaced = format!("{two}P 0 1 : 2 ! 3\nP 1 2 : ! 4\n");
+    let rules = |sheet: &str| sheet::table(sheet).expect("a sheet");
+    assert_eq!(rules(&replaced), rules("A 1 : 2 ! 3\nA 2 : ! 4"));
+    assert_eq!(rules(&format!("{two}P 0 1 : 2")), rules(two));
+    for line in [
+        "P 0 1",
+        "P 0 : 1",
+        "P : 0 1",
+        "P 0 1 : x",
+        "P 0 1 : ! 2 ! 3",
+    ] {
+        let told = sheet::table(&format!("{two}{line}")).expect_err(line);
+        assert_eq!(told, format!("line 3 is no line of a sheet: {line}"));
+    }
+    for (line, refusal) in [("P 2 1 :", 9), ("P 0 2 :", 5), ("P 1 2 : ! 1", 7)] {
+        let told = sheet::table(&format!("{two}{line}")).expect_err(line);
+        assert!(told.starts_with(&format!("line 3 refused {refusal}: ")));
+    }
+}
+
+#[test]
 fn names_and_sheets_that_cannot_be_read_are_told() {
     assert!(picture("A 1 :", "1", "1 <a> & b")
         .expect("a picture")

@@ -81,7 +81,8 @@ impl Random {
         (self.word() % u64::from(bound)) as u32
     }
 
-    fn list(&mut self, longest: u32, atoms: u32) -> Vec<u32> {
+    /// At most so many atoms, which may repeat.
+    pub fn list(&mut self, longest: u32, atoms: u32) -> Vec<u32> {
         (0..self.below(longest + 1))
             .map(|_| self.below(atoms))
             .collect()

@@ -12,8 +12,9 @@ use Rattle.table.specs.Questions.{ruleFrom}
 use Rattle.questions.proofs.Refusals.{none-refused}
 use Rattle.calls.specs.Contracts.{held}
 use Rattle.making.proofs.Slots.{lowest-at, lowest-none}
-use Rattle.changes.proofs.Adding.{same-told, refused-early, refused-same, refused-full, refused-cycle}
-use Rattle.changes.proofs.Adding.{bounded-changed, add-ends, handed-back}
+use Rattle.changes.proofs.Putting.{same-told}
+use Rattle.changes.proofs.Adding.{refused-early, refused-same, refused-full, refused-cycle, bounded-changed}
+use Rattle.changes.proofs.Adding.{add-ends, handed-back}
 use Rattle.calls.proofs.Sizes.{table-sized, rule-sized}
 use Rattle.changes.proofs.Sizes.{labels-sized}
 use borrow.Author.Needs.{needs}
@@ -37,8 +38,8 @@ other :
 other c =
     let made = c .before .before .before in
     let s = made .before .before .before .before .before in
-    same-told (s .args .table) (s .pre) (named s) (pass (made .before)) (made .make-rule .result)
-    (made .make-rule .ensures) _ false (c .before .holds-rule .ensures) (c .if2 .left)
+    same-told (held (s .args .table)) (s .pre .labels .ascending) (named s) (pass (made .before))
+    (made .make-rule .result) (made .make-rule .ensures) _ false (c .before .holds-rule .ensures) (c .if2 .left)
 
 first-no-requires : tie.Need-first-no-requires
 first-no-requires c κs = tt
@@ -74,8 +75,8 @@ returns-2 c =
     let s = made .before .before .before .before .before in
     handed-back (s .args .table) (named s) _ _ (c .refuse2 .ensures)
     (refused-same (s .args .table) (s .pre) (named s) (pass (made .before))
-    (same-told (s .args .table) (s .pre) (named s) (pass (made .before)) (made .make-rule .result)
-    (made .make-rule .ensures) _ _ (holds .holds-rule .ensures) (c .before .if2 .taken)))
+    (same-told (held (s .args .table)) (s .pre .labels .ascending) (named s) (pass (made .before))
+    (made .make-rule .result) (made .make-rule .ensures) _ _ (holds .holds-rule .ensures) (c .before .if2 .taken)))
 
 lowest-free-requires : tie.Need-lowest-free-requires
 lowest-free-requires c κs = tt

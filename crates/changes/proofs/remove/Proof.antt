@@ -1,5 +1,5 @@
 -- `changes::remove` ends as its contract says. Assumes nothing.
-use Rattle.calls.proofs.Asking.{slot-passed, remove-refused}
+use Rattle.calls.proofs.Asking.{slot-passed, change-refused}
 use Rattle.changes.proofs.Removing.{bounded-rest, remove-ends}
 use Rattle.calls.proofs.Sizes.{table-sized}
 use Rattle.changes.proofs.Sizes.{labels-sized}
@@ -38,7 +38,8 @@ returns c =
     let asked = c .before in
     let ask = asked .before .before in
     let s = ask .before in
-    remove-refused (s .args .table) (s .args .slot) _ (ask .ask-slot .ensures) _ (asked .asked .given .1)
+    change-refused (s .args .table) (s .args .slot) _ (ask .ask-slot .ensures) _ (asked .asked .given .1) _ _
+    (λ k no. no)
 
 returns-2 : tie.Need-returns-2
 returns-2 c =

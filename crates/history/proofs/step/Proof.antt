@@ -1,9 +1,12 @@
 -- `history::step` meets its contract. Assumes nothing.
 use Prim.Native.Nat.{_≤_}
+use mathlib.Core.Path.{refl}
 use lib.ListN.{length}
 use borrow.Author.Needs.{needs}
-use Rattle.history.proofs.Reading.{add-order, load-order, step-end, step-removal, step-addition, step-loading}
-use Rattle.history.proofs.Reading.{step-listing}
+use Rattle.history.specs.Claim.{adds, removes, replaces, loads}
+use Rattle.history.specs.Steps.{Parts}
+use Rattle.history.proofs.Reading.{order-of, checklist-step, told-step}
+use Rattle.history.proofs.Reading.{step-end, step-made}
 use Rattle.history.proofs.step.Statement.{statement}
 use Rattle.history.proofs.step.Tie as tie
 
@@ -19,19 +22,17 @@ enum-known-next c = search needs
 remove-requires : tie.Need-remove-requires
 remove-requires c κs = tt
 
-accepted-requires : tie.Need-accepted-requires
-accepted-requires c κs = search needs
+step-changed-requires : tie.Need-step-changed-requires
+step-changed-requires c κs = search needs
 
 enum-known-next-2 : tie.Need-enum-known-next-2
 enum-known-next-2 c = search needs
 
 -- what the reader tells of an addition's parts
 order : (c : tie.After-known-told2)
-    → (c .before .next2 .given .0 .1 .0 ≤ c .before .next2 .given .0 .1 .1 .0) ×
-    (c .before .next2 .given .0 .1 .1 .0 ≤ c .before .next2 .given .0 .1 .1 .1 .0) ×
-    (c .before .next2 .given .0 .1 .1 .1 .0 ≤ length
-    (c .before .before .before .before .before .before .args .words .now))
-order c = add-order _ _ _ _ _ _ _ (c .before .next2 .given .1) (c .before .before .before .next-call .ensures .order)
+    → Parts (length (c .before .before .before .before .before .before .args .words .now))
+    (c .before .next2 .given .0 .1 .0) (c .before .next2 .given .0 .1 .1 .0) (c .before .next2 .given .0 .1 .1 .1 .0)
+order c = order-of _ _ _ _ (c .before .next2 .given .1) (c .before .before .before .next-call .ensures .order)
 
 mul-add : tie.Need-mul-add
 mul-add c = (let o = order c in search needs)
@@ -71,46 +72,101 @@ file-order : (c : tie.After-known-told3)
     → (c .before .next3 .given .0 .0 ≤ c .before .next3 .given .0 .1 .0) ×
     (c .before .next3 .given .0 .1 .0 ≤ length (c .before .before .before .before .before .before .args .files .now))
 file-order c =
-    load-order _ _ _ _ _ _ (c .before .next3 .given .1) (c .before .before .before .next-call .ensures .order)
+    order-of _ _ _ _ (c .before .next3 .given .1) (c .before .before .before .next-call .ensures .order)
 
-sub-step-load : tie.Need-sub-step-load
-sub-step-load c = (let o = file-order c in search needs)
+sub-load : tie.Need-sub-load
+sub-load c = (let o = file-order c in search needs)
 
-part-step-load-start : tie.Need-part-step-load-start
-part-step-load-start c = (let o = file-order c in search needs)
+part-load-start : tie.Need-part-load-start
+part-load-start c = (let o = file-order c in search needs)
 
-part-step-load-end : tie.Need-part-step-load-end
-part-step-load-end c = (let o = file-order c in search needs)
+part-load-end : tie.Need-part-load-end
+part-load-end c = (let o = file-order c in search needs)
 
-step-load-requires : tie.Need-step-load-requires
-step-load-requires c κs = tt
+load-requires : tie.Need-load-requires
+load-requires c κs = tt
+
+step-changed-requires-2 : tie.Need-step-changed-requires-2
+step-changed-requires-2 c κs = search needs
 
 enum-known-next-4 : tie.Need-enum-known-next-4
 enum-known-next-4 c = search needs
 
-step-checklist-requires : tie.Need-step-checklist-requires
-step-checklist-requires c κs = search needs
+call-checklist-requires : tie.Need-call-checklist-requires
+call-checklist-requires c κs = search needs
+
+step-changed-requires-3 : tie.Need-step-changed-requires-3
+step-changed-requires-3 c κs = search needs
+
+enum-known-next-5 : tie.Need-enum-known-next-5
+enum-known-next-5 c = search needs
+
+-- and of the parts of a replacement's rule
+new-order : (c : tie.After-known-told5)
+    → Parts (length (c .before .before .before .before .before .before .args .words .now))
+    (c .before .next5 .given .0 .1 .1 .0) (c .before .next5 .given .0 .1 .1 .1 .0)
+    (c .before .next5 .given .0 .1 .1 .1 .1 .0)
+new-order c =
+    order-of _ _ _ _ (c .before .next5 .given .1) (c .before .before .before .next-call .ensures .order)
+
+mul-replace : tie.Need-mul-replace
+mul-replace c = (let o = new-order c in search needs)
+
+sub-replace : tie.Need-sub-replace
+sub-replace c = (let o = new-order c in search needs)
+
+part-replace-start : tie.Need-part-replace-start
+part-replace-start c = (let o = new-order c in search needs)
+
+part-replace-end : tie.Need-part-replace-end
+part-replace-end c = (let o = new-order c in search needs)
+
+mul-replace-2 : tie.Need-mul-replace-2
+mul-replace-2 c = (let o = new-order (c .before) in search needs)
+
+sub-replace-2 : tie.Need-sub-replace-2
+sub-replace-2 c = (let o = new-order (c .before) in search needs)
+
+part-replace-start-2 : tie.Need-part-replace-start-2
+part-replace-start-2 c = (let o = new-order (c .before) in search needs)
+
+part-replace-end-2 : tie.Need-part-replace-end-2
+part-replace-end-2 c = (let o = new-order (c .before) in search needs)
+
+replace-requires : tie.Need-replace-requires
+replace-requires c κs = tt
+
+step-changed-requires-4 : tie.Need-step-changed-requires-4
+step-changed-requires-4 c κs = search needs
 
 returns : tie.Need-returns
 returns c = step-end _ _ _ _ _ (c .before .before .next-call .ensures) (c .enum-told .given .1)
 
 returns-2 : tie.Need-returns-2
-returns-2 c = step-removal _ _ _ _ _ (c .before .before .before .before .before .before .next-call .ensures) _ _ _ _ _
-    (c .before .before .before .before .next .given .1) (c .before .before .remove .ensures) (c .accepted .ensures)
+returns-2 c = step-made _ _ _ _ _ (c .before .before .before .before .before .next-call .ensures) _ _ _ _ _ _
+    (c .before .before .before .next .given .1) refl (removes (c .before .remove .ensures)) (c .step-changed .ensures)
 
 returns-3 : tie.Need-returns-3
-returns-3 c = step-addition _ _ _ _ _
-    (c .before .before .before .before .before .before .before .before .next-call .ensures) _ _ _ _ _ _ _
-    (c .before .before .before .before .before .before .next2 .given .1) (c .before .before .add .ensures)
-    (c .added .ensures)
+returns-3 c = step-made _ _ _ _ _
+    (c .before .before .before .before .before .before .before .before .next-call .ensures) _ _ _ _ _ _
+    (c .before .before .before .before .before .before .next2 .given .1) refl (adds (c .before .before .add .ensures))
+    (told-step _ _ _ _ (c .added .ensures))
 
 returns-4 : tie.Need-returns-4
-returns-4 c = step-loading _ _ _ _ _ (c .before .before .before .before .before .next-call .ensures) _ _ _ _
-    (c .before .before .before .next3 .given .1) (c .step-load .ensures)
+returns-4 c = step-made _ _ _ _ _ (c .before .before .before .before .before .before .next-call .ensures) _ _ _ _ _ _
+    (c .before .before .before .before .next3 .given .1) refl (loads (c .before .load .ensures))
+    (c .step-changed2 .ensures)
 
 returns-5 : tie.Need-returns-5
-returns-5 c = step-listing _ _ _ _ _ (c .before .before .before .before .next-call .ensures) _ _ _ _
-    (c .before .before .next4 .given .1) (c .step-checklist .ensures)
+returns-5 c = step-made _ _ _ _ _ (c .before .before .before .before .before .next-call .ensures) _ _ _ _ _ _
+    (c .before .before .before .next4 .given .1) refl (checklist-step _ _ _ (c .before .call-checklist .ensures))
+    (c .step-changed3 .ensures)
+
+returns-6 : tie.Need-returns-6
+returns-6 c = step-made _ _ _ _ _
+    (c .before .before .before .before .before .before .before .next-call .ensures) _ _ _ _ _ _
+    (c .before .before .before .before .before .next5 .given .1) refl (replaces (c .before .replace .ensures))
+    (c .step-changed4 .ensures)
 
 pub step-spec : {M : Type 1} → statement M
 step-spec =
@@ -120,7 +176,7 @@ step-spec =
     enum-told
     enum-known-next
     remove-requires
-    accepted-requires
+    step-changed-requires
     enum-known-next-2
     mul-add
     sub-add
@@ -133,14 +189,28 @@ step-spec =
     add-requires
     added-requires
     enum-known-next-3
-    sub-step-load
-    part-step-load-start
-    part-step-load-end
-    step-load-requires
+    sub-load
+    part-load-start
+    part-load-end
+    load-requires
+    step-changed-requires-2
     enum-known-next-4
-    step-checklist-requires
+    call-checklist-requires
+    step-changed-requires-3
+    enum-known-next-5
+    mul-replace
+    sub-replace
+    part-replace-start
+    part-replace-end
+    mul-replace-2
+    sub-replace-2
+    part-replace-start-2
+    part-replace-end-2
+    replace-requires
+    step-changed-requires-4
     returns
     returns-2
     returns-3
     returns-4
-    returns-5)
+    returns-5
+    returns-6)

@@ -1,7 +1,7 @@
 -- `replies::add_listed` meets its contract. Assumes nothing.
 use Prim.Native.Nat.{ℕ, _+_, _-_}
 use native.Mathlib.Omega.{arith}
-use mathlib.Core.Path.{_≡_, sym, subst}
+use mathlib.Core.Path.{_≡_, subst}
 use lib.ListN.{take, drop, length-take}
 use Rattle.table.specs.Questions.{ruleFrom}
 use Rattle.calls.specs.Contracts.{AddEnds}

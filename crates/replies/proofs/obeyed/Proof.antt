@@ -26,6 +26,12 @@ removed-requires c κs = search needs
 enum-known-command-3 : tie.Need-enum-known-command-3
 enum-known-command-3 c = search needs
 
+replaced-requires : tie.Need-replaced-requires
+replaced-requires c κs = search needs
+
+enum-known-command-4 : tie.Need-enum-known-command-4
+enum-known-command-4 c = search needs
+
 explained-requires : tie.Need-explained-requires
 explained-requires c κs = search needs
 
@@ -60,16 +66,26 @@ same-length-3 c = search needs
 
 returns-3 : tie.Need-returns-3
 returns-3 c =
-    let explained = c .before .before in
-    let command = explained .before .before .before in
+    let replaced = c .before .before in
+    let command = replaced .before .before .before in
     let s = command .before .before .before .before in
-    λ line e. explained .explained .ensures line (e ∙ ap (told (s .args .parsed)) (command .command3 .given .1))
+    λ line e. replaced .replaced .ensures line (e ∙ ap (told (s .args .parsed)) (command .command3 .given .1))
 
 same-length-4 : tie.Need-same-length-4
 same-length-4 c = search needs
 
 returns-4 : tie.Need-returns-4
 returns-4 c =
+    let explained = c .before .before in
+    let command = explained .before .before .before in
+    let s = command .before .before .before .before in
+    λ line e. explained .explained .ensures line (e ∙ ap (told (s .args .parsed)) (command .command4 .given .1))
+
+same-length-5 : tie.Need-same-length-5
+same-length-5 c = search needs
+
+returns-5 : tie.Need-returns-5
+returns-5 c =
     let listed = c .before .before in
     let told-step = listed .before .before in
     let s = told-step .before .before .before .before in
@@ -84,6 +100,8 @@ obeyed-spec =
     enum-known-command-2
     removed-requires
     enum-known-command-3
+    replaced-requires
+    enum-known-command-4
     explained-requires
     enum-told
     listed-requires
@@ -94,4 +112,6 @@ obeyed-spec =
     same-length-3
     returns-3
     same-length-4
-    returns-4)
+    returns-4
+    same-length-5
+    returns-5)

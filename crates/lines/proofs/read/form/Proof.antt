@@ -7,12 +7,12 @@ use mathlib.Core.List.{List}
 use lib.ListN.{length, drop}
 use borrow.Author.Needs.{needs}
 use Rattle.tokens.specs.Tokens.{tokens, one}
-use Rattle.lines.specs.Commands.{remove, why, addition, only, made, listing, command}
-use Rattle.lines.specs.Readings.{whether}
+use Rattle.lines.specs.Commands.{add, remove, why, ruleForm, replacement, only, made, listing, command}
+use Rattle.lines.specs.Readings.{ENTRIES, whether}
 use Rattle.tokens.specs.Parts.{part, firstOf, restOf}
 use Rattle.places.proofs.Places.{onward-then, onward-to}
 use Rattle.tokens.proofs.Tokens.{tokens-bound}
-use Rattle.lines.proofs.Commands.{form-add, form-remove, form-why, form-labels, form-none}
+use Rattle.lines.proofs.Commands.{form-add, form-remove, form-replace, form-why, form-labels, form-none}
 use Rattle.lines.proofs.Answers.{as-read, rest-length}
 use Rattle.lines.proofs.read.form.Statement.{statement}
 use Rattle.lines.proofs.read.form.Tie as tie
@@ -34,6 +34,18 @@ module _ (c : tie.After-next-token) where
 inside : (c : tie.After-next-token) → c .next-token .result .next .offset ≤ length (c .before .before .args .line .now)
 inside c = c .next-token .ensures .onward .not-past (c .before .before .pre .0)
 
+few : (c : tie.After-next-token) → length
+    (tokens (drop (c .next-token .result .next .offset) (c .before .before .args .line .now))) ≤ ENTRIES
+few c =
+    let s = c .before .before in
+    omega (
+      arith,
+      ap length (behind c),
+      rest-length (all c),
+      tokens-bound (drop (s .args .place .offset) (s .args .line .now)),
+      s .pre .1,
+    )
+
 next-token-requires : tie.Need-next-token-requires
 next-token-requires c κs = tt
 
@@ -49,29 +61,17 @@ part-word-end c = search (needs, c .before .next-token .ensures .onward .not-pas
 is-requires : tie.Need-is-requires
 is-requires c κs = tt
 
-addition-requires : tie.Need-addition-requires
-addition-requires c κs =
-    let t = c .before .before .before .before in
-    let line = t .before .before .args .line .now in
-    let from = t .before .before .args .place .offset in (
-      inside t,
-      omega (
-        arith,
-        ap length (behind t),
-        rest-length (all t),
-        tokens-bound (drop from line),
-        t .before .before .pre .1,
-      ),
-    )
+rule-requires : tie.Need-rule-requires
+rule-requires c κs = let t = c .before .before .before .before in (inside t, few t)
 
 returns : tie.Need-returns
 unfolding command
 returns c =
     let i = c .before .before in
     let t = i .before .before .before in (
-      as-read (c .addition .ensures .0)
-          (ap whether (ap addition (behind t) ∙ form-add _ (told t 65 (i .is .ensures) (c .before .if1 .taken)))),
-      onward-then (t .next-token .ensures .onward) (c .addition .ensures .1),
+      as-read (c .rule .ensures .0)
+          (ap whether (ap (ruleForm add) (behind t) ∙ form-add _ (told t 65 (i .is .ensures) (c .before .if1 .taken)))),
+      onward-then (t .next-token .ensures .onward) (c .rule .ensures .1),
     )
 
 is-requires-2 : tie.Need-is-requires-2
@@ -97,64 +97,93 @@ returns-2 c =
 is-requires-3 : tie.Need-is-requires-3
 is-requires-3 c κs = tt
 
-numbered-requires-2 : tie.Need-numbered-requires-2
-numbered-requires-2 c κs = inside (c .before .before .before .before .before .before .before .before)
+replacement-requires : tie.Need-replacement-requires
+replacement-requires c κs =
+    let t = c .before .before .before .before .before .before .before .before in (inside t, few t)
 
 returns-3 : tie.Need-returns-3
 unfolding command
 returns-3 c =
+    let p = c .before .before in
+    let r = p .before .before in
+    let i = r .before .before in
+    let t = i .before .before .before in (
+      as-read (c .replacement .ensures .0)
+          (ap whether (ap replacement (behind t)
+          ∙ form-replace _
+          (told t 65 (i .is .ensures) (r .before .if1 .left))
+          (told t 82 (r .is2 .ensures) (p .before .if2 .left))
+          (told t 80 (p .is3 .ensures) (c .before .if3 .taken)))),
+      onward-then (t .next-token .ensures .onward) (c .replacement .ensures .1),
+    )
+
+is-requires-4 : tie.Need-is-requires-4
+is-requires-4 c κs = tt
+
+numbered-requires-2 : tie.Need-numbered-requires-2
+numbered-requires-2 c κs = inside (c .before .before .before .before .before .before .before .before .before .before)
+
+returns-4 : tie.Need-returns-4
+unfolding command
+returns-4 c =
     let w = c .before .before in
-    let r = w .before .before in
+    let p = w .before .before in
+    let r = p .before .before in
     let i = r .before .before in
     let t = i .before .before .before in (
       as-read (c .numbered2 .ensures .0)
           (ap whether (ap (λ ts. made why (only ts)) (behind t)
           ∙ form-why _
           (told t 65 (i .is .ensures) (r .before .if1 .left))
-          (told t 82 (r .is2 .ensures) (w .before .if2 .left))
-          (told t 87 (w .is3 .ensures) (c .before .if3 .taken)))),
+          (told t 82 (r .is2 .ensures) (p .before .if2 .left))
+          (told t 80 (p .is3 .ensures) (w .before .if3 .left))
+          (told t 87 (w .is4 .ensures) (c .before .if4 .taken)))),
       onward-then (t .next-token .ensures .onward) (c .numbered2 .ensures .1),
     )
 
-is-requires-4 : tie.Need-is-requires-4
-is-requires-4 c κs = tt
+is-requires-5 : tie.Need-is-requires-5
+is-requires-5 c κs = tt
 
 listing-requires : tie.Need-listing-requires
 listing-requires c κs = tt
-
-returns-4 : tie.Need-returns-4
-unfolding command
-returns-4 c =
-    let l = c .before .before in
-    let w = l .before .before in
-    let r = w .before .before in
-    let i = r .before .before in
-    let t = i .before .before .before in (
-      as-read (c .listing .ensures .0)
-          (ap whether (ap listing (behind t)
-          ∙ form-labels _
-          (told t 65 (i .is .ensures) (r .before .if1 .left))
-          (told t 82 (r .is2 .ensures) (w .before .if2 .left))
-          (told t 87 (w .is3 .ensures) (l .before .if3 .left)) (told t 76 (l .is4 .ensures) (c .before .if4 .taken)))),
-      onward-then (t .next-token .ensures .onward) (c .listing .ensures .1),
-    )
-
-plain-requires : tie.Need-plain-requires
-plain-requires c κs = tt
 
 returns-5 : tie.Need-returns-5
 unfolding command
 returns-5 c =
     let l = c .before .before in
     let w = l .before .before in
-    let r = w .before .before in
+    let p = w .before .before in
+    let r = p .before .before in
+    let i = r .before .before in
+    let t = i .before .before .before in (
+      as-read (c .listing .ensures .0)
+          (ap whether (ap listing (behind t)
+          ∙ form-labels _
+          (told t 65 (i .is .ensures) (r .before .if1 .left))
+          (told t 82 (r .is2 .ensures) (p .before .if2 .left))
+          (told t 80 (p .is3 .ensures) (w .before .if3 .left))
+          (told t 87 (w .is4 .ensures) (l .before .if4 .left)) (told t 76 (l .is5 .ensures) (c .before .if5 .taken)))),
+      onward-then (t .next-token .ensures .onward) (c .listing .ensures .1),
+    )
+
+plain-requires : tie.Need-plain-requires
+plain-requires c κs = tt
+
+returns-6 : tie.Need-returns-6
+unfolding command
+returns-6 c =
+    let l = c .before .before in
+    let w = l .before .before in
+    let p = w .before .before in
+    let r = p .before .before in
     let i = r .before .before in
     let t = i .before .before .before in (
       as-read (c .plain .ensures .0)
           (ap whether (form-none _
           (told t 65 (i .is .ensures) (r .before .if1 .left))
-          (told t 82 (r .is2 .ensures) (w .before .if2 .left))
-          (told t 87 (w .is3 .ensures) (l .before .if3 .left)) (told t 76 (l .is4 .ensures) (c .before .if4 .left)))),
+          (told t 82 (r .is2 .ensures) (p .before .if2 .left))
+          (told t 80 (p .is3 .ensures) (w .before .if3 .left))
+          (told t 87 (w .is4 .ensures) (l .before .if4 .left)) (told t 76 (l .is5 .ensures) (c .before .if5 .left)))),
       onward-to (t .next-token .ensures .onward) (c .plain .ensures .1),
     )
 
@@ -167,16 +196,19 @@ form-spec =
     part-word-start
     part-word-end
     is-requires
-    addition-requires
+    rule-requires
     returns
     is-requires-2
     numbered-requires
     returns-2
     is-requires-3
-    numbered-requires-2
+    replacement-requires
     returns-3
     is-requires-4
-    listing-requires
+    numbered-requires-2
     returns-4
+    is-requires-5
+    listing-requires
+    returns-5
     plain-requires
-    returns-5)
+    returns-6)

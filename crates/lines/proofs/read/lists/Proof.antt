@@ -28,12 +28,15 @@ abbrev past : tie.Start → List (List ℕ)
 past c = pastNumbers (all c)
 
 module _ (c : tie.After-ended) where
-  no-more : c .ended .result ≡ empty (past (c .before .before .before .before .before))
-  no-more = c .ended .ensures ∙ ap empty (c .before .before .before .collect .ensures .rest)
+  abbrev numbers : tie.After-collect
+  numbers = c .before .before .before .before
+
+  no-more : c .ended .result ≡ empty (past (numbers .before .before))
+  no-more = c .ended .ensures ∙ ap empty (numbers .collect .ensures .rest)
 
 module _ (c : tie.After-next-token) where
   abbrev found : tie.After-collect
-  found = c .before .before .before .before .before
+  found = numbers (c .before .before)
 
   first : part (found .before .before .args .line .now) (c .next-token .result .start)
       (c .next-token .result .next .offset)
@@ -77,21 +80,26 @@ to-last c = onward-then (to-token (token c)) (c .before .before .collect2 .ensur
 collect-requires : tie.Need-collect-requires
 collect-requires c κs = search needs
 
+with-head-requires : tie.Need-with-head-requires
+with-head-requires c κs = tt
+
 ended-requires : tie.Need-ended-requires
 ended-requires c κs = tt
 
 returns : tie.Need-returns
 returns c =
     let e = c .before in
-    let p = e .before .before .before .collect in
-    let s = e .before .before .before .before .before in
+    let p = numbers e .collect in
+    let s = numbers e .before .before in
+    let w = e .before .with-head in
     let ts = all s in
     let count : p .result .count ≡ length (leadingNumbers ts) = omega (arith, p .ensures .count) in
     let size : length (leadingNumbers ts) + length {A = ℕ} [] ≤ 60 = omega (arith, numbers-length ts, s .pre .1) in (
       as-read
-          (lists-answer (p .result .next) (s .args .head) (leadingNumbers ts) []
-          (p .result .count) 0 (p .result .entries) size count refl (p .ensures .entries))
-          (said-over (s .args .head) ts (sym (no-more e) ∙ c .if1 .taken)),
+          (lists-answer (s .args .change) (s .args .head) (w .result) (w .ensures)
+          (p .result .next) (leadingNumbers ts) [] (p .result .count) 0 (p .result .entries)
+          size count refl (p .ensures .entries))
+          (said-over (s .args .change) (s .args .head) ts (sym (no-more e) ∙ c .if1 .taken)),
       p .ensures .onward,
     )
 
@@ -119,7 +127,7 @@ returns-2 c =
     let t = i .before .before .before in
     let s = found t .before .before in (
       as-read (c .plain .ensures .0)
-          (said-spoiled (s .args .head) (all s)
+          (said-spoiled (s .args .change) (s .args .head) (all s)
           (sym (no-more (t .before .before)) ∙ t .before .if1 .left)
           (sym (bang i) ∙ not-true _ (c .before .if2 .taken))),
       onward-to (to-token t) (c .plain .ensures .1),
@@ -146,14 +154,14 @@ returns-3 c =
     let t = i .before .before .before in
     let s = found t .before .before in (
       as-read (c .plain2 .ensures .0)
-          (said-parted-spoiled (s .args .head) (all s)
+          (said-parted-spoiled (s .args .change) (s .args .head) (all s)
           (sym (bang i) ∙ not-false _ (e .before .before .before .if2 .left))
           (sym (no-more-behind e) ∙ not-true _ (c .before .if3 .taken))),
       onward-to (to-last e) (c .plain2 .ensures .1),
     )
 
-sub-t21 : tie.Need-sub-t21
-sub-t21 c =
+sub-t22 : tie.Need-sub-t22
+sub-t22 c =
     let n = c .before .before .before .before .before .collect2 in
     omega (arith, n .ensures .count)
 
@@ -165,6 +173,7 @@ returns-4 c =
     let t = i .before .before .before in
     let p = found t .collect in
     let s = found t .before .before in
+    let w = t .before .before .before .with-head in
     let ps = leadingNumbers (all s) in
     let ns = leadingNumbers (restOf (past s)) in
     let count : p .result .count ≡ length ps = omega (arith, p .ensures .count) in
@@ -175,9 +184,10 @@ returns-4 c =
     ∙ ap (λ ts. sets (p .result .entries) (p .result .count) (leadingNumbers ts)) (behind t)
     ∙ ap (λ xs. sets xs (p .result .count) ns) (p .ensures .entries) in (
       as-read
-          (lists-answer (n .result .next) (s .args .head) ps ns
-          (p .result .count) (n .result .count - p .result .count) (n .result .entries) (size s) count more entries)
-          (said-parted (s .args .head) (all s)
+          (lists-answer (s .args .change) (s .args .head) (w .result) (w .ensures)
+          (n .result .next) ps ns (p .result .count) (n .result .count - p .result .count) (n .result .entries)
+          (size s) count more entries)
+          (said-parted (s .args .change) (s .args .head) (all s)
           (sym (bang i) ∙ not-false _ (e .before .before .before .if2 .left))
           (sym (no-more-behind e) ∙ not-false _ (c .before .before .if3 .left))),
       to-last e,
@@ -188,6 +198,7 @@ lists-spec =
     tie.close
     (tie.spec
     collect-requires
+    with-head-requires
     ended-requires
     returns
     next-token-requires
@@ -201,5 +212,5 @@ lists-spec =
     ended-requires-2
     plain-requires-2
     returns-3
-    sub-t21
+    sub-t22
     returns-4)

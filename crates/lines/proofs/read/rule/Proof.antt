@@ -1,4 +1,4 @@
--- `lines::read::addition` meets its contract: a number, then `:`, then the lists. Assumes nothing.
+-- `lines::read::rule` meets its contract: a number, then `:`, then the lists. Assumes nothing.
 use Prim.Native.Nat.{ℕ}
 use native.Mathlib.Omega.{arith}
 use mathlib.Core.Path.{_≡_, sym, _∙_, ap}
@@ -13,12 +13,12 @@ use Rattle.tokens.specs.Tokens.{one}
 use Rattle.lines.specs.Readings.{whether}
 use Rattle.tokens.specs.Parts.{part, firstOf, restOf, numberOf}
 use Rattle.places.proofs.Places.{onward-then, onward-to}
-use Rattle.lines.proofs.Commands.{addition-no-head, addition-no-sign, addition-is}
+use Rattle.lines.proofs.Commands.{rule-no-head, rule-no-sign, rule-is}
 use Rattle.lines.proofs.Answers.{as-read, rest-length}
-use Rattle.lines.proofs.read.addition.Statement.{statement}
-use Rattle.lines.proofs.read.addition.Tie as tie
+use Rattle.lines.proofs.read.rule.Statement.{statement}
+use Rattle.lines.proofs.read.rule.Tie as tie
 
--- the tokens behind `A`; the first read as a number, the second as a sign, and the rest
+-- the tokens of the rule; the first read as a number, the second as a sign, and the rest
 abbrev all : tie.Start → List (List ℕ)
 all c = tokens (drop (c .args .place .offset) (c .args .line .now))
 
@@ -76,9 +76,10 @@ plain-requires c κs = tt
 returns : tie.Need-returns
 returns c =
     let told = c .before in
-    let t = told .before .before .before .before .before in (
+    let t = told .before .before .before .before .before in
+    let s = t .before .before in (
       as-read (c .plain .ensures .0)
-          (ap whether (addition-no-head _
+          (ap whether (rule-no-head (s .args .change) (all s)
           (sym (head-is (told .before .before)) ∙ ap numberOf (told .enum-told .given .1)))),
       onward-to (t .next-token .ensures .onward) (c .plain .ensures .1),
     )
@@ -102,11 +103,14 @@ plain-requires-2 : tie.Need-plain-requires-2
 plain-requires-2 c κs = tt
 
 returns-2 : tie.Need-returns-2
-returns-2 c = (
-  as-read (c .plain2 .ensures .0)
-      (ap whether (addition-no-sign _ (sym (sign-is (c .before .before)) ∙ not-true _ (c .before .if1 .taken)))),
-  onward-to (to-sign (c .before .before .before .before .before)) (c .plain2 .ensures .1),
-)
+returns-2 c =
+    let i = c .before .before in
+    let t = i .before .before .before in
+    let s = start t in (
+      as-read (c .plain2 .ensures .0)
+          (ap whether (rule-no-sign (s .args .change) (all s) (sym (sign-is i) ∙ not-true _ (c .before .if1 .taken)))),
+      onward-to (to-sign t) (c .plain2 .ensures .1),
+    )
 
 lists-requires : tie.Need-lists-requires
 lists-requires c κs =
@@ -123,15 +127,15 @@ returns-3 c =
     let known = t .before .before in
     let ts = all (start t) in (
       as-read (c .lists .ensures .0)
-          (ap whether (addition-is ts (known .head .given .0 .0) _
+          (ap whether (rule-is (start t .args .change) ts (known .head .given .0 .0) _
           (sym (head-is (known .before .before)) ∙ ap numberOf (known .head .given .1))
           (sym (sign-is i) ∙ not-false _ (c .before .if1 .left))
           (behind t))),
       onward-then (to-sign t) (c .lists .ensures .1),
     )
 
-pub addition-spec : {M : Type 1} → statement M
-addition-spec =
+pub rule-spec : {M : Type 1} → statement M
+rule-spec =
     tie.close
     (tie.spec
     next-token-requires

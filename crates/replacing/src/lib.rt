@@ -1,0 +1,86 @@
+// Replacing a rule: a removal and an addition in one call, so that a refusal keeps the old rule.
+use calls::AskedSlot;
+use calls::ChangeAnswer;
+use calls::Changed;
+use calls::Refusal;
+use calls::slots::ask_slot;
+use labels::labels_of;
+use making::holds_rule;
+use making::make_rule;
+use making::refusal_of;
+use questions::first_no;
+use table::Rule;
+use table::Slot;
+use table::Table;
+use table::parts::with_rule;
+ghost use mathlib.Core.Path.{_≡_};
+ghost use mathlib.Core.Option.{none};
+ghost use Rattle.theory.specs.Questions.{first-no, slot-questions};
+ghost use Rattle.theory.specs.Limits.{document};
+ghost use Rattle.table.specs.Questions.{ruleFrom};
+ghost use Rattle.table.specs.Sound.{Sound};
+ghost use Rattle.calls.specs.declared.ChangeAnswer.the-variants.{Refused};
+ghost use Rattle.calls.specs.Contracts.{held, ReplaceEnds};
+
+// The table handed back as it came.
+fn keep(table: Table, why: Refusal) -> Changed
+    ensures { λ r. ⌜ r ≡ record { answer = Refused why; table = table } ⌝ }
+{
+    Changed {
+        answer: ChangeAnswer::Refused(why),
+        table: table,
+    }
+}
+
+// Replaces the rule that a slot of a sound table holds. The new one is judged against the table without it.
+fn replace_held(
+    table: Table,
+    slot: Slot,
+    head: u32,
+    positives: &[u32],
+    negatives: &[u32],
+) -> Changed
+    requires { ⌜ Sound table ⌝ }
+    requires { ⌜ first-no (slot-questions document (held table) (slot .0)) ≡ none ⌝ }
+    ensures { λ r. ⌜ ReplaceEnds table (slot .0)
+        (ruleFrom head (now (positives .entry)) (now (negatives .entry))) (r .answer) (r .table) ⌝ }
+{
+    let k = first_no(head, positives, negatives);
+    if k != 0 {
+        let why = refusal_of(k);
+        return keep(table, why);
+    }
+    let rule = make_rule(head, positives, negatives);
+    let rules = table.rules;
+    let free = Rule::free();
+    let rest = with_rule(rules, slot, free);
+    if holds_rule(rest, rule) {
+        return keep(table, Refusal::Same);
+    }
+    let changed = with_rule(rest, slot, rule);
+    let found = labels_of(changed);
+    if !found.acyclic {
+        return keep(table, Refusal::NegativeCycle);
+    }
+    let labels = found.labels;
+    Changed {
+        answer: ChangeAnswer::Accepted,
+        table: Table {
+            rules: changed,
+            labels: labels,
+        },
+    }
+}
+
+// Puts the rule that the arguments name, in whatever order, into the slot in place of the rule there, or refuses by the
+// first question answered no. A table refused is handed back as it came, the old rule in its slot.
+pub fn replace(table: Table, slot: u32, head: u32, positives: &[u32], negatives: &[u32]) -> Changed
+    ensures { λ r. ⌜ ReplaceEnds table slot (ruleFrom head (now (positives .entry)) (now (negatives .entry)))
+        (r .answer) (r .table) ⌝ }
+{
+    let asked = ask_slot(table, slot);
+    match asked {
+        AskedSlot::Refused(why) => keep(table, why),
+        AskedSlot::Passed(s) => replace_held(table, s, head, positives, negatives),
+    }
+}
