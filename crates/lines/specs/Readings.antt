@@ -65,25 +65,21 @@ readingOf r =
     lineOf (r .reading) (take (r .positives) (r .entries)) (take (r .negatives) (drop (r .positives) (r .entries)))
 
 -- The lists of a line: those of an addition or a replacement; any other line has none.
+abbrev pub listsOf : Line → List ℕ × List ℕ
+listsOf is-blank = ([], [])
+listsOf too-long = ([], [])
+listsOf no-command = ([], [])
+listsOf (is (spec.add head ps ns)) = (ps, ns)
+listsOf (is (spec.remove slot)) = ([], [])
+listsOf (is (spec.replace slot head ps ns)) = (ps, ns)
+listsOf (is (spec.why atom)) = ([], [])
+listsOf (is spec.labels) = ([], [])
+
 abbrev pub positivesOf : Line → List ℕ
-positivesOf is-blank = []
-positivesOf too-long = []
-positivesOf no-command = []
-positivesOf (is (spec.add head ps ns)) = ps
-positivesOf (is (spec.remove slot)) = []
-positivesOf (is (spec.replace slot head ps ns)) = ps
-positivesOf (is (spec.why atom)) = []
-positivesOf (is spec.labels) = []
+positivesOf l = listsOf l .0
 
 abbrev pub negativesOf : Line → List ℕ
-negativesOf is-blank = []
-negativesOf too-long = []
-negativesOf no-command = []
-negativesOf (is (spec.add head ps ns)) = ns
-negativesOf (is (spec.remove slot)) = []
-negativesOf (is (spec.replace slot head ps ns)) = ns
-negativesOf (is (spec.why atom)) = []
-negativesOf (is spec.labels) = []
+negativesOf l = listsOf l .1
 
 -- The answer for a line that is l: it says so, its lists are as long as the line's and lie within the entries, and
 -- every entry past them is 0. So nothing of the answer is left open but its place, of which `Onward` speaks.
