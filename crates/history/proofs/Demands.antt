@@ -152,12 +152,13 @@ module _ (questions : List Question) (after : Program) (t : Table) where
       (let k : g ≡ f = cc in e ∙ ap (λ (h : Refusal). some (numberOf h)) k)
   change-asked u f x q (contract.accepted w T e Z h U) S = (let z : _≡_ {A = ℕ} 0 1 = cc in absurd (omega arith))
 
-  change-refused :
+  change-refused-first :
       (u : Table) (x : ChangeAnswer) → ChangeEnds questions after t x u → Sound t → (k : ℕ) → (k ≡ 11 → ⊥)
       → first-no questions ≡ some k → x ≡ changed.Refused (refusalOf k)
-  change-refused u x (contract.unsound n) S k m asked = absurd (n S)
-  change-refused u x (contract.refused f T e) S k m asked = ap changed.Refused (refusal-asked f k m (sym e ∙ asked))
-  change-refused u x (contract.accepted w T e Z h U) S k m asked = absurd (Option·none-ne-some k (sym e ∙ asked))
+  change-refused-first u x (contract.unsound n) S k m asked = absurd (n S)
+  change-refused-first u x (contract.refused f T e) S k m asked =
+      ap changed.Refused (refusal-asked f k m (sym e ∙ asked))
+  change-refused-first u x (contract.accepted w T e Z h U) S k m asked = absurd (Option·none-ne-some k (sym e ∙ asked))
 
 -- Refused by 7: the rule closes a loop through a negation.
 
@@ -191,7 +192,7 @@ pub replace-cycle-refused-7 :
     → first-no (take 7 (replace-questions document (held t) s r)) ≡ none → NegativeCycle (with-new t s r)
     → x ≡ changed.Refused refusal.NegativeCycle
 replace-cycle-refused-7 t u s r x E S seven c =
-    change-refused _ _ t u x E S 7 (λ e. omega arith)
+    change-refused-first _ _ t u x E S 7 (λ e. omega arith)
     (cycle-seven 7 (replace-questions document (held t) s r) (with-new t s r) seven refl c)
 
 -- Request #102: where a slot holds the rule in whatever order, an addition of it that passes questions 1 to 4 is

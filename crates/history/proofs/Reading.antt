@@ -32,7 +32,8 @@ use Rattle.checklist.specs.Book.{opening, of-file}
 use Rattle.checklist.specs.Book as list
 use Rattle.checklist.specs.Contracts.{OpenEnds, FileEnds}
 use Rattle.history.specs.Claim.{Step, opens, marks}
-use Rattle.history.specs.Steps.{ruleOf, callOf, Parts, InOrder, FindRule, cut, whole, NextLoad, NextOf, StepOf}
+use Rattle.history.specs.Steps.{rule-between, callOf, Parts, InOrder, FindRule, cut, whole, NextLoad}
+use Rattle.history.specs.Steps.{NextOf, StepOf}
 use Rattle.history.specs.Steps.{NextChecklist, below, above, among, checklistCall, ChecklistEnds}
 
 pub small : (f : Refusal) (n : ℕ) → n ≡ numberOf f → n ≤ 22
@@ -200,7 +201,7 @@ module _ (ws : List ℕ) (at : ℕ) (of : Rule → book.Call) where
 
   pub found-whole :
       (x : RuleFound) → FindRule ws at x → (h f m b : ℕ) → x ≡ found.At h f m b
-      → (some (record { call = change (of (ruleOf ws h f m b)); behind = b }) ≡ placed-rule ws at of)
+      → (some (record { call = change (of (rule-between ws h f m b)); behind = b }) ≡ placed-rule ws at of)
       × Parts (length ws) f m b
   found-whole x (cut l) h f m b e = (let z : _≡_ {A = ℕ} 0 1 = cc in absurd (omega arith))
   found-whole x (whole l) h f m b e =
@@ -225,7 +226,7 @@ module _ (ws : List ℕ) (at : ℕ) (of : Rule → book.Call) where
       told : RuleFound → Type 0
       told found.Cut = ⊥
       told (found.At h f m b) =
-          (some (record { call = change (of (ruleOf ws h f m b)); behind = b }) ≡ placed-rule ws at of)
+          (some (record { call = change (of (rule-between ws h f m b)); behind = b }) ≡ placed-rule ws at of)
           × Parts (length ws) f m b
 
 -- A call of a rule is read.
@@ -236,7 +237,7 @@ module _ (ws files : List ℕ) (at place : ℕ) (of : Rule → book.Call)
 
   pub reads-rule :
       (h f m b : ℕ) → x ≡ found.At h f m b → (z : Next)
-      → callOf ws files z ≡ some (record { call = change (of (ruleOf ws h f m b)); behind = b })
+      → callOf ws files z ≡ some (record { call = change (of (rule-between ws h f m b)); behind = b })
       → (Parts (length ws) f m b → InOrder (length ws) (length files) z) → NextOf ws files at z
   reads-rule h f m b e z q o =
       let w = found-whole ws place of x F h f m b e in

@@ -30,8 +30,8 @@ checklistCall (suc (suc zero)) i = of-file (file-skipped i)
 checklistCall (suc (suc (suc k))) i = of-file (skip-withdrawn i)
 
 -- The rule whose lists are parts of the list.
-abbrev pub ruleOf : List ℕ → ℕ → ℕ → ℕ → ℕ → Rule
-ruleOf ws head from middle to =
+abbrev pub rule-between : List ℕ → ℕ → ℕ → ℕ → ℕ → Rule
+rule-between ws head from middle to =
     record { head = head; positives = between ws from middle; negatives = between ws middle to }
 
 -- The call that is read at a place, and the place behind it.
@@ -39,9 +39,9 @@ abbrev pub callOf : List ℕ → List ℕ → Next → Option Placed
 callOf ws files next.End = none
 callOf ws files (next.Remove s behind) = some (record { call = change (remove s); behind = behind })
 callOf ws files (next.Add head from middle to) =
-    some (record { call = change (add (ruleOf ws head from middle to)); behind = to })
+    some (record { call = change (add (rule-between ws head from middle to)); behind = to })
 callOf ws files (next.Replace slot head from middle to) =
-    some (record { call = change (replace slot (ruleOf ws head from middle to)); behind = to })
+    some (record { call = change (replace slot (rule-between ws head from middle to)); behind = to })
 callOf ws files (next.Load from to behind) = some (record { call = load (between files from to); behind = behind })
 callOf ws files (next.Checklist which number behind) =
     some (record { call = checklist (checklistCall which number); behind = behind })
