@@ -34,8 +34,8 @@ extern "C" {
 #define YEQONTUR_FILE_BYTES 6144
 
 /* A slot: free (state 0) or with one rule (state 1): the head is in if every positive entry is in and no negative one
- * is. The entries are the positive list, then the negative list, each ascending, in whatever order the call named it.
- * To be read; rules are changed by the calls. */
+ * is. A muted rule (state 2) is held and gives nothing. The entries are the positive list, then the negative list, each
+ * ascending, in whatever order the call named it. To be read; rules are changed by the calls. */
 typedef struct {
     uint16_t state;
     uint16_t head;
@@ -52,9 +52,10 @@ typedef struct {
 } yeqontur_kept_label;
 
 /* A table goes in by value and comes back by value. Any bytes are a table; question 15 says whether it is sound. A
- * table with a list that does not ascend is not, nor is one with the same rule in two slots. Its structs have no
- * padding, so two sound tables with the same rules in the same slots are equal byte for byte (memcmp): a table can be
- * stored, compared and hashed as the 7,168 bytes that it is. The empty table is all zero. */
+ * table with a list that does not ascend is not, nor is one with the same rule in two slots, muted or not. Its structs
+ * have no padding, so two sound tables with the same rules in the same slots, the same of them muted, are equal byte
+ * for byte (memcmp): a table can be stored, compared and hashed as the 7,168 bytes that it is. The empty table is all
+ * zero. */
 typedef struct {
     yeqontur_rule rules[YEQONTUR_SLOTS];
     yeqontur_kept_label labels[YEQONTUR_ATOMS];
@@ -65,17 +66,17 @@ typedef struct {
  *    2  the two lists together have more than 8 entries
  *    3  an entry is not below 256
  *    4  an atom stands twice in one list
- *    5  the table has the same rule already (where one is replaced, in another slot): heads are equal, and each list
- *       holds the same atoms, in any order
+ *    5  the table has the same rule already, muted or not (where one is replaced, in another slot): heads are equal,
+ *       and each list holds the same atoms, in any order; a muted one gives nothing until it is unmuted
  *    6  no slot is free
- *    7  the rule would close a loop through a negation
+ *    7  the rule would close a loop through a negation, muted rules included
  *    8  the slot number is not below 256
  *    9  the slot holds no rule
  *   10  the atom number is not below 256
  *   11  the buffer is too short (`count` says how many entries, or bytes of a file, are needed)
  *   12  the atom is not in
  *   15  the table handed in is not sound, or not a checklist where the call asks for one: its rules are then not those
- *       that the marks of 1 to 60 files give
+ *       that the marks of 1 to 60 files give, or one of them is muted
  *   16  the file's length is not 512 bytes times 1 to 12
  *   17  a block's checksum is wrong: one of its two, which are the A and B of the format; one changed byte, anywhere in
  *       a saved file, is always told so
@@ -102,7 +103,8 @@ typedef struct {
 
 typedef struct {
     uint32_t refused;
-    uint32_t spoiled; /* 0 valid; 1: the rule needs `atom`, which is out; 2: it is blocked by `atom`, which is in */
+    uint32_t spoiled; /* 0 valid; 1: the rule needs `atom`, which is out; 2: it is blocked by `atom`, which is in;
+                         3: it is muted */
     uint32_t atom;
     uint32_t place; /* of that entry in the positive (1) or the negative list (2), as the slot keeps it, from 0 */
 } yeqontur_spoiler_answer;
@@ -132,34 +134,46 @@ yeqontur_table yeqontur_empty(void);
 
 /* "Asks" lists the refusals that a call can meet, in the order in which it asks; the first that applies is told. */
 
-/* Adds a rule to the lowest free slot and answers that slot; with both lists empty it is a fact. The lists may come in
- * any order; the slot keeps each ascending. Every other slot keeps its rule, and all labels are right for the rules now
- * held. Asks 15, 1, 2, 3, 4, 5, 6, 7. */
+/* Adds a rule, not muted, to the lowest free slot and answers that slot; with both lists empty it is a fact. The lists
+ * may come in any order; the slot keeps each ascending. Here and below every other slot keeps its rule, and with it
+ * whether that is muted, and all labels are right for the rules now held. Asks 15, 1, 2, 3, 4, 5, 6, 7. */
 yeqontur_change yeqontur_add(yeqontur_table table, uint32_t head, const uint32_t *positives, size_t positive_count,
                              const uint32_t *negatives, size_t negative_count);
 
-/* Frees a slot. Every other slot keeps its rule, and all labels are right for the rules now held. Asks 15, 8, 9. */
+/* Frees a slot, whether its rule is muted or not. Asks 15, 8, 9. */
 yeqontur_change yeqontur_remove(yeqontur_table table, uint32_t slot);
 
 /* Replaces the rule in a slot by another, in one step: where the new one is refused, the old one still stands. The new
  * rule is judged against the table without the old one, and takes its slot. So a rule may be replaced by itself, in
- * whatever order of its lists; 5 says that another slot has the new rule; 7 that it would close a loop with the other
- * rules alone; and 6 cannot come, also of a full table. The lists are those of yeqontur_add. Every other slot keeps its
- * rule, and all labels are right for the rules now held. Asks 15, 8, 9, 1, 2, 3, 4, 5, 7. */
+ * whatever order of its lists; 5 says that another slot has the new rule, muted or not; 7 that it would close a loop
+ * with the other rules alone; and 6 cannot come, also of a full table. The lists are those of yeqontur_add. The new
+ * rule is not muted, whether the old one was or not: a muted rule that is replaced by itself is unmuted. Asks 15, 8, 9,
+ * 1, 2, 3, 4, 5, 7. */
 yeqontur_accepted yeqontur_replace(yeqontur_table table, uint32_t slot, uint32_t head, const uint32_t *positives,
                                    size_t positive_count, const uint32_t *negatives, size_t negative_count);
 
-/* The label of an atom: absent, out, or in with its least depth and supporting slot. Asks 15, 10. */
+/* Mutes the rule in a slot, or unmutes it where `muted` is 0; any other number mutes. A muted rule is held and gives
+ * nothing: who is in, at which depth and by which slot, what spoils a rule, reasons and repercussions go by the other
+ * rules, those that are not muted. It counts where it matters what is held. Its atoms occur: an atom whose rules are
+ * all muted is out. Justifications and consequences have it. The same rule is refused (5), and so is one that would
+ * close a loop with it (7); so unmuting closes none and never meets 7. What is set already may be set again, which
+ * changes nothing; a rule that was not muted, muted and unmuted again, leaves the table byte for byte as it was. Asks
+ * 15, 8, 9. */
+yeqontur_accepted yeqontur_mute(yeqontur_table table, uint32_t slot, uint32_t muted);
+
+/* The label of an atom: absent, out, or in with its least depth and supporting slot, which is never that of a muted
+ * rule. Asks 15, 10. */
 yeqontur_label_answer yeqontur_label(yeqontur_table table, uint32_t atom);
 
 /* Whether the rule in a slot is valid, or its first entry that spoils it, positive list first and each list ascending:
  * a positive entry spoils if it is out ("needs"), a negative one if it is in ("blocked by"). An atom may stand in both
- * lists; the answer says which of them is meant, and the place in it. For a valid rule or a refusal every other field
- * is 0. Asks 15, 8, 9. */
+ * lists; the answer says which of them is meant, and the place in it. Of a muted rule it is told that it is muted, and
+ * not whether its entries would spoil it. For a valid rule, a muted one or a refusal, `atom` and `place` are 0, and for
+ * a refusal `spoiled` too. Asks 15, 8, 9. */
 yeqontur_spoiler_answer yeqontur_spoiler(yeqontur_table table, uint32_t slot);
 
-/* The slots of the rules with this head; the heads of the rules with this entry; all atoms whose label rests on this
- * one, directly or through others. Each ascending, without repeats. Each asks 15, 10, 11. */
+/* The slots of the rules with this head, and the heads of the rules with this entry, muted rules among them; all atoms
+ * whose label rests on this one, directly or through others. Each ascending, without repeats. Each asks 15, 10, 11. */
 yeqontur_list_answer yeqontur_justifications(yeqontur_table table, uint32_t atom, uint32_t *buffer, size_t length);
 yeqontur_list_answer yeqontur_consequences(yeqontur_table table, uint32_t atom, uint32_t *buffer, size_t length);
 yeqontur_list_answer yeqontur_repercussions(yeqontur_table table, uint32_t atom, uint32_t *buffer, size_t length);
@@ -168,23 +182,24 @@ yeqontur_list_answer yeqontur_repercussions(yeqontur_table table, uint32_t atom,
  * facts come first and its own slot last. Asks 15, 10, 12, 11. */
 yeqontur_list_answer yeqontur_reason(yeqontur_table table, uint32_t atom, uint32_t *buffer, size_t length);
 
-/* Saves the table: writes its file, which has the rules with their slots, one block of 512 bytes for each 22 rules
- * begun, at least one. Labels are not in it. Equal tables have equal files. The bytes go to the start of the buffer and
- * `count` is how many; later ones stay. Refused, no byte is written. YEQONTUR_FILE_BYTES are never too short. Asks 15,
- * 11. */
+/* Saves the table: writes its file, which has the rules with their slots and says which are muted, one block of 512
+ * bytes for each 22 rules begun, at least one. Labels are not in it. Equal tables have equal files. A version that
+ * knows no muting refuses a file with a muted rule (19). The bytes go to the start of the buffer and `count` is how
+ * many; later ones stay. Refused, no byte is written. YEQONTUR_FILE_BYTES are never too short. Asks 15, 11. */
 yeqontur_list_answer yeqontur_save(yeqontur_table table, uint8_t *bytes, size_t length);
 
-/* The table of a file, of any bytes and any length: each rule stands in its slot again, and all labels are found anew.
- * What save wrote gives the saved table, byte for byte; and a file that is accepted is the one that save writes of its
- * table. Asks 16, 17, 18, 19, each of the whole file before the next. */
+/* The table of a file, of any bytes and any length: each rule stands in its slot again, muted if it was, and all labels
+ * are found anew. What save wrote gives the saved table, byte for byte; and a file that is accepted is the one that
+ * save writes of its table. Asks 16, 17, 18, 19, each of the whole file before the next. */
 yeqontur_loaded yeqontur_load(const uint8_t *bytes, size_t length);
 
 /* A checklist is a table of 1 to 60 files, numbered from 1. Atom 0 is a fact, in slot 0. Each file has three atoms, and
  * slot i has the rule GOOD(i) < GOOD(i - 1), SENT(i), not SKIPPED(i): a file is good if it was sent, no skip of it
  * stands, and the files before it are good. "Complete" is the last file's good. A mark is the fact that one of these
  * files was sent or skipped; it stands in any other slot, and one that yeqontur_add put there counts too. A table with
- * any other rule, or without one of the frame's, which are those of slots 0 to the last file's, is no checklist (15).
- * Label, spoiler, justifications and reason say why a checklist is complete or is not; save and load keep it in a file.
+ * any other rule, or without one of the frame's, which are those of slots 0 to the last file's, is no checklist (15);
+ * nor is one with a muted rule, frame or mark, until that is unmuted. Label, spoiler, justifications and reason say why
+ * a checklist is complete or is not; save and load keep it in a file.
  *
  * The rules alone say how many files there are. So yeqontur_remove of the last file's slot, where that file has no mark
  * and is not the only one, leaves a checklist of one file less, which may then be complete; and yeqontur_add of the

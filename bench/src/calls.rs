@@ -107,7 +107,7 @@ mod tests {
     use oracle::generate::calls::Calls;
     use oracle::random::Random;
     use oracle::table::RawTable;
-    use yeqontur::{Label, Table};
+    use yeqontur::{raw, Label, Table};
 
     /// The same call on both sides: the same answer, and the same table after it.
     fn same(call: &Call, table: &mut Table) {
@@ -131,6 +131,12 @@ mod tests {
                 let told = plain::label(&other, *atom).map(|label| Label::from(&label));
                 let expected = table.label(*atom);
                 assert_eq!(told, expected.map_err(|r| r.number()), "{call:?}");
+            }
+            Call::Mute { slot, mark } => {
+                let told = plain::mute(&mut other, *slot, *mark);
+                let expected = raw::mute(table.as_raw(), *slot, *mark);
+                assert_eq!(told.err().unwrap_or(0), expected.refused, "{call:?}");
+                *table = Table::try_from(expected.table).expect("a sound table");
             }
             _ => {}
         }

@@ -156,6 +156,7 @@ mod tests {
                     raw::replace(table, *slot, *head, positives, negatives).table,
                 )
             }
+            Call::Mute { slot, mark } => return (0, raw::mute(table, *slot, *mark).table),
             Call::Load { bytes } => return (0, raw::load(bytes).table),
             _ => unreachable!("a call that changes no table"),
         };
@@ -207,6 +208,28 @@ mod tests {
         }
         assert!(met.keys().eq(&[0, 11, 15, 20, 21, 22]), "{met:?}");
         assert!(met.values().all(|&count| count > 20), "{met:?}");
+    }
+
+    #[test]
+    fn plain_rust_refuses_a_checklist_with_a_muted_rule() {
+        let mut table = sent_up_to(3);
+        for slot in 0..=FILES + 3 {
+            let muted = raw::mute(&table, slot, 1);
+            assert_eq!(muted.refused, 0);
+            assert_eq!(asked(&muted.table, 60), [15, 15], "slot {slot}");
+            for call in [
+                Call::FileSent { file: 4 },
+                Call::FileSkipped { file: 1 },
+                Call::SkipWithdrawn { file: 0 },
+            ] {
+                assert_eq!(
+                    same(&call, &muted.table, 60, &mut BTreeMap::new()),
+                    muted.table
+                );
+            }
+            table = raw::mute(&muted.table, slot, 0).table;
+        }
+        assert!(table == sent_up_to(3));
     }
 
     #[test]

@@ -109,8 +109,8 @@ impl Writer {
     /// Asks for the reason of a held rule's head; one that is not in is refused.
     fn why(&mut self) {
         let slot = self.random.pick(&self.held).0;
-        let rule = self.book.pages()[slot as usize].as_ref();
-        let head = rule.expect("a held rule").head;
+        let page = self.book.pages()[slot as usize].as_ref();
+        let head = page.expect("a held rule").rule.head;
         self.line(format!("W {head}").as_bytes());
     }
 

@@ -11,7 +11,7 @@ use oracle::rounds::rounds;
 use oracle::rules::Program;
 use oracle::sound;
 use oracle::strata::layers;
-use oracle::table::RawTable;
+use oracle::table::{RawTable, MUTED};
 use std::ops::RangeInclusive;
 
 /// What the slow engine finds of rules that are sound without labels.
@@ -109,6 +109,33 @@ fn compared(raw: &RawTable) -> Result<Option<Expected>, String> {
     difference.map_or(Ok(expected), Err)
 }
 
+/// From so many tables on, one of five must have a muted rule, and of these one of five must be sound and one not.
+const MANY: usize = 1_000;
+
+/// How many tables had a muted rule, and how many of them are sound.
+#[derive(Default)]
+struct Muted {
+    tables: usize,
+    sound: usize,
+}
+
+impl Muted {
+    fn note(&mut self, raw: &RawTable) {
+        if raw.rules.iter().any(|rule| rule.state == MUTED) {
+            self.tables += 1;
+            self.sound += usize::from(sound::sound(raw));
+        }
+    }
+
+    fn is_enough(&self, count: usize) -> bool {
+        let one_of_five = |part: usize, whole: usize| 5 * part >= whole;
+        count < MANY
+            || one_of_five(self.tables, count)
+                && one_of_five(self.sound, self.tables)
+                && one_of_five(self.tables - self.sound, self.tables)
+    }
+}
+
 /// How far the rounds went of the tables whose rules are not refused.
 #[derive(Default)]
 struct Reached {
@@ -131,9 +158,10 @@ impl Reached {
 pub fn compare(seed: u64, count: usize) -> bool {
     let mut random = Random::seeded(seed);
     let mut failed = 0;
-    let mut reached = Reached::default();
+    let (mut reached, mut muted) = (Reached::default(), Muted::default());
     for i in 0..count {
         let raw = generate::mixed_table(&mut random);
+        muted.note(&raw);
         match compared(&raw) {
             Ok(expected) => expected.iter().for_each(|e| reached.note(&e.rounds)),
             Err(difference) => {
@@ -147,9 +175,15 @@ pub fn compare(seed: u64, count: usize) -> bool {
         reached.layers, reached.tables, reached.most_layers, reached.most_rounds
     );
     println!(
-        "tables compared with the slow engine: {} passed, {failed} failed",
-        count - failed
+        "tables with a muted rule: {}, of them sound: {}",
+        muted.tables, muted.sound
     );
+    let passed = count - failed;
+    if !muted.is_enough(count) {
+        println!("too few tables with a muted rule");
+        failed += 1;
+    }
+    println!("tables compared with the slow engine: {passed} passed, {failed} failed");
     failed == 0
 }
 
@@ -157,7 +191,7 @@ pub fn compare(seed: u64, count: usize) -> bool {
 mod tests {
     use super::{rounds_differ, Expected};
     use crate::boundary::{Rounds, LAYERS};
-    use oracle::rules::Rule;
+    use oracle::rules::{Page, Rule};
 
     /// A chain along the slots, above it a layer in which nothing is in, and above that a chain against the slots.
     fn expected() -> Expected {
@@ -169,7 +203,8 @@ mod tests {
             Rule::of(5, &[4], &[]),
             Rule::of(4, &[], &[3]),
         ];
-        Expected::of(rules.into_iter().map(Some).collect())
+        let pages = rules.into_iter().map(Page::unmuted);
+        Expected::of(pages.map(Some).collect())
     }
 
     #[test]

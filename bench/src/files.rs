@@ -71,6 +71,7 @@ mod tests {
     use crate::boundary::from_slow;
     use crate::{plain, shapes};
     use oracle::generate::files::{file, KINDS};
+    use oracle::generate::marks::{marked, MARKS};
     use oracle::generate::programs::crowded;
     use oracle::generate::{mixed_table, table_of};
     use oracle::random::Random;
@@ -123,15 +124,18 @@ mod tests {
         shapes::all().iter().for_each(|(_, table)| kept(table));
     }
 
-    /// The rules stand in the first slots, and then anywhere.
+    /// The rules stand in the first slots, and then anywhere, none of them muted, some or all.
     #[test]
     fn plain_rust_saves_and_loads_few_and_many_rules_the_same() {
         let mut random = Random::seeded(1);
         for count in [0, 1, 21, 22, 23, 44, 45, 242, 243, 255, 256] {
-            let mut program = crowded(&mut random, count);
-            kept(&from_slow(&table_of(program.clone())));
-            random.shuffle(&mut program);
-            kept(&from_slow(&table_of(program)));
+            let program = crowded(&mut random, count);
+            for marks in MARKS {
+                let mut program = marked(&mut random, program.clone(), marks);
+                kept(&from_slow(&table_of(program.clone())));
+                random.shuffle(&mut program);
+                kept(&from_slow(&table_of(program)));
+            }
         }
     }
 

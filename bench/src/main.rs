@@ -1,7 +1,7 @@
 //! The proved engine beside plain Rust of the same algorithm and clingo, and against the slow engine.
 //!
 //!     bench                     tables of times and ratios, all measured in this run
-//!     bench TABLE               one of them alone: calls, replacements, phases, files, checklists
+//!     bench TABLE               one of them alone: calls, replacements, mutings, phases, files, checklists
 //!     bench sheet PROGRAM       lines per second of the sheet program, beside plain Rust's and the slow engine's
 //!     bench plain-sheet         plain Rust's sheet program
 //!     bench slow-sheet          the slow engine's
@@ -16,6 +16,7 @@ mod clingo;
 mod clock;
 mod compare;
 mod files;
+mod mutings;
 mod phases;
 mod plain;
 mod replacements;
@@ -27,14 +28,15 @@ use std::io;
 use std::process::ExitCode;
 
 const USAGE: &str =
-    "bench | bench calls | bench replacements | bench phases | bench files | bench checklists
+    "bench | bench calls | bench replacements | bench mutings | bench phases | bench files | bench checklists
     | bench sheet PROGRAM | bench plain-sheet | bench slow-sheet | bench compare SEED COUNT
     | bench replay SEED COUNT";
 
 /// The tables of times by name, in the order in which all are printed.
-const TABLES: [(&str, fn()); 5] = [
+const TABLES: [(&str, fn()); 6] = [
     ("calls", calls::bench),
     ("replacements", replacements::bench),
+    ("mutings", mutings::bench),
     ("phases", phases::bench),
     ("files", files::bench),
     ("checklists", checklists::bench),

@@ -5,11 +5,12 @@ use oracle::generate::table_of;
 use oracle::limits::SLOTS;
 use oracle::loops::has_loop_through_negation;
 use oracle::random::Random;
-use oracle::rules::{Program, Rule};
+use oracle::rules::{holds, Page, Program, Rule};
 use yeqontur::raw::Table;
 
 fn program(rules: Vec<Rule>) -> Program {
-    let mut slots: Program = rules.into_iter().map(Some).collect();
+    let pages = rules.into_iter().map(Page::unmuted);
+    let mut slots: Program = pages.map(Some).collect();
     slots.resize(SLOTS, None);
     slots
 }
@@ -69,10 +70,10 @@ fn random(seed: u64, count: usize, entries: usize) -> Program {
         }
         let cut = random.below(list.len() + 1);
         let new = Rule::of(head, &list[cut..], &list[..cut]);
-        if slots.iter().flatten().any(|old| *old == new) {
+        if holds(&slots, &new) {
             continue;
         }
-        slots[filled] = Some(new);
+        slots[filled] = Some(Page::unmuted(new));
         filled += 1;
     }
     assert!(!has_loop_through_negation(&slots));

@@ -253,6 +253,24 @@ static void replaced_lengths(void) {
     no_checklist(yeqontur_replace(three, 2, YEQONTUR_SENT(1), NULL, 0, NULL, 0).table);
 }
 
+/* A muted rule, of the frame or a mark, and it is no checklist until that is unmuted. File 3 is not sent, so that its
+ * rule gives nothing, muted or not; muted, it does not leave a shorter list either. */
+static void muted_rules(void) {
+    const yeqontur_table sent = accepted(yeqontur_checklist_sent, opened(3), 1);
+    const yeqontur_table table = accepted(yeqontur_checklist_skipped, sent, 2);
+    for (uint32_t slot = 0; slot < 6; slot++) {
+        const yeqontur_accepted muted = yeqontur_mute(table, slot, 1);
+        expect(muted.refused == 0, "the table below a checklist is a table");
+        no_checklist(muted.table);
+        const yeqontur_accepted mended = yeqontur_mute(muted.table, slot, 0);
+        expect(mended.refused == 0 && same(&mended.table, &table), "unmuted, it is the checklist that it was");
+    }
+    yeqontur_table by_hand = table;
+    by_hand.rules[3].state = 2;
+    expect(yeqontur_label(by_hand, 0).refused == 0, "a rule that gives nothing is muted by its state alone");
+    no_checklist(by_hand);
+}
+
 /* Any bytes are a table: 15, and the bytes come back. */
 static void any_bytes(void) {
     yeqontur_table table;
@@ -293,6 +311,7 @@ int main(void) {
     other_rules();
     other_lengths();
     replaced_lengths();
+    muted_rules();
     any_bytes();
     reasons();
     return counted("checklists from C");

@@ -119,6 +119,8 @@ static void numbers(void) {
         expect(yeqontur_replace(table, 0, n, NULL, 0, NULL, 0).refused == 1, "a head past the limit");
         expect(yeqontur_replace(table, 0, 2, &n, 1, NULL, 0).refused == 3, "a positive entry past the limit");
         expect(yeqontur_replace(table, 0, 2, NULL, 0, &n, 1).refused == 3, "a negative entry past the limit");
+        expect(yeqontur_mute(table, n, n).refused == 8, "a slot number past the limit");
+        expect(yeqontur_mute(table, 0, n).refused == 0, "any number mutes");
         expect(yeqontur_spoiler(table, n).refused == 8, "a slot number past the limit");
         expect(yeqontur_label(table, n).refused == 10, "an atom number past the limit");
         for (int j = 0; j < 4; j++) {

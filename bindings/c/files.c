@@ -37,6 +37,12 @@ static yeqontur_table one_rule(void) {
     return added(yeqontur_empty(), 9, positives, 2, negatives, 2);
 }
 
+static yeqontur_table muted(yeqontur_table table, uint32_t slot) {
+    const yeqontur_accepted answer = yeqontur_mute(table, slot, 1);
+    expect(answer.refused == 0, "an accepted muting");
+    return answer.table;
+}
+
 static file saved(yeqontur_table table) {
     file f;
     const yeqontur_list_answer answer = yeqontur_save(table, f.bytes, YEQONTUR_FILE_BYTES);
@@ -115,6 +121,8 @@ static void tables(void) {
     survives(facts(23), 2);
     survives(facts(256), 12);
     survives(yeqontur_remove(facts(23), 7).table, 1);
+    survives(muted(one_rule(), 0), 1);
+    survives(muted(muted(facts(256), 0), 255), 12);
 }
 
 /* By hand: A is 1 and the sum of the bytes. B is 1 for each of the 508 bytes, and each byte for itself and for those
@@ -191,7 +199,6 @@ static void records(void) {
     changed(many, BLOCK + at, 256, 19, "a slot that is not below 256");
     changed(one, at + 2, 256, 19, "a head that is not below 256");
     changed(one, at + 4, 5 * 256 + 4, 19, "more than 8 entries");
-    changed(one, at + 4, 255 * 256 + 255, 19, "counts whose sum wraps");
     changed(one, at + 8, 256, 19, "a positive entry that is not below 256");
     changed(one, at + 12, 65535, 19, "a negative entry that is not below 256");
     changed(one, at + 6, 2, 19, "an atom twice in a list");
@@ -199,6 +206,24 @@ static void records(void) {
     changed(one, at + 12, 6, 19, "a negative list that does not ascend");
     changed(many, RECORD(1) + 2, 0, 19, "the same rule twice");
     changed(one, at + 2, 7, 19, "a loop through a negation");
+}
+
+/* The top bit of a positive count says that the rule is muted, and changes nothing else: the other bits are the count,
+ * and the questions are those of any rule. A bit more of another count, or of a place without a record, is wrong. */
+static void muted_records(void) {
+    const yeqontur_table one = one_rule(), many = facts(23);
+    const size_t at = RECORD(0);
+    const file f = saved(muted(one, 0));
+    expect(f.bytes[at + 4] == 0x82 && f.bytes[at + 5] == 2, "2 positives, muted, and 2 negatives");
+    changed(one, at + 4, 2 * 256 + 0x83, 19, "a muted rule with a wrong count");
+    changed(one, at + 4, 4 * 256 + 0x85, 19, "a muted rule of more than 8 entries");
+    changed(one, at + 4, 255 * 256 + 0xFF, 19, "counts whose sum wraps");
+    changed(one, at + 4, 0x82 * 256 + 2, 19, "the top bit of a negative count");
+    changed(one, RECORD(1) + 4, 0x80, 19, "the top bit in an unused place");
+    changed(muted(one, 0), at + 2, 256, 19, "a muted rule whose head is not below 256");
+    changed(muted(one, 0), at + 6, 3, 19, "a muted rule whose list does not ascend");
+    changed(muted(one, 0), at + 2, 7, 19, "a muted rule that is a loop through a negation");
+    changed(muted(many, 1), RECORD(1) + 2, 0, 19, "a muted rule that another slot has");
 }
 
 /* Three blocks, with this number at this place of the first one and right checksums, are refused so; with a wrong
@@ -242,10 +267,12 @@ int main(void) {
     tables();
     one_block();
     one_byte(facts(23));
+    one_byte(muted(one_rule(), 0));
     one_byte(facts(256));
     lengths();
     blocks();
     records();
+    muted_records();
     order();
     unsound();
     return counted("saved tables from C");

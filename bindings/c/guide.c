@@ -1,4 +1,4 @@
-/* Rules from a scan, their labels, why a label stands, a refusal, and a rule that is replaced. */
+/* Rules from a scan, their labels, why a label stands, a refusal, a rule that is replaced, and one that is muted. */
 #include "yeqontur.h"
 
 #include <stdio.h>
@@ -108,6 +108,10 @@ static void show(const yeqontur_table *table, uint32_t atom, int indent, char *t
     yeqontur_list_answer list = yeqontur_justifications(*table, atom, slots, YEQONTUR_SLOTS);
     for (size_t i = 0; i < list.count; i++) {
         yeqontur_spoiler_answer stop = yeqontur_spoiler(*table, slots[i]);
+        if (stop.spoiled == 3) {
+            printf("%*s  slot %u is muted\n", indent, "", slots[i]);
+            continue;
+        }
         const char *how = stop.spoiled == 2 ? "is blocked by" : "needs";
         printf("%*s  slot %u %s ", indent, "", slots[i], how);
         print_name(stop.atom);
@@ -129,7 +133,7 @@ static void tell(uint32_t refused) {
 }
 
 /* Two changes to the rule of notes.txt. The first is refused, and the old rule still stands. */
-static void edit(yeqontur_table table) {
+static yeqontur_table edited(yeqontur_table table) {
     uint32_t slots[YEQONTUR_SLOTS];
     const uint32_t complete = COMPLETE, good = GOOD(0);
     yeqontur_justifications(table, GOOD(1), slots, YEQONTUR_SLOTS); /* it has one rule */
@@ -142,6 +146,22 @@ static void edit(yeqontur_table table) {
     answer = yeqontur_replace(answer.table, slots[0], GOOD(1), &good, 1, NULL, 0);
     tell(answer.refused);
     show_why(&answer.table, GOOD(1));
+    return answer.table;
+}
+
+/* An afternoon without the rule of notes.txt: it keeps its slot, and unmuted it gives what it gave. */
+static void try_without(yeqontur_table table) {
+    uint32_t slots[YEQONTUR_SLOTS];
+    yeqontur_justifications(table, GOOD(1), slots, YEQONTUR_SLOTS); /* it has one rule */
+    printf("the rule of notes.txt is muted for an afternoon\n");
+    yeqontur_accepted answer = yeqontur_mute(table, slots[0], 1);
+    tell(answer.refused);
+    show_why(&answer.table, COMPLETE);
+
+    printf("and unmuted\n");
+    answer = yeqontur_mute(answer.table, slots[0], 0);
+    tell(answer.refused);
+    show_why(&answer.table, COMPLETE);
 }
 
 int main(void) {
@@ -166,6 +186,6 @@ int main(void) {
     printf("a file that is skipped unless it is good\n");
     const uint32_t good = GOOD(0);
     tell(yeqontur_add(table, SKIPPED(0), NULL, 0, &good, 1).refused);
-    edit(table);
+    try_without(edited(table));
     return 0;
 }

@@ -226,7 +226,7 @@ static yeqontur_table opened(const char *path) {
     }
     int rules = 0;
     for (int slot = 0; slot < YEQONTUR_SLOTS; slot++) {
-        rules += loaded.table.rules[slot].state;
+        rules += loaded.table.rules[slot].state != 0;
     }
     printf("loaded: %d rules\n", rules);
     return loaded.table;

@@ -37,7 +37,7 @@ static void sides(yeqontur_table table) {
 static size_t held(const yeqontur_table *table) {
     size_t count = 0;
     for (int slot = 0; slot < YEQONTUR_SLOTS; slot++) {
-        count += table->rules[slot].state;
+        count += table->rules[slot].state != 0;
     }
     return count;
 }

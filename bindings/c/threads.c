@@ -85,6 +85,16 @@ static void replacement(work *w) {
     w->right &= told.state == 2 && told.depth == 1 && told.slot == last;
 }
 
+/* Without the fact of atom 0 the atom after it turns: out in a chain of positive entries, in in one of negations. */
+static void muting(work *w) {
+    const uint32_t state = w->number % 2 == 1 ? 2 : 1;
+    yeqontur_accepted answer = yeqontur_mute(w->table, 0, 1);
+    w->right &= answer.refused == 0 && yeqontur_spoiler(answer.table, 0).spoiled == 3;
+    w->right &= yeqontur_label(answer.table, 0).state == 1 && yeqontur_label(answer.table, 1).state == state;
+    answer = yeqontur_mute(answer.table, 0, 0);
+    w->right &= answer.refused == 0 && memcmp(&answer.table, &w->table, sizeof w->table) == 0;
+}
+
 static void removal(work *w) {
     yeqontur_change change = yeqontur_remove(w->table, w->number + 10);
     w->right &= change.refused == 0 && change.slot == w->number + 10;
@@ -122,6 +132,7 @@ static void *run(void *given) {
     list(w, yeqontur_reason, LENGTH - 2, negations ? 1 : LENGTH - 1, negations ? LENGTH - 2 : 0);
     file(w);
     replacement(w);
+    muting(w);
     removal(w);
     checklist(w);
     return NULL;

@@ -38,6 +38,7 @@ fn slow(told: Result<Answer, Refusal>) -> Told {
         Ok(Answer::Label(Label::In { depth, slot })) => vec![2, depth, slot],
         Ok(Answer::Spoiler(Validity::Valid)) => vec![0, 0, 0],
         Ok(Answer::Spoiler(Validity::Spoiled(spoiler))) => stopper(spoiler),
+        Ok(Answer::Spoiler(Validity::Muted)) => vec![3, 0, 0],
         Ok(Answer::Count(count)) => vec![count],
         Ok(Answer::Complete(complete)) => vec![complete.into()],
     };
@@ -116,9 +117,17 @@ fn proved_question(call: &Call, table: &raw::Table) -> Option<Told> {
     }
 }
 
-/// A call of a checklist that changes the table, on the proved library; `None` for the others.
-fn proved_checklist(call: &Call, table: &mut raw::Table) -> Option<Told> {
+/// A change that answers that it was accepted and nothing else, on the proved library; `None` for the others.
+fn proved_accepted(call: &Call, table: &mut raw::Table) -> Option<Told> {
     let change = match call {
+        Call::Replace {
+            slot,
+            head,
+            positives,
+            negatives,
+        } => raw::replace(table, *slot, *head, positives, negatives),
+        Call::Mute { slot, mark } => raw::mute(table, *slot, *mark),
+        Call::Load { bytes } => raw::load(bytes),
         Call::Open { files } => raw::checklist_open(*files),
         Call::FileSent { file } => raw::checklist_sent(table, *file),
         Call::FileSkipped { file } => raw::checklist_skipped(table, *file),
@@ -129,7 +138,7 @@ fn proved_checklist(call: &Call, table: &mut raw::Table) -> Option<Told> {
     Some(told(change.refused, vec![]))
 }
 
-/// An addition, a removal, a replacement or a load, on the proved library; `None` for the others.
+/// An addition or a removal, on the proved library; `None` for the others.
 fn proved_change(call: &Call, table: &mut raw::Table) -> Option<Told> {
     match call {
         Call::Add {
@@ -146,21 +155,6 @@ fn proved_change(call: &Call, table: &mut raw::Table) -> Option<Told> {
             *table = change.table;
             Some(told(change.refused, vec![]))
         }
-        Call::Replace {
-            slot,
-            head,
-            positives,
-            negatives,
-        } => {
-            let change = raw::replace(table, *slot, *head, positives, negatives);
-            *table = change.table;
-            Some(told(change.refused, vec![]))
-        }
-        Call::Load { bytes } => {
-            let loaded = raw::load(bytes);
-            *table = loaded.table;
-            Some(told(loaded.refused, vec![]))
-        }
         _ => None,
     }
 }
@@ -169,7 +163,7 @@ fn proved_change(call: &Call, table: &mut raw::Table) -> Option<Told> {
 fn proved(call: &Call, table: &mut raw::Table, lent: &mut Lent) -> Told {
     let told = proved_writing(call, table, lent)
         .or_else(|| proved_question(call, table))
-        .or_else(|| proved_checklist(call, table))
+        .or_else(|| proved_accepted(call, table))
         .or_else(|| proved_change(call, table));
     told.expect("every call is one of these")
 }

@@ -1,21 +1,26 @@
 //! Random sequences of all calls but a checklist's, with random buffers and damaged tables. Lists come in any order,
 //! and rules of the table again in another one. A load goes on with what it hands back: the table of a file, or refused
-//! the empty one. What replacements came to is counted: each kind must come up.
+//! the empty one. What replacements and mutings came to is counted, and what other calls met of muted rules: each kind
+//! must come up.
 
 use crate::both;
 use oracle::calls::Call;
 use oracle::generate::again::pages_of;
-use oracle::generate::replacement_kinds::{Seen, REFUSALS};
+use oracle::generate::muting_kinds::{self, BY_RULES};
+use oracle::generate::replacement_kinds;
 use oracle::generate::{self, calls::Calls};
 use oracle::random::Random;
-use oracle::table::RawTable;
+use oracle::rules::Program;
+use oracle::table::{RawTable, MUTED};
 
 /// How many differences are shown; the rest are counted.
 const SHOWN: usize = 10;
 
-/// From so many calls on, replacements must come so often to each of their ends.
+/// From so many calls on, replacements must come so often to each of their ends, and mutings, which have more of them,
+/// so often.
 const MANY: usize = 100_000;
 const OFTEN: usize = 100;
+const MUTINGS_OFTEN: usize = 50;
 
 /// A table to start a sequence from: empty for the most part, else of any kind, sound or not.
 fn start(random: &mut Random) -> RawTable {
@@ -32,19 +37,32 @@ struct Run {
     seed: u64,
     made: usize,
     failed: usize,
-    replacements: Seen,
+    replacements: replacement_kinds::Seen,
+    mutings: muting_kinds::Seen,
+}
+
+/// What the slots hold before the call, if it may be counted: a replacement, a muting, a load, or any call on a table
+/// with a muted rule.
+fn counted(call: &Call, table: &RawTable) -> Option<Program> {
+    let by_itself = matches!(
+        call,
+        Call::Replace { .. } | Call::Mute { .. } | Call::Load { .. }
+    );
+    let has_muted = || table.rules.iter().any(|rule| rule.state == MUTED);
+    (by_itself || has_muted()).then(|| pages_of(table))
 }
 
 impl Run {
     /// Makes the call on both sides and counts it; `None` where the sides differ.
     fn make(&mut self, call: &Call, table: &mut RawTable, random: &mut Random) -> Option<()> {
         self.made += 1;
-        let replaces = matches!(call, Call::Replace { .. });
-        let before = replaces.then(|| pages_of(table));
+        let before = counted(call, table);
         match both::made(call, table, random) {
             Ok(refused) => {
-                let pages = before.iter();
-                pages.for_each(|pages| self.replacements.note(pages, call, refused));
+                if let Some(pages) = &before {
+                    self.replacements.note(pages, call, refused);
+                    self.mutings.note(pages, call, refused);
+                }
                 Some(())
             }
             Err(difference) => {
@@ -55,6 +73,14 @@ impl Run {
                 None
             }
         }
+    }
+
+    /// Did replacements and mutings come often enough to each of their ends, and did other calls meet muted rules?
+    fn is_enough(&self) -> bool {
+        let refusals = [&replacement_kinds::REFUSALS[..], &[15]].concat();
+        let mutings = [&muting_kinds::REFUSALS[..], &[15]].concat();
+        self.replacements.is_enough(&refusals, OFTEN)
+            && self.mutings.is_enough(&mutings, &BY_RULES, MUTINGS_OFTEN)
     }
 
     /// At most `count` calls, each on the table that the last handed back. Ends where the sides differ.
@@ -71,7 +97,7 @@ impl Run {
 }
 
 /// Makes `count` calls on both sides; table, answer and every buffer entry are compared after each. Answers how many
-/// differ; replacements that came too rarely to one of their ends count as one.
+/// differ; replacements or mutings that came too rarely to one of their ends count as one.
 pub fn compare(seed: u64, count: usize) -> usize {
     let mut random = Random::seeded(seed);
     let mut run = Run {
@@ -83,10 +109,9 @@ pub fn compare(seed: u64, count: usize) -> usize {
         let _ = run.sequence(&mut random, count - run.made);
     }
     let passed = run.made - run.failed;
-    println!("{}", run.replacements);
-    let refusals = [&REFUSALS[..], &[15]].concat();
-    if count >= MANY && !run.replacements.is_enough(&refusals, OFTEN) {
-        println!("replacements came too rarely to one of their ends");
+    println!("{}\n{}", run.replacements, run.mutings);
+    if count >= MANY && !run.is_enough() {
+        println!("replacements or mutings came too rarely to one of their ends");
         run.failed += 1;
     }
     println!(

@@ -5,9 +5,11 @@
 use crate::both;
 use crate::boundary::to_raw;
 use oracle::calls::Call;
+use oracle::generate::again::pages_of;
 use oracle::generate::checklists::Checklists;
 use oracle::generate::damage::{damaged, FIELDS};
 use oracle::generate::mixed_table;
+use oracle::generate::muting_kinds::{self, Kind, Met};
 use oracle::random::Random;
 use oracle::standing::Standing;
 use oracle::table::RawTable;
@@ -22,8 +24,9 @@ const MANY: usize = 20_000;
 const OFTEN: usize = 20;
 
 /// A call that comes to both ends in these lists. An opening may be rare.
-const BOTH_ENDS: [&str; 6] = [
+const BOTH_ENDS: [&str; 7] = [
     "replace",
+    "mute",
     "file sent",
     "file skipped",
     "skip withdrawn",
@@ -48,6 +51,7 @@ struct Seen {
     calls: BTreeMap<&'static str, Times>,
     made: usize,
     failed: usize,
+    mutings: muting_kinds::Seen,
     /// How often whether all is complete was read off the calls and answers, how often it was, and how often there was
     /// no checklist, since the last opening was refused.
     read: usize,
@@ -63,17 +67,17 @@ impl Seen {
         self.failed += 1;
     }
 
-    /// Makes the call on both sides and counts it: whether it was accepted, or `None` where the sides differ.
-    fn make(&mut self, call: &Call, table: &mut RawTable, random: &mut Random) -> Option<bool> {
+    /// Makes the call on both sides and counts it: the number of its refusal, 0 where it was accepted, or `None` where
+    /// the sides differ.
+    fn make(&mut self, call: &Call, table: &mut RawTable, random: &mut Random) -> Option<u32> {
         let told = both::made(call, table, random);
         let times = self.calls.entry(call.name()).or_default();
         times.made += 1;
         self.made += 1;
         match told {
             Ok(refused) => {
-                let accepted = refused == 0;
-                times.accepted += usize::from(accepted);
-                Some(accepted)
+                times.accepted += usize::from(refused == 0);
+                Some(refused)
             }
             Err(difference) => {
                 self.fail(&difference);
@@ -101,13 +105,15 @@ impl Seen {
             && rest.iter().all(|&entry| entry == UNWRITTEN)
     }
 
-    /// Was each call met often enough, was anything ever complete, and was an opening refused among calls on files?
+    /// Was each call met often enough, was anything ever complete, was an opening refused among calls on files, and did
+    /// checklists meet 15 for their muted rules alone?
     fn is_enough(&self) -> bool {
         let often = |&name: &&str| {
             let times = self.calls.get(name).copied().unwrap_or_default();
             times.accepted >= OFTEN && times.made - times.accepted >= OFTEN
         };
-        let enough = self.closed > 0 && BOTH_ENDS.iter().all(often);
+        let muted = self.mutings.times(Kind::Met(Met::Checklist));
+        let enough = self.closed > 0 && muted >= OFTEN && BOTH_ENDS.iter().all(often);
         self.complete > 0 && (self.made < MANY || enough)
     }
 
@@ -118,6 +124,7 @@ impl Seen {
         });
         println!("{} calls made", self.made);
         println!("accepted: {}", shown.collect::<Vec<_>>().join(", "));
+        println!("{}", self.mutings);
         println!(
             "complete, read off calls and answers: {} of {} times; no checklist: {}",
             self.complete, self.read, self.closed
@@ -149,7 +156,9 @@ fn all_calls(random: &mut Random, seen: &mut Seen) -> Option<()> {
             let mut other = damaged(random, &table, field);
             seen.make(&call, &mut other, random)?;
         }
-        seen.make(&call, &mut table, random)?;
+        let before = pages_of(&table);
+        let refused = seen.make(&call, &mut table, random)?;
+        seen.mutings.note(&before, &call, refused);
     }
     Some(())
 }
@@ -162,8 +171,8 @@ fn files_alone(random: &mut Random, seen: &mut Seen) -> Option<()> {
     let mut standing = Standing::default();
     let mut call = drawn.open(random);
     for _ in 0..random.between(10, 40 + 4 * drawn.files() as usize) {
-        let accepted = seen.make(&call, &mut table, random)?;
-        standing.note(&call, accepted);
+        let refused = seen.make(&call, &mut table, random)?;
+        standing.note(&call, refused == 0);
         if !seen.read_off(&standing, &table) {
             seen.fail(&format!("{call:?}: told otherwise than {standing:?}"));
             return None;

@@ -6,7 +6,7 @@ use oracle::generate::files::{file, Kind, KINDS};
 use oracle::generate::mixed_table;
 use oracle::questions::Refusal;
 use oracle::random::Random;
-use oracle::table::RawTable;
+use oracle::table::{RawTable, MUTED};
 use std::collections::BTreeMap;
 use std::fmt::Debug;
 use yeqontur::raw;
@@ -18,11 +18,16 @@ const SHOWN: usize = 10;
 const MANY: usize = 20_000;
 const OFTEN: usize = 500;
 
-/// How often each refusal was met; 0 stands for an accepted call.
-type Met = BTreeMap<u32, usize>;
+/// How often each refusal was met; 0 stands for an accepted call. Whether the table that was loaded or was to be saved
+/// has a muted rule goes with it.
+type Met = BTreeMap<(u32, bool), usize>;
 
-/// Loads on both sides: the refusal's number or 0, or what differs. An accepted file is what saving its table writes.
-fn loaded(bytes: &[u8]) -> Result<u32, &'static str> {
+fn has_muted(table: &RawTable) -> bool {
+    table.rules.iter().any(|rule| rule.state == MUTED)
+}
+
+/// Loads on both sides: what was met, or what differs. An accepted file is what saving its table writes.
+fn loaded(bytes: &[u8]) -> Result<(u32, bool), &'static str> {
     let (answer, table) = calls::load(bytes);
     let expected = answer.err().map_or(0, Refusal::number);
     let told = raw::load(bytes);
@@ -39,7 +44,7 @@ fn loaded(bytes: &[u8]) -> Result<u32, &'static str> {
             return Err("save: another file than the one loaded");
         }
     }
-    Ok(expected)
+    Ok((expected, has_muted(&table)))
 }
 
 /// Random bytes to be written over: none, one too few, just enough, more, or any number.
@@ -55,8 +60,8 @@ fn buffer(random: &mut Random, needed: usize) -> Vec<u8> {
     (0..length).map(|_| random.word() as u8).collect()
 }
 
-/// Saves on both sides: the refusal's number or 0, or what differs.
-fn saved(random: &mut Random, table: &RawTable) -> Result<u32, &'static str> {
+/// Saves on both sides: what was met, or what differs.
+fn saved(random: &mut Random, table: &RawTable) -> Result<(u32, bool), &'static str> {
     let rules = table.rules.iter().filter(|rule| rule.state != 0).count();
     let mut expected = buffer(random, 512 * rules.div_ceil(22).max(1));
     let mut written = expected.clone();
@@ -72,7 +77,7 @@ fn saved(random: &mut Random, table: &RawTable) -> Result<u32, &'static str> {
     if written != expected {
         return Err("save: other bytes");
     }
-    Ok(number)
+    Ok((number, has_muted(table)))
 }
 
 /// What was seen so far.
@@ -89,11 +94,11 @@ impl Seen {
     fn note(
         &mut self,
         what: &str,
-        met: Result<u32, &'static str>,
+        met: Result<(u32, bool), &'static str>,
         counts: fn(&mut Seen) -> &mut Met,
     ) {
         match met {
-            Ok(number) => *counts(self).entry(number).or_default() += 1,
+            Ok(met) => *counts(self).entry(met).or_default() += 1,
             Err(difference) => {
                 if self.failed < SHOWN {
                     println!("{what}: {difference}");
@@ -103,23 +108,28 @@ impl Seen {
         }
     }
 
-    /// At least half of the files were damaged, and of many each refusal was met often.
+    /// At least half of the files were damaged, and of many each refusal was met often; tables with a muted rule and
+    /// without were loaded, saved and refused often.
     fn is_enough(&self, count: usize) -> bool {
         let damaged = self.kinds.iter().filter(|(kind, _)| kind.is_damaged());
         let damaged: usize = damaged.map(|(_, files)| files).sum();
-        let often = |met: &Met, numbers: &[u32]| {
-            let times = |number| met.get(number).copied().unwrap_or(0);
-            numbers.iter().all(|number| times(number) >= OFTEN)
+        let often = |met: &Met, numbers: &[u32], muted: &[bool]| {
+            let times = |number, muted| met.get(&(number, muted)).copied().unwrap_or(0);
+            let enough = |&number: &u32| muted.iter().all(|&muted| times(number, muted) >= OFTEN);
+            numbers.iter().all(enough)
         };
-        let all_often =
-            often(&self.loads, &[0, 16, 17, 18, 19]) && often(&self.saves, &[0, 11, 15]);
+        // A refused load hands back the empty table.
+        let all_often = often(&self.loads, &[0], &[false, true])
+            && often(&self.loads, &[16, 17, 18, 19], &[false])
+            && often(&self.saves, &[0, 11, 15], &[false, true]);
         2 * damaged >= count && (count < MANY || all_often)
     }
 
     fn print(&self) {
         println!("files of each kind: {}", listed(&self.kinds));
-        println!("loads by refusal, 0 if accepted: {}", listed(&self.loads));
-        println!("saves by refusal, 0 if accepted: {}", listed(&self.saves));
+        println!("by refusal, 0 if accepted, and whether a rule is muted:");
+        println!("loads: {}", listed(&self.loads));
+        println!("saves: {}", listed(&self.saves));
     }
 }
 

@@ -1,14 +1,19 @@
 //! Random sheets through the saving program and random files through the loading program, byte for byte.
 
 use crate::program::{keep, pieces, run};
+use oracle::file::read;
 use oracle::generate::files::{any_file, file, Kind};
 use oracle::generate::sheets::{sheet, Flavour, FLAVOURS};
 use oracle::limits::INPUT_BYTES;
 use oracle::random::Random;
+use oracle::rules::muted;
 use oracle::saving;
 
 /// How many inputs of each program are longer than what it reads.
 const LONG: usize = 4;
+
+/// From so many files on, one of twenty must be loaded with a muted rule in it.
+const MANY: usize = 400;
 
 /// A program, what its inputs are called, and the whole of what it must print for one.
 struct Tried<'a> {
@@ -88,7 +93,19 @@ fn inputs(
     })
 }
 
-/// Runs `count` inputs and some special ones through each program. Answers how many differ.
+/// The inputs of the loading program.
+fn files(seed: u64, count: usize) -> impl Iterator<Item = Vec<u8>> {
+    inputs(seed, count, |random, _| any_file(random), long_file)
+}
+
+/// How many of them are accepted and have a muted rule.
+fn with_muted(seed: u64, count: usize) -> usize {
+    let has_muted = |bytes: &Vec<u8>| read(bytes).is_ok_and(|rules| muted(&rules).next().is_some());
+    files(seed, count).filter(has_muted).count()
+}
+
+/// Runs `count` inputs and some special ones through each program. Answers how many differ; too few files with a muted
+/// rule count as one.
 pub fn compare(seed: u64, count: usize, save: &str, load: &str) -> usize {
     let mut random = Random::seeded(seed);
     let saving = Tried {
@@ -102,12 +119,16 @@ pub fn compare(seed: u64, count: usize, save: &str, load: &str) -> usize {
         prints: saving::load,
     };
     let sheets = inputs(seed, count, short_sheet, long_sheet);
-    let files = inputs(seed, count, |random, _| any_file(random), long_file);
-    let failed =
+    let files = files(seed, count);
+    let mut failed =
         saving.differing(&mut random, seed, sheets) + loading.differing(&mut random, seed, files);
-    println!(
-        "sheets saved and files loaded by programs: {} passed, {failed} failed",
-        2 * (count + 1 + LONG) - failed
-    );
+    let passed = 2 * (count + 1 + LONG) - failed;
+    let muted = with_muted(seed, count);
+    println!("files loaded with a muted rule: {muted}");
+    if count >= MANY && 20 * muted < count {
+        println!("too few files with a muted rule");
+        failed += 1;
+    }
+    println!("sheets saved and files loaded by programs: {passed} passed, {failed} failed");
     failed
 }

@@ -1,6 +1,6 @@
 //! The admissible model of a program of any size, closed in on from both sides.
 //!
-//! Let D(S) be the atoms derivable by the rules that no atom of S stops. A larger S stops
+//! Let D(S) be the atoms derivable by the unmuted rules that no atom of S stops. A larger S stops
 //! more rules, so D turns the order round: if S lies within the model then D(S) holds all of
 //! it, and if S holds all of the model then D(S) lies within it. Starting from the empty set,
 //! which lies within, the two sides move towards each other. Where they meet, S = D(S): the
@@ -10,17 +10,17 @@
 
 use crate::atoms::AtomSet;
 use crate::limits::ATOMS;
-use crate::rules::{held, Rule};
+use crate::rules::{unmuted, Page, Rule};
 
-/// The rules, with the places where each atom is waited for.
+/// The unmuted rules, with the places where each atom is waited for.
 struct Derivations<'a> {
     rules: Vec<&'a Rule>,
     waiting: Vec<Vec<usize>>,
 }
 
 impl<'a> Derivations<'a> {
-    fn of(program: &'a [Option<Rule>]) -> Derivations<'a> {
-        let rules: Vec<&Rule> = held(program).map(|(_, rule)| rule).collect();
+    fn of(program: &'a [Option<Page>]) -> Derivations<'a> {
+        let rules: Vec<&Rule> = unmuted(program).map(|(_, rule)| rule).collect();
         let mut waiting = vec![Vec::new(); ATOMS];
         for (place, rule) in rules.iter().enumerate() {
             for &atom in &rule.positives {
@@ -61,7 +61,7 @@ impl<'a> Derivations<'a> {
 
 /// The admissible model that both sides meet in; `None` if they never meet, which only a
 /// loop through a negation can cause.
-pub fn model(program: &[Option<Rule>]) -> Option<AtomSet> {
+pub fn model(program: &[Option<Page>]) -> Option<AtomSet> {
     let derivations = Derivations::of(program);
     let mut within = AtomSet::empty();
     loop {

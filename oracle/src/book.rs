@@ -1,4 +1,4 @@
-//! The plain book: pages of rules, fed the calls' arguments as they came.
+//! The plain book: pages of rules, each with a mark, fed the calls' arguments as they came.
 //!
 //! It asks its questions in its own words and shares with the calls only what a rule, a loop
 //! through a negation, a file and the frame of a checklist are, so that a list of calls can be
@@ -10,7 +10,7 @@ use crate::calls::{Answer, Call};
 use crate::file;
 use crate::limits::{ATOMS, ENTRIES, SLOTS};
 use crate::loops::has_loop_through_negation;
-use crate::rules::{Program, Rule};
+use crate::rules::{Page, Program, Rule};
 
 #[derive(Clone, PartialEq, Eq, Debug)]
 pub struct Book {
@@ -29,9 +29,14 @@ impl Named<'_> {
         self.positives.iter().chain(self.negatives).copied()
     }
 
-    /// The rule as a page holds it.
     fn rule(&self) -> Rule {
         Rule::of(self.head, self.positives, self.negatives)
+    }
+
+    /// The rule as it comes to stand on a page: unmuted.
+    fn page(&self) -> Option<Page> {
+        let (rule, muted) = (self.rule(), false);
+        Some(Page { rule, muted })
     }
 }
 
@@ -48,10 +53,12 @@ const QUESTIONS: [Question; 7] = [
     (4, |_, named| {
         each_once(named.positives) && each_once(named.negatives)
     }),
-    (5, |book, named| !book.pages.contains(&Some(named.rule()))),
+    (5, |book, named| {
+        book.rules().all(|rule| *rule != named.rule())
+    }),
     (6, |book, _| book.pages.contains(&None)),
     (7, |book, named| {
-        !has_loop_through_negation(&book.with(named.rule()))
+        !has_loop_through_negation(&book.with(named.page()))
     }),
 ];
 
@@ -85,10 +92,15 @@ impl Book {
         &self.pages
     }
 
-    /// The pages and the rule besides, wherever it would go.
-    fn with(&self, rule: Rule) -> Program {
+    /// The rules of all pages, whatever their marks are.
+    fn rules(&self) -> impl Iterator<Item = &Rule> {
+        self.pages.iter().flatten().map(|page| &page.rule)
+    }
+
+    /// The pages and one besides, wherever it would go.
+    fn with(&self, page: Option<Page>) -> Program {
         let mut pages = self.pages.clone();
-        pages.push(Some(rule));
+        pages.push(page);
         pages
     }
 
@@ -111,7 +123,7 @@ impl Book {
         };
         self.ask(&ADDITION, &named)?;
         let page = self.pages.iter().take_while(|page| page.is_some()).count();
-        self.pages[page] = Some(named.rule());
+        self.pages[page] = named.page();
         Ok(page as u32)
     }
 
@@ -146,7 +158,15 @@ impl Book {
             negatives,
         };
         without.ask(&REPLACEMENT, &named)?;
-        self.pages[slot as usize] = Some(named.rule());
+        self.pages[slot as usize] = named.page();
+        Ok(())
+    }
+
+    /// Sets the mark of that page and answers that it was accepted, or answers the number of the
+    /// first "no" and stays. Only the mark 0 is that of an unmuted rule.
+    pub fn mute(&mut self, slot: u32, mark: u32) -> Result<(), u32> {
+        let page = self.pages.get_mut(slot as usize).ok_or(8_u32)?;
+        page.as_mut().ok_or(9_u32)?.muted = mark != 0;
         Ok(())
     }
 
@@ -166,6 +186,7 @@ impl Book {
                 positives,
                 negatives,
             } => self.replace(*slot, *head, positives, negatives),
+            Call::Mute { slot, mark } => self.mute(*slot, *mark),
             Call::Load { bytes } => self.load(bytes),
             Call::Open { files } => self.open(*files),
             Call::FileSent { file } => self.file_sent(*file),
@@ -176,8 +197,8 @@ impl Book {
         Some(answer.map(|()| Answer::Accepted))
     }
 
-    /// Puts the rule of each record on the page of its slot, all other pages being free, and
-    /// answers that it was accepted; or answers the number of the first "no", and every page
+    /// Puts the rule of each record, with its mark, on the page of its slot, all other pages being
+    /// free, and answers that it was accepted; or answers the number of the first "no", and every page
     /// is free. What the pages held before plays no part.
     pub fn load(&mut self, bytes: &[u8]) -> Result<(), u32> {
         *self = Book::empty();

@@ -8,7 +8,7 @@ use crate::limits::{ATOMS, SLOTS};
 use crate::loops::has_loop_through_negation;
 use crate::questions::{rule_from, Refusal};
 use crate::relations::{self, Spoiler};
-use crate::rules::{held, Rule};
+use crate::rules::{held, holds, Page};
 use crate::sound::sound_content;
 use crate::table::RawTable;
 
@@ -17,6 +17,7 @@ use crate::table::RawTable;
 pub enum Validity {
     Valid,
     Spoiled(Spoiler),
+    Muted,
 }
 
 /// Question 15.
@@ -25,7 +26,7 @@ pub(crate) fn ask_sound(table: &RawTable) -> Result<Labelled, Refusal> {
 }
 
 /// Questions 8 and 9.
-fn ask_held(labelled: &Labelled, slot: u32) -> Result<&Rule, Refusal> {
+fn ask_held(labelled: &Labelled, slot: u32) -> Result<&Page, Refusal> {
     let slot_holds = labelled
         .program
         .get(slot as usize)
@@ -52,8 +53,8 @@ pub(crate) fn lend<T: Copy>(list: &[T], buffer: &mut [T]) -> Result<u32, Refusal
     Ok(count)
 }
 
-/// Adds the rule of these lists, in whatever order they come, in the lowest free slot and
-/// answers that slot.
+/// Adds the rule of these lists, in whatever order they come, unmuted, in the lowest free slot
+/// and answers that slot.
 pub fn add(
     table: &mut RawTable,
     head: u32,
@@ -62,13 +63,13 @@ pub fn add(
 ) -> Result<u32, Refusal> {
     let mut program = ask_sound(table)?.program;
     let rule = rule_from(head, positives, negatives)?;
-    if held(&program).any(|(_, other)| *other == rule) {
+    if holds(&program, &rule) {
         return Err(Refusal::SameRule);
     }
     let slot = (0..SLOTS)
         .find(|&slot| program[slot].is_none())
         .ok_or(Refusal::NoFreeSlot)?;
-    program[slot] = Some(rule);
+    program[slot] = Some(Page::unmuted(rule));
     if has_loop_through_negation(&program) {
         return Err(Refusal::LoopThroughNegation);
     }
@@ -86,8 +87,8 @@ pub fn remove(table: &mut RawTable, slot: u32) -> Result<(), Refusal> {
     Ok(())
 }
 
-/// Puts the rule of these lists, in whatever order they come, in the slot, whose rule goes. No other slot may hold the
-/// same, and there may be no loop through a negation once the rule is there.
+/// Puts the rule of these lists, in whatever order they come, unmuted, in the slot, whose rule goes. No other slot may
+/// hold the same, and there may be no loop through a negation once the rule is there.
 pub fn replace(
     table: &mut RawTable,
     slot: u32,
@@ -102,10 +103,23 @@ pub fn replace(
     if held(&program).any(|(other, holds)| other != slot && *holds == rule) {
         return Err(Refusal::SameRule);
     }
-    program[slot as usize] = Some(rule);
+    program[slot as usize] = Some(Page::unmuted(rule));
     if has_loop_through_negation(&program) {
         return Err(Refusal::LoopThroughNegation);
     }
+    *table = RawTable::keeping(&Labelled::of(program));
+    Ok(())
+}
+
+/// Unmutes the slot's rule if the mark is 0 and mutes it if it is any other number. What is set already may be set.
+pub fn mute(table: &mut RawTable, slot: u32, mark: u32) -> Result<(), Refusal> {
+    let labelled = ask_sound(table)?;
+    let rule = ask_held(&labelled, slot)?.rule.clone();
+    let mut program = labelled.program;
+    program[slot as usize] = Some(match mark {
+        0 => Page::unmuted(rule),
+        _ => Page::muted(rule),
+    });
     *table = RawTable::keeping(&Labelled::of(program));
     Ok(())
 }
@@ -114,10 +128,15 @@ pub fn label(table: &RawTable, atom: u32) -> Result<Label, Refusal> {
     Ok(ask_atom(table, atom)?.label(atom))
 }
 
+/// That the rule is muted, whatever its entries are; else whether it is valid, or what spoils it.
 pub fn spoiler(table: &RawTable, slot: u32) -> Result<Validity, Refusal> {
     let labelled = ask_sound(table)?;
-    let rule = ask_held(&labelled, slot)?;
-    Ok(relations::spoiler(&labelled, rule).map_or(Validity::Valid, Validity::Spoiled))
+    let page = ask_held(&labelled, slot)?;
+    if page.muted {
+        return Ok(Validity::Muted);
+    }
+    let spoiler = relations::spoiler(&labelled, &page.rule);
+    Ok(spoiler.map_or(Validity::Valid, Validity::Spoiled))
 }
 
 pub fn justifications(table: &RawTable, atom: u32, buffer: &mut [u32]) -> Result<u32, Refusal> {
@@ -148,12 +167,12 @@ pub fn reason(table: &RawTable, atom: u32, buffer: &mut [u32]) -> Result<u32, Re
     lend(&slots, buffer)
 }
 
-/// Writes the file of the table's rules and answers how many bytes it has.
+/// Writes the file of the table's rules and marks and answers how many bytes it has.
 pub fn save(table: &RawTable, buffer: &mut [u8]) -> Result<u32, Refusal> {
     lend(&file::write(&ask_sound(table)?.program), buffer)
 }
 
-/// The answer, that the file was accepted, and the table that keeps its rules; or the refusal and
+/// The answer, that the file was accepted, and the table that keeps its rules and marks; or the refusal and
 /// the empty table.
 pub fn load(bytes: &[u8]) -> (Result<(), Refusal>, RawTable) {
     match file::read(bytes) {
@@ -178,6 +197,11 @@ pub enum Call {
         head: u32,
         positives: Vec<u32>,
         negatives: Vec<u32>,
+    },
+    /// A mark of 0 unmutes, any other mutes.
+    Mute {
+        slot: u32,
+        mark: u32,
     },
     Label {
         atom: u32,
@@ -247,6 +271,7 @@ impl Call {
             Call::Add { .. } => "add",
             Call::Remove { .. } => "remove",
             Call::Replace { .. } => "replace",
+            Call::Mute { .. } => "mute",
             Call::Label { .. } => "label",
             Call::Spoiler { .. } => "spoiler",
             Call::Justifications { .. } => "justifications",
@@ -287,6 +312,7 @@ impl Call {
                 positives,
                 negatives,
             } => accepted(replace(table, *slot, *head, positives, negatives)),
+            Call::Mute { slot, mark } => accepted(mute(table, *slot, *mark)),
             Call::Label { atom } => label(table, *atom).map(Answer::Label),
             Call::Spoiler { slot } => spoiler(table, *slot).map(Answer::Spoiler),
             Call::Justifications { atom } => {

@@ -9,7 +9,7 @@ use crate::calls::{add, ask_sound, lend, remove};
 use crate::labels::Labelled;
 use crate::limits::{FILES, SLOTS};
 use crate::questions::Refusal;
-use crate::rules::{held, Program, Rule};
+use crate::rules::{held, muted, Page, Program, Rule};
 use crate::table::RawTable;
 use std::collections::HashSet;
 
@@ -86,15 +86,18 @@ impl Checklist {
     /// Does the program hold these rules and no others, the frame in its slots?
     fn gives(&self, program: &Program) -> bool {
         let rules: Vec<Rule> = held(program).map(|(_, rule)| rule.clone()).collect();
-        let framed = |slot: u32| program[slot as usize] == Some(frame_rule(slot));
+        let framed = |slot: u32| program[slot as usize] == Some(Page::unmuted(frame_rule(slot)));
         // Most numbers of files give too few rules or too many, and need no further look.
         rules.len() == self.size()
             && rules.into_iter().collect::<HashSet<_>>() == self.given()
             && (0..=self.files).all(framed)
     }
 
-    /// The checklist that the program is, if it is one.
+    /// The checklist that the program is, if it is one. With a muted rule it is none.
     pub fn of(program: &Program) -> Option<Checklist> {
+        if muted(program).next().is_some() {
+            return None;
+        }
         let facts = held(program).filter(|(_, rule)| rule.entries().next().is_none());
         let facts: AtomSet = facts.map(|(_, rule)| rule.head).collect();
         (1..=FILES)
@@ -140,7 +143,8 @@ pub fn open(files: u32) -> (Result<(), Refusal>, RawTable) {
     if !(1..=FILES).contains(&files) {
         return (Err(Refusal::FileCount), RawTable::empty());
     }
-    let mut program: Program = (0..=files).map(|slot| Some(frame_rule(slot))).collect();
+    let frame = (0..=files).map(frame_rule);
+    let mut program: Program = frame.map(|rule| Some(Page::unmuted(rule))).collect();
     program.resize(SLOTS, None);
     (Ok(()), RawTable::keeping(&Labelled::of(program)))
 }

@@ -2,12 +2,12 @@
 
 use crate::atoms::AtomSet;
 use crate::limits::ATOMS;
-use crate::rules::{held, Rule};
+use crate::rules::{unmuted, Page};
 use std::collections::BTreeSet;
 
 /// What the search has learnt so far about the derivations of each atom.
 struct Search<'a> {
-    /// The positive lists of the valid rules with that head.
+    /// The positive lists of the valid unmuted rules with that head.
     bodies: &'a [Vec<&'a BTreeSet<u32>>],
     /// A number of levels that is known to be enough.
     enough: Vec<Option<u32>>,
@@ -48,9 +48,9 @@ impl<'a> Search<'a> {
 }
 
 /// The depth of each atom of M, by atom number; `None` for the others.
-pub fn depths(program: &[Option<Rule>], m: &AtomSet) -> Vec<Option<u32>> {
+pub fn depths(program: &[Option<Page>], m: &AtomSet) -> Vec<Option<u32>> {
     let mut bodies: Vec<Vec<&BTreeSet<u32>>> = vec![Vec::new(); ATOMS];
-    for (_, rule) in held(program).filter(|(_, rule)| rule.valid_in(m)) {
+    for (_, rule) in unmuted(program).filter(|(_, rule)| rule.valid_in(m)) {
         bodies[rule.head as usize].push(&rule.positives);
     }
     let mut search = Search {

@@ -1,4 +1,4 @@
-//! A table on disk: the records of its rules in blocks, numbers low byte first.
+//! A table on disk: the records of its rules and their marks in blocks, numbers low byte first.
 //!
 //! A file is made from its list of records, cut into blocks. A file that is read is first taken apart, whatever it
 //! says, and then asked one question after another, each over all blocks or all records. Sums are whole numbers, of
@@ -6,7 +6,7 @@
 
 use crate::limits::{ATOMS, BLOCKS, BLOCK_BYTES, BLOCK_RECORDS, ENTRIES, SLOTS};
 use crate::loops::has_loop_through_negation;
-use crate::rules::{held, Program, Rule};
+use crate::rules::{Page, Program, Rule};
 use std::collections::{BTreeSet, HashSet};
 
 /// Index, number of blocks and number of records.
@@ -14,6 +14,9 @@ const HEADER_BYTES: usize = 6;
 
 /// Slot, head, both counts and the entries.
 const RECORD_BYTES: usize = 6 + 2 * ENTRIES;
+
+/// What the top bit of a positive count adds to it: the mark of a muted rule.
+const MARK: u8 = 128;
 
 /// The bytes that A and B are of: all before them.
 const SUMMED_BYTES: usize = BLOCK_BYTES - 4;
@@ -23,6 +26,7 @@ const SUMMED_BYTES: usize = BLOCK_BYTES - 4;
 pub struct Record {
     pub slot: u16,
     pub head: u16,
+    /// How many positives there are, and 128 more if the rule is muted.
     pub positives: u8,
     pub negatives: u8,
     /// The positive entries, the negative ones right behind them, then zeros.
@@ -30,8 +34,9 @@ pub struct Record {
 }
 
 impl Record {
-    /// The record of a slot and its rule, which must pass questions 1 to 3.
-    fn of(slot: u32, rule: &Rule) -> Record {
+    /// The record of a slot, its rule, which must pass questions 1 to 3, and the rule's mark.
+    fn of(slot: u32, Page { rule, muted }: &Page) -> Record {
+        let mark = if *muted { MARK } else { 0 };
         let mut entries = [0; ENTRIES];
         for (place, entry) in entries.iter_mut().zip(rule.entries()) {
             *place = entry as u16;
@@ -39,7 +44,7 @@ impl Record {
         Record {
             slot: slot as u16,
             head: rule.head as u16,
-            positives: rule.positives.len() as u8,
+            positives: rule.positives.len() as u8 + mark,
             negatives: rule.negatives.len() as u8,
             entries,
         }
@@ -63,11 +68,22 @@ impl Record {
         }
     }
 
+    /// Is the top bit of the positive count set?
+    pub fn muted(&self) -> bool {
+        self.positives >= MARK
+    }
+
+    /// How many entries each list has by the counts; the other seven bits are the positive one.
+    pub fn counts(&self) -> [usize; 2] {
+        [self.positives % MARK, self.negatives].map(usize::from)
+    }
+
     /// Both lists, as far as there are entries for them, and the entries behind.
     fn parted(&self) -> (Vec<u32>, Vec<u32>, Vec<u32>) {
+        let [positives, negatives] = self.counts();
         let mut entries = self.entries.iter().map(|&entry| u32::from(entry));
-        let positives = entries.by_ref().take(self.positives.into()).collect();
-        let negatives = entries.by_ref().take(self.negatives.into()).collect();
+        let positives = entries.by_ref().take(positives).collect();
+        let negatives = entries.by_ref().take(negatives).collect();
         (positives, negatives, entries.collect())
     }
 
@@ -126,13 +142,14 @@ pub fn blocks(records: &[Record]) -> Vec<u8> {
 }
 
 /// The records of the rules, ascending by slot.
-pub fn records(program: &[Option<Rule>]) -> Vec<Record> {
-    let rules = held(program);
-    rules.map(|(slot, rule)| Record::of(slot, rule)).collect()
+pub fn records(program: &[Option<Page>]) -> Vec<Record> {
+    let slots = (0..).zip(program);
+    let held = slots.filter_map(|(slot, holds)| Some((slot, holds.as_ref()?)));
+    held.map(|(slot, page)| Record::of(slot, page)).collect()
 }
 
-/// The file of the rules, each of which must pass questions 1 to 3.
-pub fn write(program: &[Option<Rule>]) -> Vec<u8> {
+/// The file of the rules and their marks. Each rule must pass questions 1 to 3.
+pub fn write(program: &[Option<Page>]) -> Vec<u8> {
     blocks(&records(program))
 }
 
@@ -221,8 +238,8 @@ impl File {
     }
 
     /// The rules, one behind the other.
-    fn rules(&self) -> Program {
-        self.records().map(|record| Some(record.rule())).collect()
+    fn rules(&self) -> Vec<Rule> {
+        self.records().map(Record::rule).collect()
     }
 
     fn has_one_to_twelve_blocks(&self) -> bool {
@@ -281,9 +298,8 @@ impl File {
     }
 
     fn has_at_most_eight_entries_each(&self) -> bool {
-        let counts = |record: &Record| [record.positives, record.negatives].map(usize::from);
         self.records()
-            .all(|record| counts(record).iter().sum::<usize>() <= ENTRIES)
+            .all(|record| record.counts().iter().sum::<usize>() <= ENTRIES)
     }
 
     fn has_entries_below_256(&self) -> bool {
@@ -305,21 +321,24 @@ impl File {
     }
 
     fn has_no_loop_through_negation(&self) -> bool {
-        !has_loop_through_negation(&self.rules())
+        !has_loop_through_negation(&self.program())
     }
 
-    /// Each record's rule in its slot.
+    /// Each record's rule in its slot, with its mark. The slots must be below 256.
     fn program(&self) -> Program {
         let mut program = vec![None; SLOTS];
         for record in self.records() {
-            program[usize::from(record.slot)] = Some(record.rule());
+            program[usize::from(record.slot)] = Some(Page {
+                rule: record.rule(),
+                muted: record.muted(),
+            });
         }
         program
     }
 }
 
-/// The rules that the file holds, or the number of its refusal: 16, 17, 18 and 19 are asked in this order, each over
-/// the whole file.
+/// The rules and marks that the file holds, or the number of its refusal: 16, 17, 18 and 19 are asked in this order,
+/// each over the whole file.
 pub fn read(bytes: &[u8]) -> Result<Program, u32> {
     let file = File::of(bytes);
     match QUESTIONS.iter().find(|(_, passes)| !passes(&file)) {

@@ -4,7 +4,7 @@ use crate::alternation;
 use crate::atoms::AtomSet;
 use crate::depth::depths;
 use crate::limits::ATOMS;
-use crate::rules::{held, occurring, Program, Rule};
+use crate::rules::{occurring, unmuted, Page, Program};
 
 #[derive(Clone, Copy, PartialEq, Eq, Debug)]
 pub enum Label {
@@ -13,7 +13,8 @@ pub enum Label {
     In { depth: u32, slot: u32 },
 }
 
-/// A program without a loop through a negation, with the labels it gives its atoms.
+/// A program without a loop through a negation, with the labels that its unmuted rules give
+/// its atoms. Those of muted rules occur too.
 #[derive(Clone, Debug)]
 pub struct Labelled {
     pub program: Program,
@@ -24,9 +25,15 @@ pub struct Labelled {
 impl Labelled {
     /// The program with its labels. It must have no loop through a negation.
     pub fn of(program: Program) -> Labelled {
-        let m = alternation::model(&program).expect("a program without a loop through a negation");
+        Labelled::found(program).expect("a program without a loop through a negation")
+    }
+
+    /// The same of any program; `None` if no one model is found, which only a loop through a
+    /// negation can cause.
+    pub fn found(program: Program) -> Option<Labelled> {
+        let m = alternation::model(&program)?;
         let labels = labels(&program, &m);
-        Labelled { program, labels }
+        Some(Labelled { program, labels })
     }
 
     pub fn label(&self, atom: u32) -> Label {
@@ -35,6 +42,11 @@ impl Labelled {
 
     pub fn is_in(&self, atom: u32) -> bool {
         matches!(self.label(atom), Label::In { .. })
+    }
+
+    /// Is this the slot that supports the atom?
+    pub fn supports(&self, slot: u32, atom: u32) -> bool {
+        matches!(self.label(atom), Label::In { slot: kept, .. } if kept == slot)
     }
 
     /// The atoms that occur, ascending, each with its label.
@@ -46,7 +58,7 @@ impl Labelled {
 }
 
 /// The label of each atom, by atom number, where M is the admissible model.
-fn labels(program: &[Option<Rule>], m: &AtomSet) -> Vec<Label> {
+fn labels(program: &[Option<Page>], m: &AtomSet) -> Vec<Label> {
     let depths = depths(program, m);
     let occurs = occurring(program);
     (0..ATOMS as u32)
@@ -61,16 +73,16 @@ fn labels(program: &[Option<Rule>], m: &AtomSet) -> Vec<Label> {
         .collect()
 }
 
-/// The lowest slot among the rules valid in M with that head and all positive entries of
+/// The lowest slot among the unmuted rules valid in M with that head and all positive entries of
 /// smaller depth. An atom of M has one: the last rule of its least derivation.
 fn supporting_slot(
-    program: &[Option<Rule>],
+    program: &[Option<Page>],
     m: &AtomSet,
     depths: &[Option<u32>],
     atom: u32,
 ) -> u32 {
     let smaller = |entry: u32| depths[entry as usize] < depths[atom as usize];
-    held(program)
+    unmuted(program)
         .filter(|(_, rule)| rule.head == atom && rule.valid_in(m))
         .find(|(_, rule)| rule.positives.iter().all(|&entry| smaller(entry)))
         .expect("an atom in has a supporting rule")

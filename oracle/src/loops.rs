@@ -1,11 +1,11 @@
-//! Loops through a negation, found by walking.
+//! Loops through a negation, found by walking. They go by all rules, muted or not.
 
 use crate::atoms::AtomSet;
 use crate::limits::ATOMS;
-use crate::rules::{held, Rule};
+use crate::rules::{held, Page};
 
 /// For each atom, the atoms it depends on.
-pub(crate) fn dependencies(program: &[Option<Rule>]) -> Vec<Vec<u32>> {
+pub(crate) fn dependencies(program: &[Option<Page>]) -> Vec<Vec<u32>> {
     let mut depends_on = vec![Vec::new(); ATOMS];
     let mut noted = vec![AtomSet::empty(); ATOMS];
     for (_, rule) in held(program) {
@@ -35,7 +35,7 @@ pub(crate) fn walk(depends_on: &[Vec<u32>], start: u32) -> AtomSet {
 
 /// Is there a cycle of dependencies with a negative step? Each negative step goes from a
 /// head to an entry; it lies on a cycle if a walk from the entry comes back to the head.
-pub fn has_loop_through_negation(program: &[Option<Rule>]) -> bool {
+pub fn has_loop_through_negation(program: &[Option<Page>]) -> bool {
     let depends_on = dependencies(program);
     let mut walked: Vec<Option<AtomSet>> = vec![None; ATOMS];
     held(program).any(|(_, rule)| {

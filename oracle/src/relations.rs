@@ -4,7 +4,7 @@
 use crate::atoms::AtomSet;
 use crate::labels::{Label, Labelled};
 use crate::limits::ATOMS;
-use crate::rules::{held, Rule};
+use crate::rules::{held, unmuted, Rule};
 use std::collections::BTreeSet;
 
 /// The list that an entry stands in.
@@ -25,6 +25,7 @@ pub struct Spoiler {
 
 /// The first spoiling entry, the positive list read first and each list as it is kept: a
 /// positive entry spoils if it is not in, a negative one if it is. `None` for a valid rule.
+/// Whether the rule is muted is the caller's question.
 pub fn spoiler(labelled: &Labelled, rule: &Rule) -> Option<Spoiler> {
     first(Side::Positive, &rule.positives, |atom| {
         !labelled.is_in(atom)
@@ -38,10 +39,10 @@ fn first(side: Side, list: &BTreeSet<u32>, spoils: impl Fn(u32) -> bool) -> Opti
     Some(Spoiler { side, place, atom })
 }
 
-/// All entries of the supporting rule of an in atom; the spoilers of the rules of an out
-/// atom; nothing for an absent one. A set of atoms: list and place don't matter.
+/// All entries of the supporting rule of an in atom; the spoilers of the unmuted rules of an
+/// out atom; nothing for an absent one. A set of atoms: list and place don't matter.
 pub fn support(labelled: &Labelled, atom: u32) -> AtomSet {
-    let rules_of_atom = held(&labelled.program).filter(|(_, rule)| rule.head == atom);
+    let rules_of_atom = unmuted(&labelled.program).filter(|(_, rule)| rule.head == atom);
     match labelled.label(atom) {
         Label::Absent => AtomSet::empty(),
         Label::In { slot, .. } => rules_of_atom
@@ -81,7 +82,7 @@ pub fn repercussions(labelled: &Labelled, atom: u32) -> Vec<u32> {
     reached.ascending().collect()
 }
 
-/// The slots of the rules with that head, ascending.
+/// The slots of the rules with that head, muted or not, ascending.
 pub fn justifications(labelled: &Labelled, atom: u32) -> Vec<u32> {
     held(&labelled.program)
         .filter(|(_, rule)| rule.head == atom)
@@ -89,7 +90,7 @@ pub fn justifications(labelled: &Labelled, atom: u32) -> Vec<u32> {
         .collect()
 }
 
-/// The heads of the rules with the atom as an entry, ascending, without repeats.
+/// The heads of the rules with the atom as an entry, muted or not, ascending, without repeats.
 pub fn consequences(labelled: &Labelled, atom: u32) -> Vec<u32> {
     let mentions = |rule: &Rule| rule.entries().any(|entry| entry == atom);
     let heads: AtomSet = held(&labelled.program)
@@ -114,7 +115,7 @@ pub fn reason(labelled: &Labelled, atom: u32) -> Option<Vec<u32>> {
             let supporting = labelled.program[slot as usize]
                 .as_ref()
                 .expect("a supporting slot holds a rule");
-            open.extend(&supporting.positives);
+            open.extend(&supporting.rule.positives);
         }
     }
     found.sort_unstable();

@@ -3,9 +3,9 @@
 //! 0 and a slot is a removal. 1, a head, how many positives, how many negatives, then these: an addition. 2 and two
 //! numbers: a file is loaded, the bytes from the first number on and below the second, of the bytes that come beside
 //! the list. 3 and how many files: a checklist is opened. 4, 5 or 6 and a file: it is sent, it is skipped, its skip is
-//! withdrawn. 7, a slot, and the numbers of an addition from its head on: a replacement. Any other number ends the
-//! list, and so does a call that is cut short, a load from beyond those bytes, or a call for whose answer there is no
-//! room.
+//! withdrawn. 7, a slot, and the numbers of an addition from its head on: a replacement. 8, a slot and a mark: the mark
+//! 0 unmutes, any other mutes. Any other number ends the list, and so does a call that is cut short, a load from beyond
+//! those bytes, or a call for whose answer there is no room.
 
 use crate::book::Book;
 use crate::calls::{Answer, Call};
@@ -40,20 +40,33 @@ impl<'a> Rest<'a> {
         Some((head, positives.to_vec(), negatives.to_vec()))
     }
 
+    fn addition(&mut self) -> Option<Call> {
+        let (head, positives, negatives) = self.rule()?;
+        Some(Call::Add {
+            head,
+            positives,
+            negatives,
+        })
+    }
+
+    fn replacement(&mut self) -> Option<Call> {
+        let slot = self.number()?;
+        let (head, positives, negatives) = self.rule()?;
+        Some(Call::Replace {
+            slot,
+            head,
+            positives,
+            negatives,
+        })
+    }
+
     /// The call that stands here; `None` where none stands.
     fn call(&mut self) -> Option<Call> {
         let call = match self.number()? {
             0 => Call::Remove {
                 slot: self.number()?,
             },
-            1 => {
-                let (head, positives, negatives) = self.rule()?;
-                Call::Add {
-                    head,
-                    positives,
-                    negatives,
-                }
-            }
+            1 => self.addition()?,
             2 => {
                 let (from, to) = (self.number()?, self.number()?);
                 let bytes = self.files.get(from as usize..to as usize)?.to_vec();
@@ -63,16 +76,11 @@ impl<'a> Rest<'a> {
                 files: self.number()?,
             },
             kind @ 4..=6 => on_file(kind, self.number()?),
-            7 => {
-                let slot = self.number()?;
-                let (head, positives, negatives) = self.rule()?;
-                Call::Replace {
-                    slot,
-                    head,
-                    positives,
-                    negatives,
-                }
-            }
+            7 => self.replacement()?,
+            8 => Call::Mute {
+                slot: self.number()?,
+                mark: self.number()?,
+            },
             _ => return None,
         };
         Some(call)

@@ -1,4 +1,5 @@
 //! Rounds over the slots, lowest layer first: how many each layer has, found from the moments at which atoms are found.
+//! Layers go by all rules; only the unmuted ones can add their head.
 //!
 //! A moment is a round and a slot. A round goes through the slots in order, so moments pass round by round, and within
 //! a round slot by slot. When a layer's first round starts, all lower layers are done. Of the rules whose head has the
@@ -13,14 +14,14 @@
 
 use crate::atoms::AtomSet;
 use crate::limits::ATOMS;
-use crate::rules::{held, Rule};
+use crate::rules::{unmuted, Page};
 use std::cmp::Reverse;
 use std::collections::BinaryHeap;
 
 /// A round from 1, and a slot.
 type Moment = (u32, u32);
 
-/// A rule that is valid in the model.
+/// An unmuted rule that is valid in the model.
 struct Valid {
     slot: u32,
     head: u32,
@@ -40,15 +41,15 @@ impl Valid {
     }
 }
 
-/// The rules that are valid in M, and for each atom the places of those that wait for it.
+/// The unmuted rules that are valid in M, and for each atom the places of those that wait for it.
 fn valid_rules(
-    program: &[Option<Rule>],
+    program: &[Option<Page>],
     layers: &[u32],
     m: &AtomSet,
 ) -> (Vec<Valid>, Vec<Vec<usize>>) {
     let mut rules = Vec::new();
     let mut waiting = vec![Vec::new(); ATOMS];
-    for (slot, rule) in held(program).filter(|(_, rule)| rule.valid_in(m)) {
+    for (slot, rule) in unmuted(program).filter(|(_, rule)| rule.valid_in(m)) {
         let layer = layers[rule.head as usize];
         let positives = rule.positives.iter().map(|&entry| entry as usize);
         let mut missing = 0;
@@ -68,7 +69,7 @@ fn valid_rules(
 
 /// The round in which each atom of M is found, by atom number; 0 for the others. No layer waits for a moment of another
 /// one, so that the moments of all layers can be taken together.
-fn found_in(program: &[Option<Rule>], layers: &[u32], m: &AtomSet) -> Vec<u32> {
+fn found_in(program: &[Option<Page>], layers: &[u32], m: &AtomSet) -> Vec<u32> {
     let (mut rules, waiting) = valid_rules(program, layers, m);
     let mut found = vec![0; ATOMS];
     let mut open: BinaryHeap<Reverse<(Moment, usize)>> = BinaryHeap::new();
@@ -95,7 +96,7 @@ fn found_in(program: &[Option<Rule>], layers: &[u32], m: &AtomSet) -> Vec<u32> {
 
 /// How many rounds each layer has, lowest first, its last one, which adds none, counted. M is the admissible model of
 /// the program, and the layers are those of `strata`, by atom number.
-pub fn rounds(program: &[Option<Rule>], layers: &[u32], m: &AtomSet) -> Vec<u32> {
+pub fn rounds(program: &[Option<Page>], layers: &[u32], m: &AtomSet) -> Vec<u32> {
     let top = layers.iter().max().expect("an atom");
     let mut rounds = vec![1; *top as usize + 1];
     for (&layer, round) in layers.iter().zip(found_in(program, layers, m)) {

@@ -4,22 +4,24 @@ use crate::labels::Labelled;
 use crate::limits::ENTRIES;
 use crate::loops::has_loop_through_negation;
 use crate::questions::rule_from;
-use crate::rules::{held, Program, Rule};
-use crate::table::{RawLabel, RawRule, RawTable, FREE, HELD};
+use crate::rules::{held, Page, Program, Rule};
+use crate::table::{RawLabel, RawRule, RawTable, FREE, HELD, MUTED};
 use std::collections::HashSet;
 
 /// A slot that no sound table has.
 struct Wrong;
 
 /// What a slot holds: `Ok(None)` for a free one that stands as in the empty table, `Ok` with
-/// the rule for a held one that passes 1 to 4 with its lists ascending and its filler as in the
-/// empty table.
-fn slot_content(raw: &RawRule) -> Result<Option<Rule>, Wrong> {
-    match raw.state {
-        FREE if *raw == RawRule::EMPTY => Ok(None),
-        HELD => held_rule(raw).map(Some).ok_or(Wrong),
-        _ => Err(Wrong),
-    }
+/// the rule and its mark for a held one that passes 1 to 4 with its lists ascending and its
+/// filler as in the empty table. No state has another number than these three.
+fn slot_content(raw: &RawRule) -> Result<Option<Page>, Wrong> {
+    let page = match raw.state {
+        FREE if *raw == RawRule::EMPTY => return Ok(None),
+        HELD => held_rule(raw).map(Page::unmuted),
+        MUTED => held_rule(raw).map(Page::muted),
+        _ => None,
+    };
+    page.map(Some).ok_or(Wrong)
 }
 
 fn held_rule(raw: &RawRule) -> Option<Rule> {
@@ -38,13 +40,13 @@ fn held_rule(raw: &RawRule) -> Option<Rule> {
     ascending.then_some(rule)
 }
 
-fn no_two_same(program: &[Option<Rule>]) -> bool {
+fn no_two_same(program: &[Option<Page>]) -> bool {
     let mut earlier = HashSet::new();
     held(program).all(|(_, rule)| earlier.insert(rule))
 }
 
 /// The program that the table holds, if each rule passes 1 to 4 and has ascending lists, and no
-/// two are the same.
+/// two are the same, muted or not.
 pub fn fitting_rules(table: &RawTable) -> Option<Program> {
     let slots: Result<Program, Wrong> = table.rules.iter().map(slot_content).collect();
     slots.ok().filter(|program| no_two_same(program))

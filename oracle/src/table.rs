@@ -2,10 +2,11 @@
 
 use crate::labels::{Label, Labelled};
 use crate::limits::{ATOMS, ENTRIES, SLOTS};
-use crate::rules::Rule;
+use crate::rules::Page;
 
 pub const FREE: u16 = 0;
 pub const HELD: u16 = 1;
+pub const MUTED: u16 = 2;
 
 pub const ABSENT: u16 = 0;
 pub const OUT: u16 = 1;
@@ -47,14 +48,15 @@ impl RawRule {
         entries: [0; ENTRIES],
     };
 
-    /// A slot that holds the rule, which must pass questions 1 to 3.
-    pub fn holding(rule: &Rule) -> RawRule {
+    /// A slot that holds the rule with its mark. The rule must pass questions 1 to 3.
+    pub fn holding(page: &Page) -> RawRule {
+        let rule = &page.rule;
         let mut entries = [0; ENTRIES];
         for (place, entry) in entries.iter_mut().zip(rule.entries()) {
             *place = entry as u16;
         }
         RawRule {
-            state: HELD,
+            state: if page.muted { MUTED } else { HELD },
             head: rule.head as u16,
             positives: rule.positives.len() as u8,
             negatives: rule.negatives.len() as u8,

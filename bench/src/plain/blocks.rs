@@ -9,6 +9,9 @@ pub const HEAD: usize = 6;
 pub const PLACES: usize = 22;
 pub const PLACE: usize = 22;
 
+/// The top bit of a positive count: the rule is muted.
+pub const MARK: u8 = 128;
+
 pub type Block = [u8; BLOCK];
 
 pub fn word(bytes: &[u8], at: usize) -> u16 {

@@ -8,13 +8,14 @@ use yeqontur::raw::{Rule, Table, ATOMS, SLOTS};
 /// The most files of a checklist.
 pub const MOST: usize = 60;
 
+/// Does the slot hold the fact, not muted?
 fn holds_fact(rule: &Rule, atom: usize) -> bool {
-    rule.state != 0 && rule.head as usize == atom && rule.positives == 0 && rule.negatives == 0
+    rule.state == 1 && rule.head as usize == atom && rule.positives == 0 && rule.negatives == 0
 }
 
-/// Does the slot hold the frame's rule of file i, from 1?
+/// Does the slot hold the frame's rule of file i, from 1, not muted?
 fn holds_file(rule: &Rule, i: u16) -> bool {
-    rule.state != 0
+    rule.state == 1
         && rule.head == 3 * i
         && positives(rule) == [3 * i - 3, 3 * i - 2]
         && negatives(rule) == [3 * i - 1]

@@ -1,6 +1,6 @@
 //! Loading: 16, 17, 18, 19, each of the whole file before the next, then the labels. The error is the refusal's number.
 
-use super::blocks::{sums, word, Block, BLOCK, BODY, HEAD, PLACE, PLACES};
+use super::blocks::{sums, word, Block, BLOCK, BODY, HEAD, MARK, PLACE, PLACES};
 use super::calls::EMPTY;
 use super::labels::labels;
 use super::sound::{no_two_equal, well_formed};
@@ -45,9 +45,9 @@ fn filled(block: &Block) -> bool {
 
 fn rule_in(place: &[u8]) -> Rule {
     Rule {
-        state: 1,
+        state: if place[4] < MARK { 1 } else { 2 },
         head: word(place, 2),
-        positives: place[4],
+        positives: place[4] % MARK,
         negatives: place[5],
         entries: std::array::from_fn(|j| word(place, 6 + 2 * j)),
     }

@@ -13,7 +13,7 @@ mod save;
 pub mod sheet;
 mod sound;
 
-pub use calls::{add, label, remove, replace};
+pub use calls::{add, label, mute, remove, replace};
 pub use labels::labels;
 pub use load::load;
 pub use save::save;

@@ -1,13 +1,13 @@
 //! Saving: 15, then 11, then the blocks, in a lent buffer.
 
-use super::blocks::{sums, write_word, Block, BLOCK, BODY, HEAD, PLACE, PLACES};
+use super::blocks::{sums, write_word, Block, BLOCK, BODY, HEAD, MARK, PLACE, PLACES};
 use super::calls::asked;
 use yeqontur::raw::{Rule, Table};
 
 fn write_record(place: &mut [u8], slot: usize, rule: &Rule) {
     write_word(place, 0, slot as u16);
     write_word(place, 2, rule.head);
-    place[4] = rule.positives;
+    place[4] = rule.positives + if rule.state == 2 { MARK } else { 0 };
     place[5] = rule.negatives;
     for (j, &x) in rule.entries.iter().enumerate() {
         write_word(place, 6 + 2 * j, x);

@@ -8,10 +8,11 @@ fn ascends(list: &[u16]) -> bool {
     list.windows(2).all(|pair| pair[0] < pair[1])
 }
 
-/// Clean, and where the slot holds a rule, questions 1 to 4 and ascending lists. A list that ascends has no repeat.
+/// Clean, and where the slot holds a rule, muted or not, questions 1 to 4 and ascending lists. A list that ascends has
+/// no repeat.
 pub fn well_formed(rule: &Rule) -> bool {
     let end = rule.positives as usize + rule.negatives as usize;
-    if rule.state > 1 || end > ENTRIES || rule.entries[end..].iter().any(|&x| x != 0) {
+    if rule.state > 2 || end > ENTRIES || rule.entries[end..].iter().any(|&x| x != 0) {
         return false;
     }
     if rule.state == 0 {
@@ -55,14 +56,14 @@ pub fn no_two_equal(rules: &[Rule; SLOTS]) -> bool {
     true
 }
 
-/// The kept labels as a certificate, in one pass over the slots.
+/// The kept labels as a certificate, in one pass over the slots. Muted rules have no part in it.
 fn certified(table: &Table) -> bool {
     let flags: Flags = std::array::from_fn(|a| table.labels[a].state > 1);
     let deep: Numbers = std::array::from_fn(|a| if flags[a] { table.labels[a].depth } else { 0 });
     let slots: Numbers = std::array::from_fn(|a| if flags[a] { table.labels[a].slot } else { 0 });
     let mut found = [false; ATOMS];
     for (slot, rule) in table.rules.iter().enumerate() {
-        if rule.state == 0 || !valid(rule, &flags) {
+        if rule.state != 1 || !valid(rule, &flags) {
             continue;
         }
         let level = positives(rule)

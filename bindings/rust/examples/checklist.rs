@@ -1,6 +1,6 @@
 //! It said "complete", and it was not: five files, one of them under a path that is too long to be sent.
 
-use yeqontur::{Because, Checklist, Refusal, Side, Why};
+use yeqontur::{Because, Checklist, Refusal, Side, Stop, Why};
 
 /// The most characters of a path that the system opens.
 const LONGEST: usize = 260;
@@ -55,12 +55,15 @@ fn show_why(checklist: &Checklist, why: &Why) {
         return;
     };
     for stopped in rules {
-        let how = match stopped.side {
+        let Stop::Spoiled { side, by, .. } = &stopped.stop else {
+            continue; // a checklist has no muted rule
+        };
+        let how = match side {
             Side::Positive => "needs",
             Side::Negative => "is blocked by",
         };
-        println!("  {} {how} {}", name(why.atom), name(stopped.by.atom));
-        show_why(checklist, &stopped.by);
+        println!("  {} {how} {}", name(why.atom), name(by.atom));
+        show_why(checklist, by);
     }
 }
 

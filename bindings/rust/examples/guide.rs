@@ -1,6 +1,6 @@
-//! Rules from a scan, their labels, why a label stands, a refusal, and a rule that is replaced.
+//! Rules from a scan, their labels, why a label stands, a refusal, a rule that is replaced, and one that is muted.
 
-use yeqontur::{Because, Label, Refusal, Side, Table, Why};
+use yeqontur::{Because, Label, Refusal, Side, Stop, Stopped, Table, Why};
 
 /// What a scan of the folder found.
 struct File {
@@ -77,19 +77,25 @@ fn show(why: &Why, indent: usize) {
     println!("{:indent$}{} is {}", "", name(why.atom), state(why.label));
     match &why.because {
         Because::Supported { from, .. } => from.iter().for_each(|w| show(w, indent + 2)),
-        Because::Stopped(rules) => {
-            for stopped in rules {
-                let how = match stopped.side {
-                    Side::Positive => "needs",
-                    Side::Negative => "is blocked by",
-                };
-                let (slot, by) = (stopped.rule.slot, name(stopped.by.atom));
-                println!("{:indent$}  slot {slot} {how} {by}", "");
-                show(&stopped.by, indent + 4);
-            }
-        }
+        Because::Stopped(rules) => rules.iter().for_each(|rule| show_stopped(rule, indent + 2)),
         // No rule has the atom, or its reason is shown elsewhere in the tree.
         Because::Absent | Because::Above | Because::Earlier => {}
+    }
+}
+
+/// Prints what stops a rule of an atom that is out.
+fn show_stopped(stopped: &Stopped, indent: usize) {
+    let slot = stopped.rule.slot;
+    match &stopped.stop {
+        Stop::Muted => println!("{:indent$}slot {slot} is muted", ""),
+        Stop::Spoiled { side, by, .. } => {
+            let how = match side {
+                Side::Positive => "needs",
+                Side::Negative => "is blocked by",
+            };
+            println!("{:indent$}slot {slot} {how} {}", "", name(by.atom));
+            show(by, indent + 2);
+        }
     }
 }
 
@@ -113,6 +119,19 @@ fn edit(table: &mut Table) -> Result<(), Refusal> {
     Ok(())
 }
 
+/// An afternoon without the rule of notes.txt: it keeps its slot, and unmuted it gives what it gave.
+fn try_without(table: &mut Table) -> Result<(), Refusal> {
+    let slot = table.justifications(good(1))?[0]; // it has one rule
+    println!("the rule of notes.txt is muted for an afternoon");
+    table.mute(slot)?;
+    show(&table.why(COMPLETE)?, 0);
+
+    println!("and unmuted");
+    table.unmute(slot)?;
+    show(&table.why(COMPLETE)?, 0);
+    Ok(())
+}
+
 fn main() -> Result<(), Refusal> {
     let mut table = scanned(&FILES)?;
     for (atom, label) in table.labels() {
@@ -128,5 +147,6 @@ fn main() -> Result<(), Refusal> {
 
     println!("a file that is skipped unless it is good");
     tell(table.add(skipped(0), &[], &[good(0)]));
-    edit(&mut table)
+    edit(&mut table)?;
+    try_without(&mut table)
 }

@@ -7,7 +7,8 @@ use std::fmt;
 /// A checklist of 1 to 60 files, numbered from 1. It is complete exactly if every file was sent and no skip stands.
 ///
 /// It is always a checklist: it is opened as one, a table becomes one only if its rules are those of one, and the calls
-/// that change it keep it one. So a question that names no file is never refused.
+/// that change it keep it one. So a question that names no file is never refused. It has no muted rule: a table with
+/// one is no checklist until that rule is unmuted, and the calls here mute none.
 ///
 /// Printed, it says whether it is complete, and of each missing file what it lacks.
 ///
@@ -58,9 +59,10 @@ impl fmt::Display for FileState {
     }
 }
 
-/// A table that was built or loaded: refused (15) unless its rules are those that the marks of 1 to 60 files give. The
-/// rules alone say how many: where the last file's rule was removed or replaced, or the next file's put in, it may be a
-/// checklist of another length. So who counts on a list changes it by the calls of `Checklist` alone.
+/// A table that was built or loaded: refused (15) unless its rules are those that the marks of 1 to 60 files give, and
+/// none of them is muted. The rules alone say how many: where the last file's rule was removed or replaced, or the next
+/// file's put in, it may be a checklist of another length. So who counts on a list changes it by the calls of
+/// `Checklist` alone.
 impl TryFrom<Table> for Checklist {
     type Error = Refusal;
 

@@ -5,9 +5,9 @@ use crate::{raw, Table};
 /// The label of an atom.
 #[derive(Clone, Copy, PartialEq, Eq, Debug)]
 pub enum Label {
-    /// The atom stands in no rule.
+    /// The atom stands in no rule, muted or not.
     Absent,
-    /// No valid rule has the atom as its head.
+    /// The atom stands in a rule, but no unmuted rule with this head is valid. A muted rule may have this head.
     Out,
     /// In, at its least depth, by the rule in the supporting slot.
     In { depth: u32, slot: u32 },

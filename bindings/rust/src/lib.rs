@@ -33,4 +33,4 @@ pub use raw::List;
 pub use refusal::Refusal;
 pub use rule::{Rule, Side, Validity};
 pub use table::Table;
-pub use why::{Because, Stopped, Why};
+pub use why::{Because, Stop, Stopped, Why};

@@ -16,8 +16,8 @@ pub const MOST_FILES: usize = 60;
 /// The most bytes that a saved table has: 256 rules, 22 to a block, are 12 blocks of 512 bytes.
 pub const FILE_BYTES: usize = 6144;
 
-/// A slot: free (state 0) or with one rule (state 1); positives first among the entries. In a sound table each list
-/// ascends.
+/// A slot: free (state 0), with one rule (1), or with one that is muted (2); positives first among the entries. In a
+/// sound table each list ascends.
 #[repr(C)]
 #[derive(Clone, Copy, PartialEq, Eq, Hash, Debug)]
 pub struct Rule {
@@ -38,7 +38,7 @@ pub struct Label {
 }
 
 /// Any bytes are a table; question 15 says whether it is sound. There is no padding, so two sound tables with the same
-/// rules in the same slots have the same bytes, and those of the empty table are all 0.
+/// rules in the same slots, the same of them muted, have the same bytes, and those of the empty table are all 0.
 #[repr(C)]
 #[derive(Clone, Copy, PartialEq, Eq, Hash, Debug)]
 pub struct Table {
@@ -80,8 +80,8 @@ pub struct LabelAnswer {
     pub slot: u32,
 }
 
-/// `spoiled` is 0 for a valid rule, 1 if it needs `atom` and 2 if it is blocked by `atom`; `place` is that of the entry
-/// in the positive (1) or the negative list (2), as the slot keeps it, from 0.
+/// `spoiled` is 0 for a valid rule, 1 if it needs `atom`, 2 if it is blocked by `atom`, and 3 if it is muted; `place`
+/// is that of the entry in the positive (1) or the negative list (2), as the slot keeps it, from 0.
 #[repr(C)]
 #[derive(Clone, Copy, PartialEq, Eq, Debug)]
 pub struct SpoilerAnswer {
@@ -135,6 +135,7 @@ extern "C" {
         negatives: *const u32,
         negative_count: usize,
     ) -> Accepted;
+    fn yeqontur_mute(table: Table, slot: u32, muted: u32) -> Accepted;
     fn yeqontur_label(table: Table, atom: u32) -> LabelAnswer;
     fn yeqontur_spoiler(table: Table, slot: u32) -> SpoilerAnswer;
     fn yeqontur_justifications(
@@ -213,6 +214,13 @@ pub fn replace(
             negatives.len(),
         )
     }
+}
+
+/// 0 unmutes, and any other number mutes.
+#[inline(never)]
+pub fn mute(table: &Table, slot: u32, muted: u32) -> Accepted {
+    // SAFETY: numbers by value.
+    unsafe { yeqontur_mute(*table, slot, muted) }
 }
 
 #[inline(never)]

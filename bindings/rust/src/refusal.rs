@@ -9,10 +9,12 @@ pub enum Refusal {
     TooManyEntries,
     EntryTooLarge,
     RepeatedEntry,
-    /// A rule with this head, other than the one to be replaced, has the same atoms in each list, in whatever order.
+    /// A rule with this head, muted or not, other than the one to be replaced, has the same atoms in each list, in
+    /// whatever order. A muted one gives nothing until it is unmuted, so a label may stay out after this refusal.
     SameRule,
     /// Of additions alone: where a rule is replaced, the new one takes its slot.
     TableFull,
+    /// Muted rules are rules of a loop too, so that none is closed where they are unmuted.
     NegativeCycle,
     SlotTooLarge,
     SlotFree,
@@ -23,7 +25,7 @@ pub enum Refusal {
     },
     AtomNotIn,
     /// Also of a table in which a rule's list does not ascend, and of a sound one that is no checklist where one is
-    /// asked for.
+    /// asked for; one with a muted rule is none.
     TableUnsound,
     /// Of a file, as the next three are: it is not 1 to 12 blocks long.
     WrongLength,
@@ -120,7 +122,7 @@ impl Refusal {
             Refusal::SameRule => (
                 5,
                 "the table has the same rule already",
-                "nothing to add: the table says it already; if it was to replace another rule, remove that one",
+                "if it is muted, unmute it, or it gives nothing; if it was to replace another rule, remove that one",
             ),
             Refusal::TableFull => (
                 6,
@@ -130,7 +132,7 @@ impl Refusal {
             Refusal::NegativeCycle => (
                 7,
                 "the rule would close a loop through a negation",
-                "leave this rule out, or first remove another rule of the loop",
+                "leave this rule out, or first remove another rule of the loop; to mute it is not enough",
             ),
             Refusal::SlotTooLarge => (
                 8,

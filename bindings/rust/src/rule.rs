@@ -3,10 +3,12 @@
 use crate::{raw, Refusal, Table};
 use std::fmt;
 
-/// A rule that the table holds: its head is in if every positive entry is in and no negative entry is.
+/// A rule that the table holds: its head is in if every positive entry is in and no negative entry is. A muted rule is
+/// held and gives nothing.
 ///
 /// Each list ascends, in whatever order the call named it. So two rules are the same exactly if their heads and their
-/// lists are equal; `==` compares the slots too. Sort lists of your own before you compare them with these.
+/// lists are equal; `==` compares the slots too, and whether they are muted. Sort lists of your own before you compare
+/// them with these.
 #[derive(Clone, PartialEq, Eq, Debug)]
 pub struct Rule {
     pub slot: u32,
@@ -15,6 +17,8 @@ pub struct Rule {
     pub positives: Vec<u32>,
     /// Ascending.
     pub negatives: Vec<u32>,
+    /// Muted by [`Table::mute`], and not unmuted since.
+    pub muted: bool,
 }
 
 /// The list that the entry that stops a rule stands in, and so how it stops it.
@@ -27,11 +31,17 @@ pub enum Side {
 }
 
 /// Whether a rule is valid, or the first entry that spoils it: its list, its place in that list as the table keeps it,
-/// from 0, and its atom.
+/// from 0, and its atom. A muted rule is neither.
 #[derive(Clone, Copy, PartialEq, Eq, Debug)]
 pub enum Validity {
     Valid,
-    Spoiled { side: Side, place: u32, atom: u32 },
+    Spoiled {
+        side: Side,
+        place: u32,
+        atom: u32,
+    },
+    /// Whatever its entries are.
+    Muted,
 }
 
 impl Validity {
@@ -40,7 +50,8 @@ impl Validity {
         let side = match spoiled {
             0 => return Validity::Valid,
             1 => Side::Positive,
-            _ => Side::Negative,
+            2 => Side::Negative,
+            _ => return Validity::Muted,
         };
         Validity::Spoiled { side, place, atom }
     }
@@ -64,11 +75,12 @@ impl Rule {
             head: rule.head.into(),
             positives: numbers(positives),
             negatives: numbers(&rest[..rule.negatives.into()]),
+            muted: rule.state == 2,
         }
     }
 }
 
-/// As the specification writes it: `1 < 2, not 3`; a fact is `1 <`.
+/// As the specification writes it: `1 < 2, not 3`; a fact is `1 <`. That it is muted is not written.
 impl fmt::Display for Rule {
     fn fmt(&self, f: &mut fmt::Formatter<'_>) -> fmt::Result {
         let positives = self.positives.iter().map(|atom| format!("{atom}"));
@@ -79,7 +91,7 @@ impl fmt::Display for Rule {
 }
 
 impl Table {
-    /// The rules that the table holds, by slot.
+    /// The rules that the table holds, muted or not, by slot.
     pub fn rules(&self) -> impl Iterator<Item = Rule> + '_ {
         (0..)
             .zip(&self.as_raw().rules)
@@ -88,6 +100,8 @@ impl Table {
     }
 
     /// The rule in a slot.
+    // Not inlined, nor is what tells of an out atom (why.rs): a reason goes down 256 levels, and each has a frame.
+    #[inline(never)]
     pub fn rule(&self, slot: u32) -> Result<Rule, Refusal> {
         self.spoiler(slot)?; // asks whether the slot holds a rule
         Ok(Rule::read(slot, &self.as_raw().rules[slot as usize]))

@@ -43,10 +43,10 @@ impl Table {
     }
 
     /// Adds the rule that the head is in if every positive atom is in and no negative one is; with both lists empty, a
-    /// fact. Answers its slot, the lowest that was free. A refused call leaves the table as it was.
+    /// fact. It is not muted. Answers its slot, the lowest that was free. A refused call leaves the table as it was.
     ///
     /// The lists may come in any order, and the table keeps each ascending: a rule with the same head and the same
-    /// atoms in each list is the same rule, and refused (5).
+    /// atoms in each list is the same rule, and refused (5), also where the one that is held is muted.
     ///
     /// ```
     /// # use yeqontur::{Refusal, Table};
@@ -62,18 +62,20 @@ impl Table {
         answered(change.refused, 0, change.slot)
     }
 
-    /// Frees a slot; every other slot keeps its rule. A refused call leaves the table as it was.
+    /// Frees a slot; every other slot keeps its rule, and whether that is muted. A refused call leaves the table as it
+    /// was.
     pub fn remove(&mut self, slot: u32) -> Result<(), Refusal> {
         let change = raw::remove(&self.0, slot);
         self.0 = change.table;
         answered(change.refused, 0, ())
     }
 
-    /// Replaces the rule in a slot by another, in one step. Every other slot keeps its rule. A refused call leaves the
-    /// table as it was, the old rule included.
+    /// Replaces the rule in a slot by another, in one step. Every other slot keeps its rule, and whether that is muted.
+    /// A refused call leaves the table as it was, the old rule included.
     ///
     /// The new rule is judged against the table without the old one, and takes its slot: a rule may be replaced by
-    /// itself, one that another slot has is refused (5), and a full table has room for it.
+    /// itself, one that another slot has is refused (5), and a full table has room for it. It is not muted, whether the
+    /// old one was or not: a muted rule that is replaced by itself is unmuted.
     ///
     /// ```
     /// # use yeqontur::{Refusal, Table};
@@ -98,6 +100,40 @@ impl Table {
         answered(told.refused, 0, ())
     }
 
+    /// Mutes the rule in a slot: it stays there and gives nothing, until it is unmuted. What is muted already may be
+    /// muted again. A refused call leaves the table as it was.
+    ///
+    /// Labels, depths and supporting slots, what spoils a rule, reasons and repercussions go by the rules that are not
+    /// muted. A muted rule counts where it matters what is held: its atoms occur, so an atom whose rules are all muted
+    /// is out; justifications and consequences have it; the same rule is refused (5), and so is one that would close a
+    /// loop through a negation with it (7).
+    ///
+    /// ```
+    /// # use yeqontur::{Label, Refusal, Table, Validity};
+    /// let mut table = Table::new();
+    /// table.add(1, &[2], &[])?;
+    /// table.add(2, &[], &[])?;
+    /// let before = table.clone();
+    /// table.mute(1)?;
+    /// assert!(table.rule(1)?.muted);
+    /// assert_eq!(table.label(2)?, Label::Out);
+    /// assert_eq!(table.label(1)?, Label::Out);
+    /// assert_eq!(table.spoiler(1)?, Validity::Muted);
+    /// assert_eq!(table.add(2, &[], &[]), Err(Refusal::SameRule));
+    /// table.unmute(1)?;
+    /// assert_eq!(table, before);
+    /// # Ok::<(), Refusal>(())
+    /// ```
+    pub fn mute(&mut self, slot: u32) -> Result<(), Refusal> {
+        self.set_muted(slot, 1)
+    }
+
+    /// Unmutes the rule in a slot: it gives its head again, as if it had never been muted. Since muted rules count for
+    /// loops, this never meets 7. What is not muted may be unmuted. A refused call leaves the table as it was.
+    pub fn unmute(&mut self, slot: u32) -> Result<(), Refusal> {
+        self.set_muted(slot, 0)
+    }
+
     /// The label of an atom.
     pub fn label(&self, atom: u32) -> Result<Label, Refusal> {
         let told = raw::label(&self.0, atom);
@@ -106,19 +142,19 @@ impl Table {
     }
 
     /// Whether the rule in the slot is valid, or the first entry that stops it, the positive list read first and each
-    /// list ascending.
+    /// list ascending; of a muted rule, that it is muted.
     pub fn spoiler(&self, slot: u32) -> Result<Validity, Refusal> {
         let told = raw::spoiler(&self.0, slot);
         let validity = Validity::from_numbers(told.spoiled, told.place, told.atom);
         answered(told.refused, 0, validity)
     }
 
-    /// The slots of the rules with this head, ascending.
+    /// The slots of the rules with this head, muted ones among them, ascending.
     pub fn justifications(&self, atom: u32) -> Result<Vec<u32>, Refusal> {
         self.list(List::Justifications, atom)
     }
 
-    /// The heads of the rules with this atom as an entry, ascending.
+    /// The heads of the rules with this atom as an entry, muted ones among them, ascending.
     pub fn consequences(&self, atom: u32) -> Result<Vec<u32>, Refusal> {
         self.list(List::Consequences, atom)
     }
@@ -140,8 +176,9 @@ impl Table {
         answered(told.refused, told.count, told.count)
     }
 
-    /// The table as the bytes of a file: the rules with their slots, one block of 512 bytes for each 22 rules begun, at
-    /// least one. Labels are not in it. Equal tables have equal files. To keep it on disk, see [`Table::save_to`].
+    /// The table as the bytes of a file: the rules with their slots, and which of them are muted, one block of 512
+    /// bytes for each 22 rules begun, at least one. Labels are not in it. Equal tables have equal files. To keep it on
+    /// disk, see [`Table::save_to`].
     ///
     /// ```
     /// # use yeqontur::{Refusal, Table};
@@ -160,11 +197,18 @@ impl Table {
         bytes
     }
 
-    /// The table that was saved as these bytes: each rule stands in its slot again, and all labels are found anew. Any
-    /// bytes may come: those that `save` does not write of some table are refused (16 to 19).
+    /// The table that was saved as these bytes: each rule stands in its slot again, muted if it was, and all labels are
+    /// found anew. Any bytes may come: those that `save` does not write of some table are refused (16 to 19).
     pub fn load(bytes: &[u8]) -> Result<Table, Refusal> {
         let told = raw::load(bytes);
         answered(told.refused, 0, Table(told.table))
+    }
+
+    /// 0 unmutes, and any other number mutes.
+    fn set_muted(&mut self, slot: u32, muted: u32) -> Result<(), Refusal> {
+        let told = raw::mute(&self.0, slot, muted);
+        self.0 = told.table;
+        answered(told.refused, 0, ())
     }
 
     /// No list is longer than there are slots or atoms.

@@ -10,15 +10,16 @@ pub struct Why {
     pub because: Because,
 }
 
-/// The tree is finite and has at most one branch for each entry of each rule: where a reason with branches of its own
-/// would be told again, it is cut, and says where the reason stands. Reading order is depth first, left to right.
+/// The tree is finite and has at most one branch for each entry of each rule, and one for each muted rule: where a
+/// reason with branches of its own would be told again, it is cut, and says where the reason stands. Reading order is
+/// depth first, left to right.
 #[derive(Clone, PartialEq, Eq, Debug)]
 pub enum Because {
-    /// The atom stands in no rule.
+    /// The atom stands in no rule, muted or not: one that only muted rules name is out.
     Absent,
     /// In, by its supporting rule: a reason for each positive entry, ascending. No negative entry is in.
     Supported { rule: Rule, from: Vec<Why> },
-    /// Out, since each of its rules is stopped. An atom that is the head of no rule has none to show.
+    /// Out, since each of its rules, by slot, is stopped. An atom that is the head of no rule has none to show.
     Stopped(Vec<Stopped>),
     /// Cut: the atom stands above on this path, and waits for itself. Only an out atom can.
     Above,
@@ -26,16 +27,26 @@ pub enum Because {
     Earlier,
 }
 
-/// A rule of an out atom, and the first entry that stops it.
+/// A rule of an out atom, and what stops it.
 #[derive(Clone, PartialEq, Eq, Debug)]
 pub struct Stopped {
     pub rule: Rule,
-    /// The entry's list: the rule needs a positive entry, and is blocked by a negative one.
-    pub side: Side,
-    /// The entry's place in that list, which ascends, from 0.
-    pub place: u32,
-    /// The entry's atom, with its own reason.
-    pub by: Why,
+    pub stop: Stop,
+}
+
+/// What stops a rule: the first entry that spoils it, or that it is muted.
+#[derive(Clone, PartialEq, Eq, Debug)]
+pub enum Stop {
+    Spoiled {
+        /// The entry's list: the rule needs a positive entry, and is blocked by a negative one.
+        side: Side,
+        /// The entry's place in that list, which ascends, from 0.
+        place: u32,
+        /// The entry's atom, with its own reason.
+        by: Why,
+    },
+    /// Whatever its entries are: no reason of theirs is told.
+    Muted,
 }
 
 /// How far the reason of an atom has been told.
@@ -77,40 +88,44 @@ impl Teller<'_> {
     /// A reason without branches may be told many times: it is short.
     fn because(&mut self, atom: u32, label: Label) -> Result<Because, Refusal> {
         self.told[atom as usize] = Told::Begun;
-        let (because, branches) = match label {
-            Label::Absent => (Because::Absent, 0),
+        let because = match label {
+            Label::Absent => Because::Absent,
             Label::In { slot, .. } => self.supported(slot)?,
             Label::Out => self.stopped(atom)?,
         };
-        self.told[atom as usize] = if branches == 0 { Told::No } else { Told::Whole };
+        self.told[atom as usize] = match &because {
+            Because::Supported { from, .. } if !from.is_empty() => Told::Whole,
+            Because::Stopped(rules) if !rules.is_empty() => Told::Whole,
+            _ => Told::No,
+        };
         Ok(because)
     }
 
-    fn supported(&mut self, slot: u32) -> Result<(Because, usize), Refusal> {
+    fn supported(&mut self, slot: u32) -> Result<Because, Refusal> {
         let rule = self.table.rule(slot)?;
         let mut from = Vec::new();
         for &atom in &rule.positives {
             from.push(self.why(atom)?);
         }
-        let branches = from.len();
-        Ok((Because::Supported { rule, from }, branches))
+        Ok(Because::Supported { rule, from })
     }
 
-    fn stopped(&mut self, atom: u32) -> Result<(Because, usize), Refusal> {
+    // Not inlined: each of the 256 levels of the deepest reason, whose atoms are in, would have room for it.
+    #[inline(never)]
+    fn stopped(&mut self, atom: u32) -> Result<Because, Refusal> {
         let mut rules = Vec::new();
         for slot in self.table.justifications(atom)? {
-            if let Validity::Spoiled { side, place, atom } = self.table.spoiler(slot)? {
-                let rule = self.table.rule(slot)?;
-                let by = self.why(atom)?;
-                rules.push(Stopped {
-                    rule,
-                    side,
-                    place,
-                    by,
-                });
-            }
+            let stop = match self.table.spoiler(slot)? {
+                Validity::Valid => continue, // none of an out atom is
+                Validity::Muted => Stop::Muted,
+                Validity::Spoiled { side, place, atom } => {
+                    let by = self.why(atom)?;
+                    Stop::Spoiled { side, place, by }
+                }
+            };
+            let rule = self.table.rule(slot)?;
+            rules.push(Stopped { rule, stop });
         }
-        let branches = rules.len();
-        Ok((Because::Stopped(rules), branches))
+        Ok(Because::Stopped(rules))
     }
 }

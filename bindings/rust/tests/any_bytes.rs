@@ -39,10 +39,12 @@ fn refused_alike(fields: &raw::Table, random: &mut Random) -> bool {
     let added = raw::add(fields, number, &[1, 2], &[3]);
     let removed = raw::remove(fields, number);
     let replaced = raw::replace(fields, number, 1, &[2], &[]);
+    let muted = raw::mute(fields, number, random.word() as u32 & 1);
     let mut refusals = vec![
         added.refused,
         removed.refused,
         replaced.refused,
+        muted.refused,
         raw::label(fields, number).refused,
         raw::spoiler(fields, number).refused,
     ];
@@ -58,7 +60,7 @@ fn refused_alike(fields: &raw::Table, random: &mut Random) -> bool {
         refusals.iter().all(|&r| (r == 15) == unsound),
         "{refusals:?}"
     );
-    for table in [added.table, removed.table, replaced.table] {
+    for table in [added.table, removed.table, replaced.table, muted.table] {
         assert!(!unsound || table == *fields);
     }
     unsound
@@ -78,13 +80,36 @@ fn one_field_changed() {
     let mut random = Random(2);
     let mut unsound = 0;
     for _ in 0..40 {
-        let table = random.table(40, 12);
+        let table = random.muted_table(40, 12, 4);
         for _ in 0..100 {
             let fields = damaged(&table, &mut random);
             unsound += usize::from(refused_alike(&fields, &mut random));
         }
     }
     assert!((1000..4000).contains(&unsound), "{unsound} of 4000");
+}
+
+/// No number but 0, 1 and 2 is a state; and a table with a rule that is muted by hand is sound exactly if it is the one
+/// that muting makes.
+#[test]
+fn one_state_changed() {
+    let mut random = Random(16);
+    let mut sound = 0;
+    for _ in 0..20 {
+        let table = random.table(40, 12);
+        for slot in 0..table.rules().count() {
+            let mut fields = *table.as_raw();
+            for state in [3, 4, 128, 129, 256, 257, 258, u16::MAX] {
+                fields.rules[slot].state = state;
+                assert!(refused_alike(&fields, &mut random), "state {state}");
+            }
+            fields.rules[slot].state = 2;
+            let muted = raw::mute(table.as_raw(), slot as u32, 1).table;
+            assert_eq!(refused_alike(&fields, &mut random), fields != muted);
+            sound += usize::from(fields == muted);
+        }
+    }
+    assert!(sound > 100, "{sound} tables");
 }
 
 #[test]

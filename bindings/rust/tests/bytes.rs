@@ -28,6 +28,9 @@ fn rebuilt(rules: &[Rule]) -> Table {
         let rule = rules.iter().find(|rule| rule.slot == slot);
         let added = rule.map(|r| table.add(r.head, &r.positives, &r.negatives));
         assert!(added.is_none_or(|told| told.is_ok()), "{rule:?}: {added:?}");
+        if rule.is_some_and(|r| r.muted) {
+            assert_eq!(table.mute(slot), Ok(()));
+        }
     }
     table
 }
@@ -47,7 +50,7 @@ fn the_same_rules_in_the_same_slots_are_the_same_bytes() {
     let mut random = Random(4);
     for round in 0..20 {
         litter(round);
-        let table = random.table(200, 40);
+        let table = random.muted_table(200, 40, 3);
         let rules: Vec<Rule> = table.rules().collect();
         let again = rebuilt(&rules);
         assert!(table.as_raw().as_bytes() == again.as_raw().as_bytes());

@@ -6,7 +6,7 @@ mod common;
 use common::Random;
 use std::collections::BTreeSet;
 use yeqontur::raw::{self, Accepted};
-use yeqontur::{Atoms, Because, Checklist, FileState, Refusal, Side, Table, Why};
+use yeqontur::{Atoms, Because, Checklist, FileState, Refusal, Side, Stop, Table, Why};
 
 fn opened(files: u32) -> Checklist {
     Checklist::open(files).expect("1 to 60 files")
@@ -320,6 +320,38 @@ fn refused_alike(fields: &raw::Table, file: u32) -> bool {
     true
 }
 
+/// A rule of the frame or a mark, valid or spoiled. Where it is spoiled, muting changes no label, and so can be done by
+/// hand.
+#[test]
+fn a_muted_rule_makes_it_no_checklist_until_it_is_unmuted() {
+    let whole = marked(3, &[1, 3], &[2]);
+    for slot in 0..7 {
+        let mut table = whole.table().clone();
+        assert_eq!(table.mute(slot), Ok(()));
+        assert!(refused_alike(table.as_raw(), 1), "slot {slot}");
+        assert!(!is_checklist(&table));
+        let loaded = Table::load(&table.save()).expect("a table");
+        assert!(!is_checklist(&loaded));
+        assert_eq!(table.unmute(slot), Ok(()));
+        assert_eq!(Checklist::try_from(table), Ok(whole.clone()));
+    }
+    let mut by_hand = *whole.table().as_raw();
+    by_hand.rules[3].state = 2;
+    assert!(Table::try_from(by_hand).is_ok());
+    assert!(refused_alike(&by_hand, 1));
+}
+
+/// Muting the last file's rule does not take that file from the list, as removing it does.
+#[test]
+fn muting_makes_no_checklist_of_another_length() {
+    let mut table = marked(3, &[1, 2], &[]).into_table();
+    assert_eq!(table.mute(3), Ok(()));
+    assert!(!is_checklist(&table));
+    assert_eq!(table.remove(3), Ok(()));
+    let shorter = Checklist::try_from(table).expect("a checklist");
+    assert_eq!((shorter.files(), shorter.complete()), (2, true));
+}
+
 #[test]
 fn tables_of_any_bytes_are_refused_alike() {
     let mut random = Random(15);
@@ -386,7 +418,12 @@ fn stops(why: &Why) -> Vec<(u32, Side, u32)> {
     match &why.because {
         Because::Stopped(rules) => rules
             .iter()
-            .flat_map(|s| [vec![(why.atom, s.side, s.by.atom)], stops(&s.by)].concat())
+            .flat_map(|stopped| match &stopped.stop {
+                Stop::Spoiled { side, by, .. } => {
+                    [vec![(why.atom, *side, by.atom)], stops(by)].concat()
+                }
+                Stop::Muted => panic!("a checklist has no muted rule"),
+            })
             .collect(),
         _ => Vec::new(),
     }

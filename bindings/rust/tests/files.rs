@@ -44,7 +44,8 @@ fn written(rules: &[Rule]) -> Vec<u8> {
             let at = record(place);
             put(block, at, rule.slot as u16);
             put(block, at + 2, rule.head as u16);
-            block[at + 4] = rule.positives.len() as u8;
+            let muted = if rule.muted { 0x80 } else { 0 };
+            block[at + 4] = rule.positives.len() as u8 | muted;
             block[at + 5] = rule.negatives.len() as u8;
             for (i, &atom) in rule.positives.iter().chain(&rule.negatives).enumerate() {
                 put(block, at + 6 + 2 * i, atom as u16);
@@ -116,7 +117,7 @@ fn tables_of_every_number_of_blocks_come_back() {
 fn random_tables_come_back_in_their_slots_with_their_labels() {
     let mut random = Random(11);
     for round in 0..60 {
-        let mut t = random.table(10 * round, 30);
+        let mut t = random.muted_table(10 * round, 30, 3);
         survives(&t);
         for _ in 0..round {
             let _ = t.remove(random.below(256));
@@ -245,6 +246,40 @@ fn refused_19_by_a_record_that_is_no_rule() {
     }
 }
 
+/// The top bit of a positive count says that the rule is muted; the other seven bits are the count, and the questions
+/// are those of any rule. The same bit elsewhere is wrong.
+#[test]
+fn a_muted_rule_is_a_bit_of_its_record() {
+    let mut t = table(&[(9, &[1, 2], &[7, 8]), (3, &[], &[])]);
+    let at = record(0);
+    let mut file = t.save();
+    file[at + 4] |= 0x80;
+    seal(&mut file);
+    assert_eq!(t.mute(0), Ok(()));
+    assert_eq!(Table::load(&file), Ok(t.clone()));
+    survives(&t);
+    for (positives, negatives) in [
+        (0x80, 2),
+        (0x81, 2),
+        (0x83, 2),
+        (0x87, 2),
+        (0xff, 2),
+        (0xff, 3),
+        (0x82, 0x82),
+        (2, 0x82),
+    ] {
+        refused_with(&t, at + 4, u16::from_le_bytes([positives, negatives]), 19);
+    }
+    refused_with(&t, record(2) + 4, 0x80, 19);
+    refused_with(&t, at + 2, 256, 19);
+    refused_with(&t, at + 6, 3, 19);
+    refused_with(&t, at + 2, 8, 19); // a loop through a negation
+    let twice = table(&[(1, &[], &[]), (2, &[], &[])]);
+    let mut muted = twice.clone();
+    assert_eq!(muted.mute(1), Ok(()));
+    refused_with(&muted, record(1) + 2, 1, 19); // the same rule
+}
+
 /// Records that are rules, and not those of one table: 5 and 7.
 #[test]
 fn refused_19_by_rules_that_no_table_has_together() {
@@ -298,6 +333,9 @@ fn changed(t: &Table, random: &mut Random) -> Vec<u8> {
         let block = random.below((file.len() / BLOCK) as u32) as usize;
         let at = random.below(120) as usize;
         file[BLOCK * block + at] = random.below(12) as u8;
+        if random.below(3) == 0 {
+            file[BLOCK * block + record(random.below(5) as usize) + 4] ^= 0x80; // muted or not
+        }
     }
     seal(&mut file);
     file

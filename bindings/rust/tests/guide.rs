@@ -12,6 +12,16 @@ fn file(path: &str) -> String {
     std::fs::read_to_string(root().join(path)).expect(path)
 }
 
+/// What a command prints, which must succeed.
+fn printed(command: &str) -> String {
+    let mut shell = Command::new("sh");
+    let ran = shell.arg("-c").arg(command).current_dir(root()).output();
+    let ran = ran.expect("a shell");
+    let errors = String::from_utf8_lossy(&ran.stderr);
+    assert!(ran.status.success(), "{command}{errors}");
+    String::from_utf8_lossy(&ran.stdout).into_owned()
+}
+
 /// The guide's blocks of a kind.
 fn blocks(kind: &str) -> Vec<String> {
     let guide = file("docs/GUIDE.md");
@@ -40,14 +50,31 @@ fn the_commands_of_the_guide_print_what_it_says() {
     assert_eq!(shown[0], file("examples/checklist.out"));
     assert_eq!(commands[0], "rt staticlib yeqontur\n");
     for (i, command) in commands[1..].iter().enumerate() {
-        let mut shell = Command::new("sh");
-        let ran = shell.arg("-c").arg(command).current_dir(root()).output();
-        let ran = ran.expect("a shell");
-        let errors = String::from_utf8_lossy(&ran.stderr);
-        assert!(ran.status.success(), "{command}{errors}");
-        let printed = String::from_utf8_lossy(&ran.stdout);
-        assert_eq!(printed, shown[i / 2], "{command}");
+        assert_eq!(printed(command), shown[i / 2], "{command}");
     }
+}
+
+/// The indented commands draw, each to the file behind `>`. The last two ask the same, with and without a muted rule.
+#[test]
+fn the_drawing_commands_of_the_guide_draw_what_it_says() {
+    let guide = file("docs/GUIDE.md");
+    let paragraphs = guide.split("\n\n");
+    let commands = paragraphs.filter(|text| text.starts_with("    cargo run "));
+    let picture = |command: &str| {
+        assert_eq!(printed(command), "", "{command}");
+        let (_, path) = command.rsplit_once("> ").expect("a path");
+        file(path)
+    };
+    let pictures: Vec<String> = commands.map(picture).collect();
+    assert_eq!(pictures.len(), 3);
+    assert!(pictures[0] == file("examples/complete.svg"));
+    let (asks, muted) = (
+        ">the rule in slot 1 asks for<",
+        ">the rule in slot 1 is muted<",
+    );
+    let said = |text: &String| (text.contains(asks), text.contains(muted));
+    assert_eq!(said(&pictures[1]), (true, false));
+    assert_eq!(said(&pictures[2]), (false, true));
 }
 
 /// The lines in which the two clients differ.

@@ -46,6 +46,8 @@ fn numbers_past_a_narrow_type_are_not_folded() {
         assert_eq!(replaced, Err(Refusal::EntryTooLarge));
         let replaced = t.replace(0, 1, &[], &[number]);
         assert_eq!(replaced, Err(Refusal::EntryTooLarge));
+        assert_eq!(t.mute(number), Err(Refusal::SlotTooLarge));
+        assert_eq!(t.unmute(number), Err(Refusal::SlotTooLarge));
         assert_eq!(t.spoiler(number), Err(Refusal::SlotTooLarge));
         assert_eq!(t.rule(number), Err(Refusal::SlotTooLarge));
         assert_eq!(t.label(number), Err(Refusal::AtomTooLarge));
@@ -75,7 +77,7 @@ fn lent(t: &Table, which: List, atom: u32, list: &[u32], length: usize) {
 fn buffers_entry_for_entry() {
     let mut random = Random(4);
     for _ in 0..40 {
-        let t = random.table(60, 10);
+        let t = random.muted_table(60, 10, 4);
         for atom in 0..11 {
             let lists = [
                 (List::Justifications, t.justifications(atom)),

@@ -1,9 +1,9 @@
-//! The guide's program in C that keeps its table in a file: what becomes of links and permissions.
+//! The guide's program in C that keeps its table in a file: what becomes of links, permissions and muted rules.
 #![cfg(unix)]
 
 mod common;
 
-use common::{folder, names};
+use common::{folder, names, table};
 use std::fs::{self, Permissions};
 use std::os::unix::fs::{symlink, PermissionsExt};
 use std::path::{Path, PathBuf};
@@ -114,6 +114,21 @@ fn a_link_to_nothing_stays_and_nothing_is_created() {
     );
     assert!(link.is_symlink());
     assert_eq!(names(&folder), ["link"]);
+}
+
+/// It is one of the rules that are counted, and comes to the new file as it was.
+#[test]
+fn a_muted_rule_is_a_rule_and_stays_muted() {
+    let (_, path) = saved("c_muted");
+    let mut table = table(&[(200, &[], &[]), (201, &[], &[])]);
+    assert_eq!(table.mute(0), Ok(()));
+    table.save_to(&path).expect("a save");
+    let ran = Command::new(program()).arg(&path).output();
+    let told = String::from_utf8(ran.expect("the program").stdout).expect("text");
+    assert!(told.starts_with("loaded: 2 rules\n"), "{told}");
+    let loaded = Table::load_from(&path).expect("a table");
+    let muted: Vec<bool> = loaded.rules().map(|rule| rule.muted).collect();
+    assert_eq!(muted, [true, false, false]);
 }
 
 #[test]

@@ -35,6 +35,10 @@ fn calls() {
     assert!(Table::load(&table.save()).as_ref() == Ok(&table));
     assert_eq!(table.replace(255, 255, &[253, 254], &[]), Ok(()));
     assert_eq!(table.label(255), Ok(last));
+    assert_eq!(table.mute(0), Ok(()));
+    assert_eq!(table.label(255), Ok(Label::Out));
+    assert_eq!(table.unmute(0), Ok(()));
+    assert_eq!(table.label(255), Ok(last));
     assert_eq!(table.remove(0), Ok(()));
     assert_eq!(table.labels().filter(|(_, l)| l.is_in()).count(), 0);
 }

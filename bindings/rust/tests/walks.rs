@@ -24,20 +24,23 @@ fn labels_of_the_atoms_that_occur_ascending() {
 }
 
 #[test]
-fn rules_by_slot_without_the_free_ones_each_list_ascending() {
+fn rules_by_slot_without_the_free_ones_each_list_ascending_muted_or_not() {
     let mut t = table(&[(9, &[2, 1], &[7]), (2, &[], &[]), (255, &[], &[9, 3])]);
     assert_eq!(t.remove(1), Ok(()));
-    let rule = |slot, head, positives: &[u32], negatives: &[u32]| Rule {
+    assert_eq!(t.mute(2), Ok(()));
+    let rule = |slot, head, positives: &[u32], negatives: &[u32], muted| Rule {
         slot,
         head,
         positives: positives.to_vec(),
         negatives: negatives.to_vec(),
+        muted,
     };
     let rules: Vec<Rule> = t.rules().collect();
-    assert_eq!(
-        rules,
-        [rule(0, 9, &[1, 2], &[7]), rule(2, 255, &[], &[3, 9])]
-    );
+    let expected = [
+        rule(0, 9, &[1, 2], &[7], false),
+        rule(2, 255, &[], &[3, 9], true),
+    ];
+    assert_eq!(rules, expected);
     let written: Vec<String> = rules.iter().map(Rule::to_string).collect();
     assert_eq!(written, ["9 < 1, 2, not 7", "255 < not 3, not 9"]);
 }
@@ -46,7 +49,7 @@ fn rules_by_slot_without_the_free_ones_each_list_ascending() {
 fn walks_agree_with_the_calls() {
     let mut random = Random(5);
     for round in 0..20 {
-        let t = random.table(20 + 20 * round, 6 + 12 * round);
+        let t = random.muted_table(20 + 20 * round, 6 + 12 * round, 4);
         let mut walked = t.labels();
         for atom in 0..256 {
             match t.label(atom) {

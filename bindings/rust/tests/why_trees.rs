@@ -4,9 +4,9 @@ mod common;
 
 use common::{fourth_example, table, Random};
 use std::collections::BTreeSet;
-use yeqontur::{Because, Label, Side, Table, Validity, Why};
+use yeqontur::{Because, Label, Side, Stop, Stopped, Table, Validity, Why};
 
-/// The tree on one line: `1 in 2 by 0 (2 in 1 by 2)`, `1 out (0 needs 2 out)`.
+/// The tree on one line: `1 in 2 by 0 (2 in 1 by 2)`, `1 out (0 needs 2 out; 3 muted)`.
 fn told(why: &Why) -> String {
     let label = match why.label {
         Label::Absent => "absent".to_string(),
@@ -16,16 +16,7 @@ fn told(why: &Why) -> String {
     let branches: Vec<String> = match &why.because {
         Because::Absent => vec![],
         Because::Supported { from, .. } => from.iter().map(told).collect(),
-        Because::Stopped(rules) => rules
-            .iter()
-            .map(|s| {
-                let how = match s.side {
-                    Side::Positive => "needs",
-                    Side::Negative => "blocked by",
-                };
-                format!("{} {how} {}", s.rule.slot, told(&s.by))
-            })
-            .collect(),
+        Because::Stopped(rules) => rules.iter().map(told_stop).collect(),
         Because::Above => vec!["above".to_string()],
         Because::Earlier => vec!["earlier".to_string()],
     };
@@ -33,6 +24,17 @@ fn told(why: &Why) -> String {
         [] => format!("{} {label}", why.atom),
         _ => format!("{} {label} ({})", why.atom, branches.join("; ")),
     }
+}
+
+fn told_stop(Stopped { rule, stop }: &Stopped) -> String {
+    let how = match stop {
+        Stop::Spoiled { side, by, .. } => match side {
+            Side::Positive => format!("needs {}", told(by)),
+            Side::Negative => format!("blocked by {}", told(by)),
+        },
+        Stop::Muted => "muted".to_string(),
+    };
+    format!("{} {how}", rule.slot)
 }
 
 fn shows(t: &Table, atom: u32, tree: &str) {
@@ -93,6 +95,42 @@ fn an_entry_in_both_lists_stops_by_what_it_is() {
     shows(&t, 1, "1 out (0 blocked by 2 in 1 by 1)");
 }
 
+/// A muted rule is told as muted, whether it would be valid (slot 0) or spoiled (1), and its entries have no branches.
+#[test]
+fn a_muted_rule_of_an_out_atom_is_told_as_muted() {
+    let mut t = table(&[
+        (1, &[2], &[]),
+        (1, &[3], &[2]),
+        (1, &[4], &[]),
+        (2, &[], &[]),
+    ]);
+    assert_eq!((t.mute(0), t.mute(1)), (Ok(()), Ok(())));
+    shows(&t, 1, "1 out (0 muted; 1 muted; 2 needs 4 out)");
+    assert_eq!((t.mute(2), t.mute(3)), (Ok(()), Ok(())));
+    shows(&t, 1, "1 out (0 muted; 1 muted; 2 muted)");
+    shows(&t, 2, "2 out (3 muted)");
+    shows(&t, 3, "3 out");
+    assert_eq!((t.unmute(0), t.unmute(3)), (Ok(()), Ok(())));
+    shows(&t, 1, "1 in 2 by 0 (2 in 1 by 3)");
+}
+
+/// A reason of muted rules alone has branches too, and is told once.
+#[test]
+fn muted_rules_are_told_once() {
+    let mut t = table(&[
+        (1, &[2, 3], &[]),
+        (1, &[3], &[]),
+        (3, &[], &[]),
+        (2, &[], &[]),
+    ]);
+    assert_eq!(t.mute(2), Ok(()));
+    shows(
+        &t,
+        1,
+        "1 out (0 needs 3 out (2 muted); 1 needs 3 out (earlier))",
+    );
+}
+
 #[test]
 fn a_reason_with_branches_is_told_once() {
     let t = table(&[
@@ -119,10 +157,28 @@ fn nodes(why: &Why) -> Vec<&Why> {
     let mut all = vec![why];
     match &why.because {
         Because::Supported { from, .. } => all.extend(from.iter().flat_map(nodes)),
-        Because::Stopped(rules) => all.extend(rules.iter().flat_map(|s| nodes(&s.by))),
+        Because::Stopped(rules) => all.extend(rules.iter().flat_map(|s| match &s.stop {
+            Stop::Spoiled { by, .. } => nodes(by),
+            Stop::Muted => Vec::new(),
+        })),
         _ => {}
     }
     all
+}
+
+/// What is told of a stopped rule is what the calls answer.
+fn stops(t: &Table, Stopped { rule, stop }: &Stopped) {
+    assert_eq!(rule.muted, *stop == Stop::Muted);
+    let validity = match stop {
+        Stop::Muted => Validity::Muted,
+        Stop::Spoiled { side, place, by } => {
+            assert_eq!(*side == Side::Negative, by.label.is_in());
+            assert_eq!(rule.list(*side)[*place as usize], by.atom);
+            let (side, place, atom) = (*side, *place, by.atom);
+            Validity::Spoiled { side, place, atom }
+        }
+    };
+    assert_eq!(t.spoiler(rule.slot), Ok(validity));
 }
 
 /// What one node tells is what the calls answer.
@@ -131,19 +187,14 @@ fn holds(t: &Table, why: &Why) {
     match (&why.because, why.label) {
         (Because::Supported { rule, from }, Label::In { slot, .. }) => {
             assert_eq!((rule.slot, rule.head), (slot, why.atom));
+            assert!(!rule.muted);
             assert!(rule.positives.iter().eq(from.iter().map(|w| &w.atom)));
             assert!(rule.negatives.iter().all(|&x| t.label(x) == Ok(Label::Out)));
         }
         (Because::Stopped(rules), Label::Out) => {
             let slots: Vec<u32> = rules.iter().map(|s| s.rule.slot).collect();
             assert_eq!(t.justifications(why.atom), Ok(slots));
-            for s in rules {
-                let (side, place, atom) = (s.side, s.place, s.by.atom);
-                let stopper = Validity::Spoiled { side, place, atom };
-                assert_eq!(t.spoiler(s.rule.slot), Ok(stopper));
-                assert_eq!(side == Side::Negative, s.by.label.is_in());
-                assert_eq!(s.rule.list(side)[place as usize], atom);
-            }
+            rules.iter().for_each(|stopped| stops(t, stopped));
         }
         (Because::Above, Label::Out) | (Because::Absent, Label::Absent) => {}
         (Because::Earlier, Label::Out | Label::In { .. }) => {}
@@ -155,7 +206,7 @@ fn holds(t: &Table, why: &Why) {
 fn every_node_tells_what_the_calls_answer() {
     let mut random = Random(7);
     for _ in 0..60 {
-        let t = random.table(80, 20);
+        let t = random.muted_table(80, 20, 4);
         for atom in 0..21 {
             let why = t.why(atom).expect("an atom");
             nodes(&why).iter().for_each(|node| holds(&t, node));
@@ -167,7 +218,7 @@ fn every_node_tells_what_the_calls_answer() {
 fn the_tree_of_an_in_atom_has_the_slots_of_its_reason() {
     let mut random = Random(8);
     for _ in 0..60 {
-        let t = random.table(80, 20);
+        let t = random.muted_table(80, 20, 4);
         for (atom, _) in t.labels().filter(|(_, label)| label.is_in()) {
             let why = t.why(atom).expect("an atom");
             let slots = nodes(&why).into_iter().filter_map(|node| match node.label {

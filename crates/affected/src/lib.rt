@@ -18,7 +18,7 @@ ghost use Rattle.theory.specs.Labels.{Supporting};
 ghost use Rattle.theory.specs.Explanations.{Repercussion};
 ghost use Rattle.theory.specs.Limits.{document};
 ghost use Rattle.table.specs.Sets.{member, number, Flags};
-ghost use Rattle.table.specs.Rules.{slotOf, ruleOf, programOf};
+ghost use Rattle.table.specs.Rules.{activeIn, ruleOf, activeOf};
 ghost use Rattle.affected.specs.Edges.{AddedEdge, Grown, FromEntries, Gives};
 
 // Room for all edges: a slot gives at most one for each entry of its rule.
@@ -64,7 +64,7 @@ fn is_kept(slots: &[u16; Table::ATOMS], a: Atom, slot: Slot) -> bool
 }
 
 // The edges that a slot gives. If its rule is the supporting rule of an in atom, one from each entry to the head; if
-// the head is out, one from the atom of the rule's spoiler to the head.
+// the head is out, one from the atom of the rule's spoiler to the head. A muted rule gives none.
 fn add_slot(
     rule: Rule,
     slot: Slot,
@@ -75,10 +75,10 @@ fn add_slot(
     count: usize,
 ) -> usize
     requires { ⌜ count + document .entries ≤ document .slots * document .entries ⌝ }
-    ensures { λ r. ⌜ Grown (Gives (member (now (flags .entry))) (number (now (slots .entry))) (slot .0) (slotOf rule))
+    ensures { λ r. ⌜ Grown (Gives (member (now (flags .entry))) (number (now (slots .entry))) (slot .0) (activeIn rule))
         (now (from .entry)) (now (to .entry)) count (now (from .exit)) (now (to .exit)) r ⌝ }
 {
-    if rule.state == 0 {
+    if rule.state != 1 {
         return count;
     }
     let head = rule.head;
@@ -103,9 +103,9 @@ pub fn reached(
     slots: &[u16; Table::ATOMS],
     a: Atom,
 ) -> [bool; Table::ATOMS]
-    requires { ⌜ Bounded (programOf rules) (document .atoms) × ((h : ℕ) → member (now flags) h ≡ true
-        → Supporting (programOf rules) (member (now flags)) h (number (now slots) h)) ⌝ }
-    ensures { λ r. ⌜ Flags r (Repercussion (programOf rules) (member (now (flags .entry))) (a .0)) ⌝ }
+    requires { ⌜ Bounded (activeOf rules) (document .atoms) × ((h : ℕ) → member (now flags) h ≡ true
+        → Supporting (activeOf rules) (member (now flags)) h (number (now slots) h)) ⌝ }
+    ensures { λ r. ⌜ Flags r (Repercussion (activeOf rules) (member (now (flags .entry))) (a .0)) ⌝ }
 {
     let mut from: [u16; EDGES] = [0; EDGES];
     let mut to: [u16; EDGES] = [0; EDGES];

@@ -3,15 +3,16 @@ use Prim.Native.Nat.{ℕ, zero, suc, _+_, _*_, _/_, _%_, _≤_, _<_}
 use native.Mathlib.Omega.{arith}
 use native.Mathlib.Nat.{add-mul-div-left, add-mul-mod-self-left, mod-eq-of-lt}
 use mathlib.Core.Path.{_≡_, refl, sym, _∙_, ap, ap₂}
-use mathlib.Core.Bool.{Bool, true}
+use mathlib.Core.Logic.{⊎-elim}
+use mathlib.Core.Bool.{Bool, true, false}
 use mathlib.Core.List.{List, [], _∷_, _++_, append-assoc}
-use lib.Dec.{eqb}
+use lib.Dec.{eqb, leb}
 use lib.ListN.{length, getD, take, drop, replicate, length-append, length-drop}
 use lib.Seq.{drop-at, take-add}
 use Rattle.theory.specs.Lists.{every}
-use Rattle.theory.proofs.Lists.{and-l, and-of, and-r, eqb-eq}
+use Rattle.theory.proofs.Lists.{and-l, and-of, and-r, eqb-eq, le-leb, le-or-lt, leb-le, unless}
 use Rattle.blocks.specs.Words.{word, words, wordAt, wordsIn}
-use Rattle.blocks.specs.Places.{Place, placeBytes, placeAt}
+use Rattle.blocks.specs.Places.{countByte, Place, placeBytes, placeAt}
 use Rattle.blocks.specs.Files.{placesBytes}
 use Rattle.blocks.specs.Questions.{placesFrom}
 
@@ -113,10 +114,34 @@ write-words (suc n) (x ∷ y ∷ bs) l a =
     let s : 2 * suc n ≡ suc (suc (2 * n)) = omega arith in
     rw s (ap₂ _++_ (write-word x y (a .0) (a .1 .0)) (write-words n bs (omega arith) (a .1 .1)))
 
+-- A mark and a count of less than 128 are read from their byte, and a byte is that of what is read from it.
+
+no-mark : (b : ℕ) → b < 128 → leb 128 b ≡ false
+no-mark b l = unless (leb 128 b) (λ t. (let m = leb-le 128 b t in omega arith))
+
+read-mark : (m : Bool) (n : ℕ) → n < 128 → leb 128 (countByte m n) ≡ m
+read-mark true n l = le-leb 128 (128 + n) (omega arith)
+read-mark false n l = no-mark (0 + n) (omega arith)
+
+read-count : (m : Bool) (n : ℕ) → n < 128 → countByte m n % 128 ≡ n
+read-count true n l = omega arith
+read-count false n l = omega arith
+
+count-low : (m : Bool) (n : ℕ) → n < 128 → countByte m n < 256
+count-low true n l = omega arith
+count-low false n l = omega arith
+
+write-count : (b : ℕ) → b < 256 → countByte (leb 128 b) (b % 128) ≡ b
+write-count b l = ⊎-elim
+    (λ (k : 128 ≤ b). ap (λ (m : Bool). countByte m (b % 128)) (le-leb 128 b k) ∙ omega arith)
+    (λ (k : b < 128). ap (λ (m : Bool). countByte m (b % 128)) (no-mark b k) ∙ omega arith)
+    (le-or-lt 128 b)
+
 -- A place: what its bytes hold fits into them.
 pub record Fits (p : Place) : Type 0 where
   pub slot : p .slot < 65536
   pub head : p .head < 65536
+  pub positives : p .positives < 128
   pub count : length (p .entries) ≡ 8
   pub entries : Wide (p .entries)
 
@@ -130,7 +155,9 @@ read-place p bs f =
     let e : wordsIn 8 (words (p .entries) ++ bs) ≡ p .entries =
     ap (λ (n : ℕ). wordsIn n (words (p .entries) ++ bs)) (sym (f .count))
     ∙ read-words (p .entries) bs (f .entries) in
-    λ i. record { slot = s i; head = h i; positives = p .positives; negatives = p .negatives; entries = e i }
+    let m = read-mark (p .muted) (p .positives) (f .positives) in
+    let c = read-count (p .muted) (p .positives) (f .positives) in
+    λ i. record { slot = s i; head = h i; muted = m i; positives = c i; negatives = p .negatives; entries = e i }
 
 pub write-place : (bs : List ℕ) → 22 ≤ length bs → Bytes bs → placeBytes (placeAt bs) ≡ take 22 bs
 write-place [] l w = absurd (omega arith)
@@ -143,7 +170,8 @@ write-place (a ∷ b ∷ c ∷ d ∷ p ∷ n ∷ bs) l w =
     let x = w .1 .1 in
     ap₂ _++_ (write-word a b (w .0) (w .1 .0))
     (ap₂ _++_ (write-word c d (x .0) (x .1 .0))
-    (ap (λ (ys : List ℕ). p ∷ n ∷ ys) (write-words 8 bs (omega arith) (x .1 .1 .1 .1))))
+    (ap₂ (λ (y : ℕ) (ys : List ℕ). y ∷ n ∷ ys) (write-count p (x .1 .1 .0))
+    (write-words 8 bs (omega arith) (x .1 .1 .1 .1))))
 
 -- Places one behind the other.
 
@@ -156,12 +184,13 @@ length-placesBytes (p ∷ ps) a =
     omega (arith, n, length-append (placeBytes p) (placesBytes ps), length-placesBytes ps (a .1))
 
 pub placesBytes-bytes :
-    (ps : List Place) → All (λ p. (p .positives < 256) × (p .negatives < 256)) ps → Bytes (placesBytes ps)
+    (ps : List Place) → All (λ p. (p .positives < 128) × (p .negatives < 256)) ps → Bytes (placesBytes ps)
 unfolding placesBytes
 placesBytes-bytes [] a = tt
 placesBytes-bytes (p ∷ ps) a =
+    let c = count-low (p .muted) (p .positives) (a .0 .0) in
     all-append _ (placeBytes p) (placesBytes ps)
-    (omega arith, (omega arith, (omega arith, (omega arith, (a .0 .0, (a .0 .1, words-bytes (p .entries)))))))
+    (omega arith, (omega arith, (omega arith, (omega arith, (c, (a .0 .1, words-bytes (p .entries)))))))
     (placesBytes-bytes ps (a .1))
 
 pub read-places : (ps : List Place) (bs : List ℕ) → All Fits ps → placesFrom (length ps) (placesBytes ps ++ bs) ≡ ps

@@ -11,7 +11,7 @@ use lib.ListN.{length, getD, take, drop, set, length-set, length-take}
 use lib.Seq.{drop-drop, drop-set-add, getD-drop, getD-set-other, getD-set-same, getD-take, take-set-le, take-set-lt}
 use Rattle.theory.specs.Lists.{every}
 use Rattle.theory.specs.Limits.{document, Limits}
-use Rattle.theory.specs.Rules.{Program}
+use Rattle.theory.specs.Rules.{Pages}
 use Rattle.theory.specs.Labels.{Label}
 use Rattle.theory.specs.Questions.{first-no}
 use Rattle.theory.specs.Sound.{SoundLabels}
@@ -164,10 +164,10 @@ module _ (bs : List ℕ) (h : whole bs ≡ true) (t : every summed (blocks bs) �
 
 -- A saved file with any one byte changed is refused: 17.
 pub one-byte-17 :
-    (P : Program) (label : ℕ → Label) → SoundLabels document P label → (i x : ℕ) → i < length (fileOf P) → x < 256
-    → (x ≡ getD (fileOf P) i 0 → ⊥) → first-no (file-questions document (set (fileOf P) i x)) ≡ some 17
-one-byte-17 P label sound =
-    let one = first-no-none _ _ (file-accepted P label sound) in
+    (B : Pages) (label : ℕ → Label) → SoundLabels document B label → (i x : ℕ) → i < length (fileOf B) → x < 256
+    → (x ≡ getD (fileOf B) i 0 → ⊥) → first-no (file-questions document (set (fileOf B) i x)) ≡ some 17
+one-byte-17 B label sound =
+    let one = first-no-none _ _ (file-accepted B label sound) in
     let two = first-no-none _ _ (one .1) in
-    changed-refused (fileOf P) (one .0) (two .0)
-    (every-all _ (λ b. ltb b 256) (λ b t. ltb-lt b 256 t) (fileOf P) (file-bytes P (sound .passes))) document
+    changed-refused (fileOf B) (one .0) (two .0)
+    (every-all _ (λ b. ltb b 256) (λ b t. ltb-lt b 256 t) (fileOf B) (file-bytes B (sound .passes))) document

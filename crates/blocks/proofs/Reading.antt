@@ -65,7 +65,8 @@ pub placeAt-same :
 placeAt-same xs ys f = λ i. record {
   slot = f 0 (omega arith) i + 256 * f 1 (omega arith) i;
   head = f 2 (omega arith) i + 256 * f 3 (omega arith) i;
-  positives = f 4 (omega arith) i;
+  muted = leb 128 (f 4 (omega arith) i);
+  positives = f 4 (omega arith) i % 128;
   negatives = f 5 (omega arith) i;
   entries = wordsIn-same 8 (drop 6 xs) (drop 6 ys)
       (λ k l. getD-drop 6 xs k 0 ∙ f (6 + k) (omega arith) ∙ sym (getD-drop 6 ys k 0)) i;

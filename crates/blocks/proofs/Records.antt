@@ -1,4 +1,4 @@
--- The records of a sound program pass question 19. Assumes nothing.
+-- The records of sound pages pass question 19. Assumes nothing.
 use Prim.Native.Nat.{ℕ, zero, suc, _+_, _-_, _≤_, _<_}
 use native.Mathlib.Omega.{arith}
 use mathlib.Core.Path.{_≡_, refl, sym, _∙_, ap, subst}
@@ -7,16 +7,17 @@ use mathlib.Core.List.{List, [], _∷_, map, List·Memᴰ·head, List·Memᴰ·c
 use mathlib.Core.Logic.{_↔_, ⊎-elim}
 use mathlib.Core.Option.{Option, none, some, Option·none-ne-some, Option·some-injective}
 use lib.Dec.{leb, ltb}
-use lib.ListN.{length, replicate, length-append}
+use lib.ListN.{getD, length, replicate, length-append}
 use Rattle.theory.specs.Lists.{_∈_, any, Sorted}
 use Rattle.theory.specs.Limits.{Limits}
-use Rattle.theory.specs.Rules.{Ascending, entries, Held, Program, Rule, same}
+use Rattle.theory.specs.Rules.{all, Ascending, entries, Held, Page, Pages, Program, Rule, same}
 use Rattle.theory.specs.Labels.{Label}
 use Rattle.theory.specs.Questions.{first-no, is-some, rule-questions, rules, stratified}
 use Rattle.theory.specs.Sound.{SoundLabels}
 use Rattle.theory.proofs.Lists.{and-l, and-r, and-of, any-at, any-of, clash, false-not, not-true, le-leb, leb-le}
 use Rattle.theory.proofs.Lists.{lt-ltb, ltb-lt, unless}
 use Rattle.theory.proofs.Rules.{rules-at, rules-of}
+use Rattle.theory.proofs.Pages.{all-length, held-page}
 use Rattle.theory.proofs.Sameness.{same-refl}
 use Rattle.theory.proofs.Questions.{first-no-none, held-below}
 use Rattle.theory.proofs.Cycles.{stratified-iff}
@@ -26,40 +27,44 @@ use Rattle.blocks.proofs.Bytes.{All, all-append, all-every, all-replica
 use Rattle.blocks.proofs.Written.{length-padded, padded-rest}
 use Rattle.blocks.proofs.Pages.{pages-records, rule-in}
 
--- What holds of the record of each held rule holds of every record.
+-- What holds of the record of each page with a rule holds of every record.
 
-later : (F : Place → Type 0) (s t : ℕ) (r : Rule) → F (recorded (s + suc t) r) → F (recorded (suc s + t) r)
-later F s t r f = (let e : s + suc t ≡ suc s + t = omega arith in subst (λ (z : ℕ). F (recorded z r)) e f)
+later : (F : Place → Type 0) (s t : ℕ) (p : Page) → F (recorded (s + suc t) p) → F (recorded (suc s + t) p)
+later F s t p f = (let e : s + suc t ≡ suc s + t = omega arith in subst (λ (z : ℕ). F (recorded z p)) e f)
 
 pub records-all :
-    (F : Place → Type 0) (s : ℕ) (P : Program) → ((t : ℕ) (r : Rule) → Held P t r → F (recorded (s + t) r))
-    → All F (recordsFrom s P)
+    (F : Place → Type 0) (s : ℕ) (B : Pages)
+    → ((t : ℕ) (p : Page) → getD B t none ≡ some p → F (recorded (s + t) p)) → All F (recordsFrom s B)
 unfolding recordsFrom
 records-all F s [] f = tt
-records-all F s (none ∷ P) f = records-all F (suc s) P (λ t r h. later F s t r (f (suc t) r h))
-records-all F s (some q ∷ P) f = (
+records-all F s (none ∷ B) f = records-all F (suc s) B (λ t p h. later F s t p (f (suc t) p h))
+records-all F s (some q ∷ B) f = (
   (let e : s + 0 ≡ s = omega arith in subst (λ (z : ℕ). F (recorded z q)) e (f 0 q refl)),
-  records-all F (suc s) P (λ t r h. later F s t r (f (suc t) r h)),
+  records-all F (suc s) B (λ t p h. later F s t p (f (suc t) p h)),
 )
 
-pub length-records : (s : ℕ) (P : Program) → length (recordsFrom s P) ≤ length P
+-- A page with a rule is one of the pages.
+pub page-below : (B : Pages) (t : ℕ) (p : Page) → getD B t none ≡ some p → t < length B
+page-below B t p h = omega (arith, held-below (all B) t (p .rule) (held-page B t p h), all-length B)
+
+pub length-records : (s : ℕ) (B : Pages) → length (recordsFrom s B) ≤ length B
 unfolding recordsFrom
 length-records s [] = omega arith
-length-records s (none ∷ P) = omega (arith, length-records (suc s) P)
-length-records s (some r ∷ P) = omega (arith, length-records (suc s) P)
+length-records s (none ∷ B) = omega (arith, length-records (suc s) B)
+length-records s (some p ∷ B) = omega (arith, length-records (suc s) B)
 
-records-ascend : (least s : ℕ) (P : Program) → least ≤ s → ascends least (map (λ p. p .slot) (recordsFrom s P)) ≡ true
+records-ascend : (least s : ℕ) (B : Pages) → least ≤ s → ascends least (map (λ p. p .slot) (recordsFrom s B)) ≡ true
 unfolding recordsFrom ascends
 records-ascend least s [] l = refl
-records-ascend least s (none ∷ P) l = records-ascend least (suc s) P (omega arith)
-records-ascend least s (some r ∷ P) l =
-    and-of _ _ (le-leb least s l) (records-ascend (suc s) (suc s) P (omega arith))
+records-ascend least s (none ∷ B) l = records-ascend least (suc s) B (omega arith)
+records-ascend least s (some p ∷ B) l =
+    and-of _ _ (le-leb least s l) (records-ascend (suc s) (suc s) B (omega arith))
 
-pub records-rules : (s : ℕ) (P : Program) → map ruleIn (recordsFrom s P) ≡ rules P
+pub records-rules : (s : ℕ) (B : Pages) → map ruleIn (recordsFrom s B) ≡ rules (all B)
 unfolding recordsFrom rules
 records-rules s [] = refl
-records-rules s (none ∷ P) = records-rules (suc s) P
-records-rules s (some r ∷ P) = λ i. rule-in s r i ∷ records-rules (suc s) P i
+records-rules s (none ∷ B) = records-rules (suc s) B
+records-rules s (some p ∷ B) = λ i. rule-in s p i ∷ records-rules (suc s) B i
 
 -- A rule that is held again behind the first page is the same as the first.
 held-again :
@@ -134,26 +139,32 @@ module _ (limits : Limits) (few : limits .entries ≤ 8) where
         few,
       )
 
-  pub recorded-eight : (s : ℕ) (r : Rule) → first-no (rule-questions limits r) ≡ none
-      → length (recorded s r .entries) ≡ 8
-  recorded-eight s r e = length-padded 8 (entries r) (few-entries r e)
+  -- A page whose rule passes 1 to 4, recorded: it has eight entries, its counts and all else fit into their bytes.
+  pub recorded-eight : (s : ℕ) (p : Page) → first-no (rule-questions limits (p .rule)) ≡ none
+      → length (recorded s p .entries) ≡ 8
+  recorded-eight s p e = length-padded 8 (entries (p .rule)) (few-entries (p .rule) e)
 
   pub recorded-counts :
-      (s : ℕ) (r : Rule) → first-no (rule-questions limits r) ≡ none
-      → (recorded s r .positives < 256) × (recorded s r .negatives < 256)
-  recorded-counts s r e = (let n = few-entries r e in omega (arith, n, length-append (r .positives) (r .negatives)))
+      (s : ℕ) (p : Page) → first-no (rule-questions limits (p .rule)) ≡ none
+      → (recorded s p .positives < 128) × (recorded s p .negatives < 256)
+  recorded-counts s p e =
+      let r = p .rule in
+      let n = few-entries r e in
+      omega (arith, n, length-append (r .positives) (r .negatives))
 
   pub recorded-fits :
-      (s : ℕ) (r : Rule) → limits .atoms ≤ 65536 → s < 65536 → first-no (rule-questions limits r) ≡ none
-      → Fits (recorded s r)
-  recorded-fits s r a l e =
+      (s : ℕ) (p : Page) → limits .atoms ≤ 65536 → s < 65536 → first-no (rule-questions limits (p .rule)) ≡ none
+      → Fits (recorded s p)
+  recorded-fits s p a l e =
+      let r = p .rule in
       let one = first-no-none _ _ e in
       let two = first-no-none _ _ (one .1) in
       let three = first-no-none _ _ (two .1) in
       record {
         slot = l;
         head = omega (arith, ltb-lt (r .head) (limits .atoms) (one .0), a);
-        count = recorded-eight s r e;
+        positives = recorded-counts s p e .0;
+        count = recorded-eight s p e;
         entries = all-append _ (entries r) (replicate (8 - length (entries r)) 0)
             (every-all (λ x. x < 65536) (λ x. ltb x (limits .atoms))
             (λ x t. omega (arith, ltb-lt x (limits .atoms) t, a)) (entries r) (three .0))
@@ -161,9 +172,11 @@ module _ (limits : Limits) (few : limits .entries ≤ 8) where
       }
 
   recorded-right :
-      (s : ℕ) (r : Rule) → first-no (rule-questions limits r) ≡ none → Ascending r → right limits (recorded s r) ≡ true
+      (s : ℕ) (p : Page) → first-no (rule-questions limits (p .rule)) ≡ none → Ascending (p .rule)
+      → right limits (recorded s p) ≡ true
   unfolding right
-  recorded-right s r e a =
+  recorded-right s p e a =
+      let r = p .rule in
       let one = first-no-none _ _ e in
       let two = first-no-none _ _ (one .1) in
       and-of _ _ (two .0)
@@ -171,28 +184,30 @@ module _ (limits : Limits) (few : limits .entries ≤ 8) where
       (padded-rest 8 (length (r .positives) + length (r .negatives)) (entries r)
       (length-append (r .positives) (r .negatives)))
       (ap (λ (q : Rule). not (is-some (first-no (rule-questions limits q)))
-      && (ascends 0 (q .positives) && ascends 0 (q .negatives))) (rule-in s r)
+      && (ascends 0 (q .positives) && ascends 0 (q .negatives))) (rule-in s p)
       ∙ and-of _ _ (ap (λ (o : Option ℕ). not (is-some o)) e)
       (and-of _ _
       (ascends-sorted (r .positives) .1 (a .positives))
       (ascends-sorted (r .negatives) .1 (a .negatives)))))
 
-  module _ (P : Program) (label : ℕ → Label) (sound : SoundLabels limits P label) where
-    pub pages-sound : pagesWith limits (records P) ≡ P
+  module _ (B : Pages) (label : ℕ → Label) (sound : SoundLabels limits B label) where
+    pub pages-sound : pagesWith limits (records B) ≡ B
     pages-sound =
-        ap (λ (n : ℕ). recordedOn limits (replicate n none) (records P)) (sym (sound .slots))
-        ∙ pages-records limits [] P
+        ap (λ (n : ℕ). recordedOn limits (replicate n none) (records B)) (sym (sound .slots))
+        ∙ pages-records limits [] B
 
-    pub records-right : recordsRight limits (records P) ≡ true
+    pub records-right : recordsRight limits (records B) ≡ true
     unfolding recordsRight
     records-right =
-        and-of _ _ (records-ascend 0 0 P (omega arith))
+        and-of _ _ (records-ascend 0 0 B (omega arith))
         (and-of _ _
-        (all-every (λ p. p .slot < limits .slots) (λ p. ltb (p .slot) (limits .slots)) (λ p l. lt-ltb _ _ l) (records P)
-        (records-all _ 0 P (λ t r h. omega (arith, held-below P t r h, sound .slots))))
+        (all-every (λ p. p .slot < limits .slots) (λ p. ltb (p .slot) (limits .slots)) (λ p l. lt-ltb _ _ l) (records B)
+        (records-all _ 0 B (λ t p h. omega (arith, page-below B t p h, sound .slots))))
         (and-of _ _
-        (all-every (λ p. right limits p ≡ true) (right limits) (λ p e. e) (records P)
-        (records-all _ 0 P (λ t r h. recorded-right (0 + t) r (sound .passes t r h) (sound .ascending t r h))))
+        (all-every (λ p. right limits p ≡ true) (right limits) (λ p e. e) (records B)
+        (records-all _ 0 B (λ t p h. (
+        let i = held-page B t p h in
+        recorded-right (0 + t) p (sound .passes t (p .rule) i) (sound .ascending t (p .rule) i)))))
         (and-of _ _
-        (ap distinctRules (records-rules 0 P) ∙ distinct-rules P (sound .single))
-        (ap stratified pages-sound ∙ stratified-iff P .1 (sound .acyclic)))))
+        (ap distinctRules (records-rules 0 B) ∙ distinct-rules (all B) (sound .single))
+        (ap (λ (Q : Pages). stratified (all Q)) pages-sound ∙ stratified-iff (all B) .1 (sound .acyclic)))))

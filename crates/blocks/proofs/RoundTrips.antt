@@ -6,18 +6,19 @@ use mathlib.Core.Path.{_≡_, refl, sym, _∙_, ap, subst}
 use mathlib.Core.Logic.{_⊎_, inl, inr, ⊎-elim}
 use mathlib.Core.Bool.{true}
 use mathlib.Core.List.{List, [], map}
-use mathlib.Core.Option.{none}
+use mathlib.Core.Option.{none, some}
 use lib.Dec.{eqb, leb, ltb}
-use lib.ListN.{length, drop}
+use lib.ListN.{getD, length, drop}
 use Rattle.theory.specs.Lists.{every}
 use Rattle.theory.specs.Limits.{document, Limits}
-use Rattle.theory.specs.Rules.{Held, Program, Rule}
+use Rattle.theory.specs.Rules.{all, Held, Page, Pages, Rule}
 use Rattle.theory.specs.Labels.{Label}
 use Rattle.theory.specs.Questions.{first-no, rule-questions}
 use Rattle.theory.specs.Sound.{SoundLabels}
 use Rattle.theory.proofs.Lists.{and-l, and-of, and-r, eqb-of, leb-le, le-leb, le-or-lt, lt-ltb, ltb-lt}
-use Rattle.theory.proofs.Questions.{first-no-none, first-no-yes, held-below}
-use Rattle.blocks.specs.Places.{Place, recorded, records, recordsFrom, ruleIn}
+use Rattle.theory.proofs.Pages.{held-page}
+use Rattle.theory.proofs.Questions.{first-no-none, first-no-yes}
+use Rattle.blocks.specs.Places.{pageIn, Place, recorded, records, recordsFrom}
 use Rattle.blocks.specs.Files.{BLOCK, blocksFor, blocksFrom, fileOf, fileWith}
 use Rattle.blocks.specs.Questions.{ascends, blockCount, blocks, blocksIn, file-questions, filled, pagesOf}
 use Rattle.blocks.specs.Questions.{pagesWith, placesOf, recordsRight, right, whole}
@@ -26,8 +27,8 @@ use Rattle.blocks.proofs.Reading.{places-blocks, whole-parts}
 use Rattle.blocks.proofs.Sequences.{blocks-back, blocks-bytes, blocks-pass, Eight, length-blocks, Passes}
 use Rattle.blocks.proofs.Sequences.{places-eight}
 use Rattle.blocks.proofs.Pages.{recorded-back, records-pages}
-use Rattle.blocks.proofs.Records.{length-records, pages-sound, recorded-counts, recorded-eight, recorded-fits}
-use Rattle.blocks.proofs.Records.{records-all, records-right}
+use Rattle.blocks.proofs.Records.{length-records, page-below, pages-sound, recorded-counts, recorded-eight}
+use Rattle.blocks.proofs.Records.{recorded-fits, records-all, records-right}
 
 -- So many blocks: the records have room in them, and none is empty but the only one.
 
@@ -43,7 +44,7 @@ blocks-used n = ⊎-elim
 module _ (limits : Limits) (few : limits .entries ≤ 8) where
   -- A record that passes 19 is recorded as it was read.
   place-back :
-      (p : Place) → Eight p → right limits p ≡ true → recorded (p .slot) (ruleIn p) ≡ p
+      (p : Place) → Eight p → right limits p ≡ true → recorded (p .slot) (pageIn p) ≡ p
   unfolding right
   place-back p eight t =
       let c = leb (p .positives + p .negatives) (limits .entries) in
@@ -51,67 +52,72 @@ module _ (limits : Limits) (few : limits .entries ≤ 8) where
       let l = leb-le (p .positives + p .negatives) (limits .entries) (and-l c _ t) in
       recorded-back p eight (omega arith) (and-l z _ (and-r c _ t))
 
-  module _ (P : Program) (passes : (s : ℕ) (r : Rule) → Held P s r → first-no (rule-questions limits r) ≡ none) where
-    length-file : length (fileOf P) ≡ 512 * blocksFor (length (records P))
-    unfolding fileOf
-    length-file =
-        let n = blocksFor (length (records P)) in
-        length-blocks n n 0 (records P)
-        (records-all Eight 0 P (λ t r h. recorded-eight limits few (0 + t) r (passes t r h)))
-
-    bytes-file : Bytes (fileOf P)
-    unfolding fileOf
-    bytes-file =
-        let n = blocksFor (length (records P)) in
-        blocks-bytes n n 0 (records P)
-        (records-all _ 0 P (λ t r h. recorded-counts limits few (0 + t) r (passes t r h)))
-
-    count-file : blockCount (fileOf P) ≡ blocksFor (length (records P))
-    count-file = omega (arith, length-file)
-
-    file-passes :
-        limits .atoms ≤ 65536 → length P ≤ 65536
-        → Passes (blockCount (fileOf P)) 0 (blocks (fileOf P)) (records P)
-    unfolding fileOf
-    file-passes atoms slots =
-        let ps = records P in
-        let n = blocksFor (length ps) in
-        let l = length-records 0 P in
-        let fits : All Fits ps = records-all Fits 0 P (λ t r h. recorded-fits limits few (0 + t) r atoms
-        (omega (arith, held-below P t r h)) (passes t r h)) in
-        subst (λ (m : ℕ). Passes m 0 (blocksIn m (fileOf P)) ps) (sym count-file)
-        (blocks-pass n n 0 ps fits (omega arith) (omega arith) (blocks-room (length ps)) (blocks-used (length ps)))
-
-  -- A sound program, and limits that the format has room for.
   module _
-      (atoms : limits .atoms ≤ 65536) (slots : limits .slots ≤ 264) (P : Program) (label : ℕ → Label)
-      (sound : SoundLabels limits P label)
+      (B : Pages) (passes : (s : ℕ) (r : Rule) → Held (all B) s r → first-no (rule-questions limits r) ≡ none)
     where
-      whole-file : whole (fileOf P) ≡ true
+      page-passes : (s : ℕ) (p : Page) → getD B s none ≡ some p → first-no (rule-questions limits (p .rule)) ≡ none
+      page-passes s p h = passes s (p .rule) (held-page B s p h)
+
+      length-file : length (fileOf B) ≡ 512 * blocksFor (length (records B))
+      unfolding fileOf
+      length-file =
+          let n = blocksFor (length (records B)) in
+          length-blocks n n 0 (records B)
+          (records-all Eight 0 B (λ t p h. recorded-eight limits few (0 + t) p (page-passes t p h)))
+
+      bytes-file : Bytes (fileOf B)
+      unfolding fileOf
+      bytes-file =
+          let n = blocksFor (length (records B)) in
+          blocks-bytes n n 0 (records B)
+          (records-all _ 0 B (λ t p h. recorded-counts limits few (0 + t) p (page-passes t p h)))
+
+      count-file : blockCount (fileOf B) ≡ blocksFor (length (records B))
+      count-file = omega (arith, length-file)
+
+      file-passes :
+          limits .atoms ≤ 65536 → length B ≤ 65536
+          → Passes (blockCount (fileOf B)) 0 (blocks (fileOf B)) (records B)
+      unfolding fileOf
+      file-passes atoms slots =
+          let ps = records B in
+          let n = blocksFor (length ps) in
+          let l = length-records 0 B in
+          let fits : All Fits ps = records-all Fits 0 B (λ t p h. recorded-fits limits few (0 + t) p atoms
+          (omega (arith, page-below B t p h)) (page-passes t p h)) in
+          subst (λ (m : ℕ). Passes m 0 (blocksIn m (fileOf B)) ps) (sym count-file)
+          (blocks-pass n n 0 ps fits (omega arith) (omega arith) (blocks-room (length ps)) (blocks-used (length ps)))
+
+  -- Sound pages, and limits that the format has room for.
+  module _
+      (atoms : limits .atoms ≤ 65536) (slots : limits .slots ≤ 264) (B : Pages) (label : ℕ → Label)
+      (sound : SoundLabels limits B label)
+    where
+      whole-file : whole (fileOf B) ≡ true
       unfolding whole
       whole-file =
-          let n = length-file P (sound .passes) in
-          let m = count-file P (sound .passes) in
-          let l = length-records 0 P in
-          and-of _ _ (eqb-of (length (fileOf P) % 512) 0 (omega (arith, n)))
+          let n = length-file B (sound .passes) in
+          let m = count-file B (sound .passes) in
+          let l = length-records 0 B in
+          and-of _ _ (eqb-of (length (fileOf B) % 512) 0 (omega (arith, n)))
           (and-of _ _
-          (le-leb 1 (blockCount (fileOf P)) (omega (arith, m)))
-          (le-leb (blockCount (fileOf P)) 12 (omega (arith, m, l, sound .slots))))
+          (le-leb 1 (blockCount (fileOf B)) (omega (arith, m)))
+          (le-leb (blockCount (fileOf B)) 12 (omega (arith, m, l, sound .slots))))
 
-      accepted-file : first-no (file-questions limits (fileOf P)) ≡ none
+      accepted-file : first-no (file-questions limits (fileOf B)) ≡ none
       accepted-file =
-          let p = file-passes P (sound .passes) atoms (omega (arith, sound .slots)) in
+          let p = file-passes B (sound .passes) atoms (omega (arith, sound .slots)) in
           first-no-yes _ _ whole-file
           ∙ first-no-yes _ _ (p .sums)
           ∙ first-no-yes _ _ (p .numbers)
           ∙ first-no-yes _ _ (and-of _ _ (p .filler)
-          (ap (recordsRight limits) (p .places) ∙ records-right limits few P label sound))
+          (ap (recordsRight limits) (p .places) ∙ records-right limits few B label sound))
           ∙ (unfold first-no in refl)
 
-      pages-of-file : pagesOf limits (fileOf P) ≡ P
+      pages-of-file : pagesOf limits (fileOf B) ≡ B
       pages-of-file =
-          let p = file-passes P (sound .passes) atoms (omega (arith, sound .slots)) in
-          ap (pagesWith limits) (p .places) ∙ pages-sound limits few P label sound
+          let p = file-passes B (sound .passes) atoms (omega (arith, sound .slots)) in
+          ap (pagesWith limits) (p .places) ∙ pages-sound limits few B label sound
 
   -- Records whose slots ascend below the limit and that are right one by one are those of their pages.
   pub records-of-pages :
@@ -156,23 +162,25 @@ module _ (limits : Limits) (few : limits .entries ≤ 8) where
 
 -- With the document's limits.
 
-module _ (P : Program) (passes : (s : ℕ) (r : Rule) → Held P s r → first-no (rule-questions document r) ≡ none) where
-  pub file-length : length (fileOf P) ≡ BLOCK * blocksFor (length (records P))
-  file-length = length-file document (omega arith) P passes
+module _
+    (B : Pages) (passes : (s : ℕ) (r : Rule) → Held (all B) s r → first-no (rule-questions document r) ≡ none)
+  where
+    pub file-length : length (fileOf B) ≡ BLOCK * blocksFor (length (records B))
+    file-length = length-file document (omega arith) B passes
 
-  pub file-bytes : every (λ b. ltb b 256) (fileOf P) ≡ true
-  file-bytes =
-      all-every (λ b. b < 256) (λ b. ltb b 256) (λ b l. lt-ltb b 256 l) (fileOf P)
-      (bytes-file document (omega arith) P passes)
+    pub file-bytes : every (λ b. ltb b 256) (fileOf B) ≡ true
+    file-bytes =
+        all-every (λ b. b < 256) (λ b. ltb b 256) (λ b l. lt-ltb b 256 l) (fileOf B)
+        (bytes-file document (omega arith) B passes)
 
-module _ (P : Program) (label : ℕ → Label) (sound : SoundLabels document P label) where
+module _ (B : Pages) (label : ℕ → Label) (sound : SoundLabels document B label) where
   -- The file of a sound table is accepted.
-  pub file-accepted : first-no (file-questions document (fileOf P)) ≡ none
-  file-accepted = accepted-file document (omega arith) (omega arith) (omega arith) P label sound
+  pub file-accepted : first-no (file-questions document (fileOf B)) ≡ none
+  file-accepted = accepted-file document (omega arith) (omega arith) (omega arith) B label sound
 
   -- Reading it gives the same table.
-  pub file-pages : pagesOf document (fileOf P) ≡ P
-  file-pages = pages-of-file document (omega arith) (omega arith) (omega arith) P label sound
+  pub file-pages : pagesOf document (fileOf B) ≡ B
+  file-pages = pages-of-file document (omega arith) (omega arith) (omega arith) B label sound
 
 -- Each accepted file is, byte for byte, the one that its table writes.
 pub pages-file :

@@ -60,7 +60,7 @@ module _ (n : ℕ) where
       omega (arith, m, r, length-append b (blocksFrom k (suc index) n (drop 22 ps)))
 
   pub blocks-bytes :
-      (k index : ℕ) (ps : List Place) → All (λ p. (p .positives < 256) × (p .negatives < 256)) ps
+      (k index : ℕ) (ps : List Place) → All (λ p. (p .positives < 128) × (p .negatives < 256)) ps
       → Bytes (blocksFrom k index n ps)
   unfolding blocksFrom
   blocks-bytes zero index ps a = tt

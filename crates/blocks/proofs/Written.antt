@@ -83,7 +83,7 @@ module _ (index n : ℕ) (ps : List Place) where
       ∙ ap (placesFrom (length ps)) (append-assoc (placesBytes ps) rest ends) ∙ read-places ps (rest ++ ends) fit
 
   pub block-bytes :
-      All (λ p. (p .positives < 256) × (p .negatives < 256)) ps → Bytes (blockOf index n ps)
+      All (λ p. (p .positives < 128) × (p .negatives < 256)) ps → Bytes (blockOf index n ps)
   unfolding words
   block-bytes a =
       let body = bodyOf index n ps in

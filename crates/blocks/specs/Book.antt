@@ -3,7 +3,7 @@
 use Prim.Native.Nat.{ℕ}
 use mathlib.Core.List.{List}
 use mathlib.Core.Option.{none, some}
-use Rattle.theory.specs.Rules.{Program}
+use Rattle.theory.specs.Rules.{Pages}
 use Rattle.theory.specs.Limits.{Limits}
 use Rattle.theory.specs.Questions.{first-no}
 use Rattle.theory.specs.Book.{Answer, refused, accepted, empty}
@@ -13,6 +13,6 @@ module _ (limits : Limits) where
   unfoldable pub loadAnswer : List ℕ → Answer
   loadAnswer bytes = elim (first-no (file-questions limits bytes)) [ none ↦ accepted | some k ↦ refused k ]
 
-  unfoldable pub loadPages : List ℕ → Program
+  unfoldable pub loadPages : List ℕ → Pages
   loadPages bytes = elim
       (first-no (file-questions limits bytes)) [ none ↦ pagesOf limits bytes | some k ↦ empty limits ]

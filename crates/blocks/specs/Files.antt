@@ -1,8 +1,8 @@
--- The file of a program: its rules as blocks of 512 bytes. Assumes nothing.
+-- The file of the pages of a book: their rules and marks as blocks of 512 bytes. Assumes nothing.
 use Prim.Native.Nat.{ℕ, zero, suc, max, _+_, _/_}
 use mathlib.Core.List.{List, [], _∷_, _++_}
 use lib.ListN.{length, take, drop}
-use Rattle.theory.specs.Rules.{Program}
+use Rattle.theory.specs.Rules.{Pages}
 use Rattle.blocks.specs.Words.{word, padded}
 use Rattle.blocks.specs.Sums.{sumA, sumB}
 use Rattle.blocks.specs.Places.{Place, placeBytes, records}
@@ -54,9 +54,9 @@ blocksFrom (suc k) index blocks ps =
 abbrev pub blocksFor : ℕ → ℕ
 blocksFor n = max 1 ((n + 21) / PLACES)
 
--- The file of some records, and of a program.
+-- The file of some records, and of the pages of a book.
 abbrev pub fileWith : List Place → List ℕ
 fileWith ps = blocksFrom (blocksFor (length ps)) 0 (blocksFor (length ps)) ps
 
-unfoldable pub fileOf : Program → List ℕ
-fileOf P = fileWith (records P)
+unfoldable pub fileOf : Pages → List ℕ
+fileOf B = fileWith (records B)

@@ -8,12 +8,12 @@ use lib.Dec.{eqb, leb, ltb}
 use lib.ListN.{length, take, drop, set}
 use Rattle.theory.specs.Lists.{every, any}
 use Rattle.theory.specs.Limits.{Limits}
-use Rattle.theory.specs.Rules.{Rule, Program, same}
+use Rattle.theory.specs.Rules.{Rule, Pages, all, same}
 use Rattle.theory.specs.Questions.{Question, asks, first-no, is-some, rule-questions, stratified}
 use Rattle.theory.specs.Book.{empty}
 use Rattle.blocks.specs.Words.{wordAt}
 use Rattle.blocks.specs.Sums.{sumA, sumB}
-use Rattle.blocks.specs.Places.{Place, placeAt, ruleIn}
+use Rattle.blocks.specs.Places.{Place, placeAt, ruleIn, pageIn}
 use Rattle.blocks.specs.Files.{BLOCK, BODY, HEADER, PLACES, PLACE, BLOCKS}
 
 -- How many blocks some bytes are, and these blocks.
@@ -81,19 +81,20 @@ module _ (limits : Limits) where
       && (ascends 0 (ruleIn p .positives) && ascends 0 (ruleIn p .negatives))))
 
   -- Pages with each record on the page of its slot.
-  unfoldable pub recordedOn : Program → List Place → Program
-  recordedOn P [] = P
-  recordedOn P (p ∷ ps) = recordedOn (set P (p .slot) (some (ruleIn p))) ps
+  unfoldable pub recordedOn : Pages → List Place → Pages
+  recordedOn B [] = B
+  recordedOn B (p ∷ ps) = recordedOn (set B (p .slot) (some (pageIn p))) ps
 
-  abbrev pub pagesWith : List Place → Program
+  abbrev pub pagesWith : List Place → Pages
   pagesWith ps = recordedOn (empty limits) ps
 
-  -- 19, of the records: Do their slots ascend below 256, is each right by itself, and do they pass 5 and 7?
+  -- 19, of the records: Do their slots ascend below 256, is each right by itself, and do they pass 5 and 7, muted
+  -- or not?
   unfoldable pub recordsRight : List Place → Bool
   recordsRight ps =
       ascends 0 (map (λ p. p .slot) ps)
       && (every (λ p. ltb (p .slot) (limits .slots)) ps
-      && (every right ps && (distinctRules (map ruleIn ps) && stratified (pagesWith ps))))
+      && (every right ps && (distinctRules (map ruleIn ps) && stratified (all (pagesWith ps)))))
 
   -- Loading asks 16, 17, 18, 19.
   abbrev pub file-questions : List ℕ → List Question
@@ -105,5 +106,5 @@ module _ (limits : Limits) where
       ∷ []
 
   -- The pages of a file: its records.
-  abbrev pub pagesOf : List ℕ → Program
+  abbrev pub pagesOf : List ℕ → Pages
   pagesOf bs = pagesWith (placesOf (blocks bs))

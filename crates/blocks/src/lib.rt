@@ -21,6 +21,9 @@ pub const PLACES: usize = 22;
 
 pub const PLACE: usize = 22;
 
+// The top bit of the byte of the positive count: the mark of a muted rule (request #108).
+pub const MARK: u8 = 128;
+
 // The bytes of the longest file: 12 blocks.
 pub const LONGEST: usize = 6144;
 

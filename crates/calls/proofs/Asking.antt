@@ -7,18 +7,20 @@ use mathlib.Core.Bool.{Bool, true, false, not}
 use mathlib.Core.List.{List, [], _∷_}
 use mathlib.Core.Option.{none, some, Option·none-ne-some}
 use lib.Dec.{ltb}
-use lib.ListN.{getD, List·getD-map}
-use Rattle.theory.specs.Rules.{Program, Held}
+use lib.ListN.{length, getD, List·getD-map}
+use Rattle.theory.specs.Rules.{Pages, Program, all, rule-on, Held}
+use Rattle.theory.specs.Rules as theory
 use Rattle.theory.specs.Models.{AtomSet}
 use Rattle.theory.specs.Questions.{Question, first-no, asks, atom-questions, slot-questions, is-some}
 use Rattle.theory.specs.Limits.{document}
 use Rattle.theory.proofs.Lists.{test, clash, ltb-lt, lt-ltb, unless, not-true, not-false}
-use Rattle.theory.proofs.Questions.{first-no-yes, first-no-here, first-no-none}
+use Rattle.theory.proofs.Pages.{all-at}
+use Rattle.theory.proofs.Questions.{first-no-yes, first-no-here, first-no-none, held-below}
 use Rattle.table.specs.declared.Atom.{Atom}
 use Rattle.table.specs.declared.Rule.{Rule}
 use Rattle.table.specs.declared.Slot.{Slot}
 use Rattle.table.specs.declared.Table.{Table}
-use Rattle.table.specs.Rules.{ruleOf, slotOf}
+use Rattle.table.specs.Rules.{ruleOf, pageOf, slotOf}
 use Rattle.table.specs.Clean.{freeRule}
 use Rattle.table.specs.Sound.{Sound}
 use Rattle.table.proofs.Programs.{slot-free, slot-held}
@@ -94,40 +96,53 @@ module _ (t : Table) (a : ℕ) (r : Asked) (E : AskEnds t a r) where
 -- Questions 8 and 9, of the slot s, which holds r.
 module _ (t : Table) (s : ℕ) where
   abbrev rule-asked : Question
-  rule-asked = asks 9 (is-some (getD (held t) s none))
+  rule-asked = asks 9 (is-some (getD (all (held t)) s none))
 
-  pub slot-past : document .slots ≤ s → first-no (slot-questions document (held t) s) ≡ some 8
+  pub slot-past : document .slots ≤ s → first-no (slot-questions document (all (held t)) s) ≡ some 8
   slot-past l =
       first-no-here (asks 8 (ltb s (document .slots))) (rule-asked ∷ [])
       (unless _ (λ u. omega (arith, ltb-lt s (document .slots) u)))
 
   module _ (r : Rule) (e : r ≡ getD (t .rules) s freeRule) where
-    slot-is : getD (held t) s none ≡ slotOf r
-    slot-is = List·getD-map slotOf (t .rules) s freeRule ∙ ap slotOf (sym e)
+    pub page-is : getD (held t) s none ≡ pageOf r
+    page-is = List·getD-map pageOf (t .rules) s freeRule ∙ ap pageOf (sym e)
+
+    slot-is : getD (all (held t)) s none ≡ slotOf r
+    slot-is = all-at (held t) s ∙ ap rule-on page-is
 
     module _ (l : s < document .slots) where
-      low-next : first-no (slot-questions document (held t) s) ≡ first-no (rule-asked ∷ [])
+      low-next : first-no (slot-questions document (all (held t)) s) ≡ first-no (rule-asked ∷ [])
       low-next = first-no-yes (asks 8 (ltb s (document .slots))) (rule-asked ∷ []) (lt-ltb s (document .slots) l)
 
-      pub slot-empty : r .state ≡ 0 → first-no (slot-questions document (held t) s) ≡ some 9
+      pub slot-empty : r .state ≡ 0 → first-no (slot-questions document (all (held t)) s) ≡ some 9
       slot-empty z = low-next ∙ first-no-here rule-asked [] (ap is-some (slot-is ∙ slot-free r z))
 
-      pub slot-yes : (r .state ≡ 0 → ⊥) → first-no (slot-questions document (held t) s) ≡ none
+      pub slot-yes : (r .state ≡ 0 → ⊥) → first-no (slot-questions document (all (held t)) s) ≡ none
       unfolding first-no
       slot-yes n = low-next ∙ first-no-yes rule-asked [] (ap is-some (slot-is ∙ slot-held r n))
 
     -- Where both were answered yes, s is a slot, and it holds this rule.
-    module _ (yes : first-no (slot-questions document (held t) s) ≡ none) where
-      pub slot-holds : Held (held t) s (ruleOf r)
+    module _ (yes : first-no (slot-questions document (all (held t)) s) ≡ none) where
+      pub slot-holds : Held (all (held t)) s (ruleOf r)
       slot-holds =
           let w = first-no-none (asks 8 (ltb s (document .slots))) (rule-asked ∷ []) yes in
           let v = first-no-none rule-asked [] (w .1) in
           slot-is ∙ slot-held r (λ z. clash (v .0) (ap is-some (slot-is ∙ slot-free r z)))
 
+-- Questions 8 and 9 are answered yes of a slot that holds a rule.
+pub slot-asked :
+    (P : Program) (s : ℕ) (r : theory.Rule) → length P ≡ document .slots → Held P s r
+    → first-no (slot-questions document P s) ≡ none
+unfolding first-no
+slot-asked P s r e h =
+    first-no-yes (asks 8 (ltb s (document .slots))) (asks 9 (is-some (getD P s none)) ∷ [])
+    (lt-ltb s (document .slots) (omega (arith, held-below P s r h)))
+    ∙ first-no-yes (asks 9 (is-some (getD P s none))) [] (ap is-some h)
+
 -- All three were answered yes of the slot x.
 pub record PassesSlot (t : Table) (s : ℕ) (x : Slot) : Type 0 where
   pub sound : Sound t
-  pub yes : first-no (slot-questions document (held t) s) ≡ none
+  pub yes : first-no (slot-questions document (all (held t)) s) ≡ none
   pub slot : x .0 ≡ s
 
 pub slot-low : (t : Table) (s : ℕ) (x : Slot) → PassesSlot t s x → s < document .slots
@@ -145,8 +160,8 @@ module _ (t : Table) (s : ℕ) (r : AskedSlot) (E : AskSlotEnds t s r) where
   -- One was answered no: so ends a call that starts with these questions.
   module _ (f : Refusal) (e : r ≡ slot.Refused f) where
     pub change-refused :
-        (questions : List Question) (after : Program)
-        → ((k : ℕ) → first-no (slot-questions document (held t) s) ≡ some k → first-no questions ≡ some k)
+        (questions : List Question) (after : Pages)
+        → ((k : ℕ) → first-no (slot-questions document (all (held t)) s) ≡ some k → first-no questions ≡ some k)
         → ChangeEnds questions after t (changed.Refused f) t
     change-refused questions after more = go f (subst (AskSlotEnds t s) e E)
       where

@@ -2,22 +2,19 @@
 use Prim.Native.Nat.{ℕ}
 use native.Mathlib.Omega.{arith}
 use mathlib.Core.Path.{_≡_, refl, sym, _∙_, ap, ap₂, subst, fun-ext}
-use mathlib.Core.Bool.{true, not}
+use mathlib.Core.Bool.{Bool, true, not}
 use mathlib.Core.List.{List, [], _++_, map}
 use mathlib.Core.Option.{none, some, Option·some-injective, Option·none-ne-some}
 use lib.Dec.{eqb}
 use lib.ListN.{length, drop, set}
 use Rattle.theory.specs.Lists.{every}
-use Rattle.theory.specs.Rules.{Program}
+use Rattle.theory.specs.Rules.{Pages, all, active, new-page}
 use Rattle.theory.specs.Rules as theory
 use Rattle.theory.specs.Models.{AtomSet, Admissible}
-use Rattle.theory.specs.Labels.{spoiler}
 use Rattle.theory.specs.Questions.{Question, first-no, add-questions, slot-questions, replace-questions}
 use Rattle.theory.specs.Questions.{atom-questions, reason-questions}
 use Rattle.theory.specs.Limits.{document}
 use Rattle.theory.proofs.Lists.{every-at, not-true, clash, eqb-of}
-use Rattle.theory.proofs.Rules.{held-unique}
-use Rattle.theory.proofs.Strata.{acyclic-strata, rules-below, model-unique}
 use Rattle.theory.proofs.Questions.{first-no-asked}
 use Rattle.theory.proofs.Explanations.{lists-unique, reason-unique}
 use Rattle.table.specs.declared.Table.{Table}
@@ -36,13 +33,13 @@ use Rattle.calls.specs.declared.SpoilerAnswer.the-variants as spoilt
 use Rattle.calls.specs.declared.ListAnswer.{ListAnswer}
 use Rattle.calls.specs.declared.ListAnswer.the-variants as listed
 use Rattle.blocks.specs.Questions.{file-questions}
-use Rattle.calls.specs.Answers.{numberOf, tellLabel, tellSpoiler}
+use Rattle.calls.specs.Answers.{numberOf, tellLabel, tellPage}
 use Rattle.calls.specs.Contracts as contract
-use Rattle.calls.specs.Contracts.{held, AddEnds, ChangeEnds, RemoveEnds, ReplaceEnds, LabelEnds}
+use Rattle.calls.specs.Contracts.{held, AddEnds, ChangeEnds, RemoveEnds, ReplaceEnds, MuteEnds, LabelEnds}
 use Rattle.calls.specs.Contracts.{SpoilerEnds, ListEnds}
 use Rattle.calls.specs.Contracts.{JustificationsEnd, ConsequencesEnd, RepercussionsEnd, ReasonEnds}
 use Rattle.calls.specs.Contracts.{SaveEnds, LoadEnds}
-use Rattle.calls.proofs.OneTable.{table-unique, same-label}
+use Rattle.calls.proofs.OneTable.{one-model, table-unique, same-label}
 use Rattle.calls.proofs.Refusals.{refusalOf, refusal-number}
 
 -- A refusal by questions that do not ask 11 is determined by its number.
@@ -62,10 +59,10 @@ refusal-unique qs t f g d e =
 pub both : (qs : List Question) (k : ℕ) → first-no qs ≡ some k → first-no qs ≡ none → ⊥
 both qs k d e = Option·none-ne-some k (sym e ∙ d)
 
--- The admissible model of a sound table's rules is one set.
-pub same-model : (t : Table) → Sound t → (M N : AtomSet) → Admissible (held t) M → Admissible (held t) N → M ≡ N
-same-model t S M N A B =
-    fun-ext (model-unique (held t) (rules-below (held t)) (acyclic-strata (held t) (S .labels .acyclic)) M N A B)
+-- The admissible model of a sound table's unmuted rules is one set.
+pub same-model :
+    (t : Table) → Sound t → (M N : AtomSet) → Admissible (active (held t)) M → Admissible (active (held t)) N → M ≡ N
+same-model t S M N A B = fun-ext (one-model (held t) (S .labels .acyclic) M N A B)
 
 pub add-determined :
     (t : Table) (r : theory.Rule) (x y : AddAnswer) (u v : Table) → AddEnds t r x u → AddEnds t r y v
@@ -76,43 +73,49 @@ add-determined t r x y u v (contract.unsound n) (contract.refused g S e) = absur
 add-determined t r x y u v (contract.unsound n) (contract.accepted s w S e l Z h U) = absurd (n S)
 add-determined t r x y u v (contract.refused f S d) (contract.unsound n) = absurd (n S)
 add-determined t r x y u v (contract.refused f S d) (contract.refused g T e) =
-    (ap added.Refused (refusal-unique (add-questions document (held t) r) refl f g d e), refl)
+    (ap added.Refused (refusal-unique (add-questions document (all (held t)) r) refl f g d e), refl)
 add-determined t r x y u v (contract.refused f S d) (contract.accepted s w T e l Z h U) = absurd (both _ _ d e)
 add-determined t r x y u v (contract.accepted s w S d l Z h U) (contract.unsound n) = absurd (n S)
 add-determined t r x y u v (contract.accepted s w S d l Z h U) (contract.refused g T e) = absurd (both _ _ e d)
 add-determined t r x y u v (contract.accepted s w S d l Z h U) (contract.accepted q z T e k Y i W) =
     let same : s .0 ≡ q .0 = Option·some-injective _ _ (sym l ∙ k) in
     let slot : s ≡ q = λ i. record { 0 = same i } in
-    let rules = h ∙ ap (λ (n : ℕ). set (held t) n (some (theory.kept r))) same ∙ sym i in
+    let rules = h ∙ ap (λ (n : ℕ). set (held t) n (some (new-page r))) same ∙ sym i in
     (ap added.Taken slot, table-unique w z Z Y U W rules)
 
 -- A call that answers that it was accepted, where its questions do not ask 11.
 change-determined :
-    (qs : List Question) → every (λ k. not (eqb k 11)) (map (λ q. q .number) qs) ≡ true → (P : Program) (t : Table)
-    (x y : ChangeAnswer) (u v : Table) → ChangeEnds qs P t x u → ChangeEnds qs P t y v → (x ≡ y) × (u ≡ v)
-change-determined qs other P t x y u v (contract.unsound n) (contract.unsound m) = (refl, refl)
-change-determined qs other P t x y u v (contract.unsound n) (contract.refused g S e) = absurd (n S)
-change-determined qs other P t x y u v (contract.unsound n) (contract.accepted w S e Z h U) = absurd (n S)
-change-determined qs other P t x y u v (contract.refused f S d) (contract.unsound n) = absurd (n S)
-change-determined qs other P t x y u v (contract.refused f S d) (contract.refused g T e) =
+    (qs : List Question) → every (λ k. not (eqb k 11)) (map (λ q. q .number) qs) ≡ true → (B : Pages) (t : Table)
+    (x y : ChangeAnswer) (u v : Table) → ChangeEnds qs B t x u → ChangeEnds qs B t y v → (x ≡ y) × (u ≡ v)
+change-determined qs other B t x y u v (contract.unsound n) (contract.unsound m) = (refl, refl)
+change-determined qs other B t x y u v (contract.unsound n) (contract.refused g S e) = absurd (n S)
+change-determined qs other B t x y u v (contract.unsound n) (contract.accepted w S e Z h U) = absurd (n S)
+change-determined qs other B t x y u v (contract.refused f S d) (contract.unsound n) = absurd (n S)
+change-determined qs other B t x y u v (contract.refused f S d) (contract.refused g T e) =
     (ap changed.Refused (refusal-unique qs other f g d e), refl)
-change-determined qs other P t x y u v (contract.refused f S d) (contract.accepted w T e Z h U) = absurd (both _ _ d e)
-change-determined qs other P t x y u v (contract.accepted w S d Z h U) (contract.unsound n) = absurd (n S)
-change-determined qs other P t x y u v (contract.accepted w S d Z h U) (contract.refused g T e) = absurd (both _ _ e d)
-change-determined qs other P t x y u v (contract.accepted w S d Z h U) (contract.accepted z T e Y i W) =
+change-determined qs other B t x y u v (contract.refused f S d) (contract.accepted w T e Z h U) = absurd (both _ _ d e)
+change-determined qs other B t x y u v (contract.accepted w S d Z h U) (contract.unsound n) = absurd (n S)
+change-determined qs other B t x y u v (contract.accepted w S d Z h U) (contract.refused g T e) = absurd (both _ _ e d)
+change-determined qs other B t x y u v (contract.accepted w S d Z h U) (contract.accepted z T e Y i W) =
     (refl, table-unique w z Z Y U W (h ∙ sym i))
 
 pub remove-determined :
     (t : Table) (s : ℕ) (x y : ChangeAnswer) (u v : Table) → RemoveEnds t s x u → RemoveEnds t s y v
     → (x ≡ y) × (u ≡ v)
 unfolding every
-remove-determined t s = change-determined (slot-questions document (held t) s) refl _ t
+remove-determined t s = change-determined (slot-questions document (all (held t)) s) refl _ t
 
 pub replace-determined :
     (t : Table) (s : ℕ) (r : theory.Rule) (x y : ChangeAnswer) (u v : Table) → ReplaceEnds t s r x u
     → ReplaceEnds t s r y v → (x ≡ y) × (u ≡ v)
 unfolding every
-replace-determined t s r = change-determined (replace-questions document (held t) s r) refl _ t
+replace-determined t s r = change-determined (replace-questions document (all (held t)) s r) refl _ t
+
+pub mute-determined :
+    (t : Table) (s : ℕ) (m : Bool) (x y : ChangeAnswer) (u v : Table) → MuteEnds t s m x u → MuteEnds t s m y v
+    → (x ≡ y) × (u ≡ v)
+unfolding every
+mute-determined t s m = change-determined (slot-questions document (all (held t)) s) refl _ t
 
 pub label-determined : (t : Table) (a : ℕ) (x y : LabelAnswer) → LabelEnds t a x → LabelEnds t a y → x ≡ y
 unfolding every
@@ -135,19 +138,19 @@ spoiler-determined t s x y (contract.unsound n) (contract.refused g S e) = absur
 spoiler-determined t s x y (contract.unsound n) (contract.accepted M r S e h A) = absurd (n S)
 spoiler-determined t s x y (contract.refused f S d) (contract.unsound n) = absurd (n S)
 spoiler-determined t s x y (contract.refused f S d) (contract.refused g T e) =
-    ap spoilt.Refused (refusal-unique (slot-questions document (held t) s) refl f g d e)
+    ap spoilt.Refused (refusal-unique (slot-questions document (all (held t)) s) refl f g d e)
 spoiler-determined t s x y (contract.refused f S d) (contract.accepted M r T e h A) = absurd (both _ _ d e)
 spoiler-determined t s x y (contract.accepted M r S d h A) (contract.unsound n) = absurd (n S)
 spoiler-determined t s x y (contract.accepted M r S d h A) (contract.refused g T e) = absurd (both _ _ e d)
 spoiler-determined t s x y (contract.accepted M r S d h A) (contract.accepted N q T e i B) =
-    ap tellSpoiler (ap₂ spoiler (same-model t S M N A B) (held-unique (held t) s r q h i))
+    ap₂ tellPage (same-model t S M N A B) (Option·some-injective r q (sym h ∙ i))
 
 -- A call that writes a list, where its questions do not ask 11 and the list is determined by the model.
 module _ (qs : List Question) (other : every (λ k. not (eqb k 11)) (map (λ q. q .number) qs) ≡ true)
     (Is : AtomSet → List ℕ → Type 0) (alone : (M : AtomSet) (xs ys : List ℕ) → Is M xs → Is M ys → xs ≡ ys) where
   same-list :
-      (t : Table) (M N : AtomSet) (xs ys : List ℕ) → Sound t → Admissible (held t) M → Admissible (held t) N → Is M xs
-      → Is N ys → xs ≡ ys
+      (t : Table) (M N : AtomSet) (xs ys : List ℕ) → Sound t → Admissible (active (held t)) M
+      → Admissible (active (held t)) N → Is M xs → Is N ys → xs ≡ ys
   same-list t M N xs ys S A B X Y =
       alone N xs ys (subst (λ (O : AtomSet). Is O xs) (same-model t S M N A B) X) Y
 
@@ -206,7 +209,7 @@ pub reason-determined :
 unfolding every
 reason-determined t a =
     list-determined (reason-questions document a (labelAt (t .labels) a)) refl _
-    (λ M xs ys X Y. reason-unique (held t) M a xs ys X Y) t
+    (λ M xs ys X Y. reason-unique (active (held t)) M a xs ys X Y) t
 
 pub save-determined :
     (t : Table) (b : List ℕ) (x y : ListAnswer) (c d : List ℕ) → SaveEnds t b x c → SaveEnds t b y d

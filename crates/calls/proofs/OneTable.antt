@@ -1,13 +1,16 @@
--- Two sound tables that hold the same rules are equal: the rules determine every field. Assumes nothing.
-use Prim.Native.Nat.{ℕ, zero, suc, _+_, _-_, _≤_, _<_}
+-- Two sound tables that hold the same rules with the same marks are equal: these determine every field. Assumes
+-- nothing.
+use Prim.Native.Nat.{ℕ, zero, suc, min, _+_, _-_, _≤_, _<_}
 use native.Mathlib.Omega.{arith}
-use mathlib.Core.Path.{_≡_, refl, sym, _∙_, ap, ap₂, subst}
-use mathlib.Core.Logic.{_⊎_, inl, inr, ⊎-elim}
-use mathlib.Core.List.{List, [], _∷_, map}
-use mathlib.Core.Option.{Option, none, some}
+use native.Mathlib.Decide.{ℕ-discrete}
+use mathlib.Core.Path.{_≡_, refl, sym, _∙_, ap, subst}
+use mathlib.Core.Logic.{⊎-elim}
+use mathlib.Core.Bool.{true, false}
+use mathlib.Core.List.{List}
+use mathlib.Core.Option.{Option, none, some, Option·some-injective}
 use lib.ListN.{length, getD, take, drop, length-map, List·getD-map, length-drop}
 use lib.Seq.{ext-getD, getD-take, getD-drop, length-take-le}
-use Rattle.theory.specs.Rules.{Program}
+use Rattle.theory.specs.Rules.{Page, Pages, all, active, rule-on}
 use Rattle.theory.specs.Rules as theory
 use Rattle.theory.specs.Models.{AtomSet, Admissible}
 use Rattle.theory.specs.Dependencies.{NegativeCycle}
@@ -15,18 +18,18 @@ use Rattle.theory.specs.Labels.{absent, out, in-at, Labelled}
 use Rattle.theory.specs.Labels as theory-labels
 use Rattle.theory.specs.Limits.{document}
 use Rattle.theory.proofs.Lists.{le-or-lt}
+use Rattle.theory.proofs.Pages.{active-acyclic}
 use Rattle.theory.proofs.Strata.{acyclic-strata, rules-below, model-unique}
 use Rattle.theory.proofs.Labels.{label-unique, label-moves}
 use Rattle.table.specs.declared.Atom.{Atom}
-use Rattle.table.specs.declared.Slot.{Slot}
 use Rattle.table.specs.declared.Rule.{Rule}
 use Rattle.table.specs.declared.Label.{Label}
 use Rattle.table.specs.declared.Table.{Table}
-use Rattle.table.specs.Rules.{numbers, ruleOf, slotOf, programOf, noAtom, pastRule}
+use Rattle.table.specs.Rules.{numbers, ruleOf, page-in, pageOf, noAtom, pastRule}
 use Rattle.table.specs.Labels.{labelOf, labelAt, absentLabel}
-use Rattle.table.specs.Clean.{CleanRule, CleanLabel, freeRule}
+use Rattle.table.specs.Clean.{CleanRule, CleanLabel}
 use Rattle.table.specs.Sound.{Sound}
-use Rattle.table.proofs.Programs.{program-at, slot-free, slot-held, slot-state, label-absent, label-out, label-kept}
+use Rattle.table.proofs.Programs.{book-at, slot-held, label-absent, label-out, label-kept}
 use Rattle.calls.specs.Contracts.{held, Sized}
 
 -- Atoms of equal numbers are equal.
@@ -74,16 +77,27 @@ module _ (r : Rule) (C : CleanRule r) (L : length (r .entries) ≡ document .ent
       ∙ ap (λ (a : Atom). a .0) (getD-take (r .negatives) (drop (r .positives) (r .entries)) i noAtom l
       ∙ getD-drop (r .positives) (r .entries) i noAtom)
 
--- Two clean slots that hold the same are equal.
+-- The state of a slot, as far as its page tells it.
+state-of : Option Page → ℕ
+state-of none = 0
+state-of (some p) = elim (p .muted) [ false ↦ 1 | true ↦ 2 ]
+
+page-state : (n : ℕ) (r : theory.Rule) → state-of (page-in n r) ≡ min n 2
+unfolding state-of
+page-state zero r = refl
+page-state (suc zero) r = refl
+page-state (suc (suc n)) r = omega arith
+
+-- Two clean slots that hold the same, with the same mark, are equal.
 module _ (q r : Rule) (C : CleanRule q) (D : CleanRule r) (L : length (q .entries) ≡ document .entries)
     (K : length (r .entries) ≡ document .entries) where
-  held-equal : ruleOf q ≡ ruleOf r → (q .state ≡ 0 → ⊥) → (r .state ≡ 0 → ⊥) → q ≡ r
-  held-equal e f g =
+  held-equal : ruleOf q ≡ ruleOf r → q .state ≡ r .state → q ≡ r
+  held-equal e same =
       let p : q .positives ≡ r .positives =
       sym (positives-length q C L) ∙ ap (λ (x : theory.Rule). length (x .positives)) e ∙ positives-length r D K in
       let n : q .negatives ≡ r .negatives =
       sym (negatives-length q C L) ∙ ap (λ (x : theory.Rule). length (x .negatives)) e ∙ negatives-length r D K in
-      rule-path q r (omega (arith, C .known, D .known)) (ap (λ (x : theory.Rule). x .head) e) p n
+      rule-path q r same (ap (λ (x : theory.Rule). x .head) e) p n
       (ext-getD noAtom (q .entries) (r .entries) (L ∙ sym K) (λ i l. ⊎-elim
       (λ (k : q .positives ≤ i). ⊎-elim
       (λ (j : q .positives + q .negatives ≤ i). C .filler i j ∙ sym (D .filler i (omega arith)))
@@ -102,21 +116,20 @@ module _ (q r : Rule) (C : CleanRule q) (D : CleanRule r) (L : length (q .entrie
       ∙ positive-at r D K i (omega arith)))
       (le-or-lt (q .positives) i)))
 
-  pub slot-equal : slotOf q ≡ slotOf r → q ≡ r
-  slot-equal e = go (q .state) refl (r .state) refl
+  pub slot-equal : pageOf q ≡ pageOf r → q ≡ r
+  slot-equal e = elim (ℕ-discrete (r .state) 0) [
+    | yes z ↦ C .free (same ∙ z) ∙ sym (D .free z)
+    | no h ↦ held-equal (Option·some-injective (ruleOf q) (ruleOf r)
+        (sym (slot-held q (λ z. h (sym same ∙ z))) ∙ ap rule-on e ∙ slot-held r h)) same
+  ]
     where
-      go : (m : ℕ) → q .state ≡ m → (n : ℕ) → r .state ≡ n → q ≡ r
-      go zero s zero t = C .free s ∙ sym (D .free t)
-      go zero s (suc n) t =
-          let u : none ≡ some (ruleOf r) = sym (slot-free q s) ∙ e ∙ slot-held r (λ z. omega (arith, z)) in
-          absurd (let z : _≡_ {A = ℕ} 0 1 = cc in omega arith)
-      go (suc m) s zero t =
-          let u : none ≡ some (ruleOf q) = sym (slot-free r t) ∙ sym e ∙ slot-held q (λ z. omega (arith, z)) in
-          absurd (let z : _≡_ {A = ℕ} 0 1 = cc in omega arith)
-      go (suc m) s (suc n) t =
-          let u : some (ruleOf q) ≡ some (ruleOf r) =
-          sym (slot-held q (λ z. omega (arith, z))) ∙ e ∙ slot-held r (λ z. omega (arith, z)) in
-          held-equal (cc) (λ z. omega (arith, z)) (λ z. omega (arith, z))
+      same : q .state ≡ r .state
+      same = omega (
+        arith,
+        C .known,
+        D .known,
+        sym (page-state (q .state) (ruleOf q)) ∙ ap state-of e ∙ page-state (r .state) (ruleOf r),
+      )
 
 -- Two clean labels that mean the same are equal.
 label-equal : (k l : Label) → CleanLabel k → CleanLabel l → labelOf k ≡ labelOf l → k ≡ l
@@ -152,13 +165,19 @@ label-equal k l C D e = go (k .state) refl (l .state) refl
         sym (label-kept k (omega arith)) ∙ e ∙ label-kept l (omega arith) in
         label-path k l (omega (arith, C .known, D .known)) (cc) (cc)
 
--- The label of an atom is the same by any admissible model of any program that holds the same rules.
+-- Where all rules held have no negative cycle, the unmuted ones have one admissible model.
+pub one-model :
+    (B : Pages) → (NegativeCycle (all B) → ⊥) → (M N : AtomSet) → Admissible (active B) M → Admissible (active B) N
+    → (x : ℕ) → M x ≡ N x
+one-model B free =
+    model-unique (active B) (rules-below (active B)) (acyclic-strata (active B) (active-acyclic B free))
+
+-- The label of an atom is the same by any admissible model.
 pub same-label :
-    (P : Program) (M N : AtomSet) (a : ℕ) (k l : theory-labels.Label) → (NegativeCycle P → ⊥) → Admissible P M
-    → Admissible P N → Labelled P M a k → Labelled P N a l → k ≡ l
-same-label P M N a k l free A B K L =
-    label-unique P N (B .founded) a k l
-    (label-moves P M N (model-unique P (rules-below P) (acyclic-strata P free) M N A B) a k K) L
+    (B : Pages) (M N : AtomSet) (a : ℕ) (k l : theory-labels.Label) → (NegativeCycle (all B) → ⊥)
+    → Admissible (active B) M → Admissible (active B) N → Labelled B M a k → Labelled B N a l → k ≡ l
+same-label B M N a k l free A D K L =
+    label-unique B N (D .founded) a k l (label-moves B M N (one-model B free M N A D) a k K) L
 
 pub table-unique : (t u : Table) → Sized t → Sized u → Sound t → Sound u → held t ≡ held u → t ≡ u
 table-unique t u Z Y S T e = λ i. record { rules = rules i; labels = labels i }
@@ -169,7 +188,7 @@ table-unique t u Z Y S T e = λ i. record { rules = rules i; labels = labels i }
         slot-equal (getD (t .rules) s pastRule) (getD (u .rules) s pastRule) (S .clean .rules s k)
         (T .clean .rules s k)
         (Z .entries s k) (Y .entries s k)
-        (sym (program-at (t .rules) s) ∙ ap (λ (P : Program). getD P s none) e ∙ program-at (u .rules) s)))
+        (sym (book-at (t .rules) s) ∙ ap (λ (B : Pages). getD B s none) e ∙ book-at (u .rules) s)))
 
     labels : t .labels ≡ u .labels
     labels = ext-getD absentLabel (t .labels) (u .labels) (Z .atoms ∙ sym (Y .atoms)) (λ a l. (
@@ -178,6 +197,6 @@ table-unique t u Z Y S T e = λ i. record { rules = rules i; labels = labels i }
         label-equal (getD (t .labels) a absentLabel) (getD (u .labels) a absentLabel) (S .clean .labels a k)
         (T .clean .labels a k)
         (same-label (held u) (S .labels .model) (m .model) a _ _ (m .acyclic)
-        (subst (λ (P : Program). Admissible P (S .labels .model)) e (S .labels .admissible)) (m .admissible)
-        (subst (λ (P : Program). Labelled P (S .labels .model) a (labelAt (t .labels) a)) e (S .labels .labels a k))
+        (subst (λ (B : Pages). Admissible (active B) (S .labels .model)) e (S .labels .admissible)) (m .admissible)
+        (subst (λ (B : Pages). Labelled B (S .labels .model) a (labelAt (t .labels) a)) e (S .labels .labels a k))
         (m .labels a k))))

@@ -1,7 +1,10 @@
 -- Refusals by their numbers, and answers in the words of the theory. Assumes nothing.
 use Prim.Native.Nat.{ℕ}
+use mathlib.Core.Bool.{true, false}
 use mathlib.Core.Option.{Option, none, some}
-use Rattle.theory.specs.Labels.{absent, out, in-at, Side, positive, negative}
+use Rattle.theory.specs.Rules.{Page}
+use Rattle.theory.specs.Models.{AtomSet}
+use Rattle.theory.specs.Labels.{absent, out, in-at, Side, positive, negative, spoiler}
 use Rattle.theory.specs.Labels as theory
 use Rattle.theory.specs.Book as book
 use Rattle.calls.specs.declared.Refusal.{Refusal}
@@ -71,3 +74,7 @@ tellEntry negative i x = spoilt.Negative i (record { 0 = x })
 abbrev pub tellSpoiler : Option theory.Spoiler → SpoilerAnswer
 tellSpoiler none = spoilt.Valid
 tellSpoiler (some s) = tellEntry (s .side) (s .place) (s .atom)
+
+-- The answer that tells of a page in the model M: a muted rule is told as muted, whether or not an entry spoils it.
+abbrev pub tellPage : AtomSet → Page → SpoilerAnswer
+tellPage M p = elim (p .muted) [ true ↦ spoilt.Muted | false ↦ tellSpoiler (spoiler M (p .rule)) ]

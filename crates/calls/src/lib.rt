@@ -65,9 +65,11 @@ pub enum LabelAnswer {
     Refused(Refusal),
 }
 
-// The entry that spoils a rule: its place in the positive or the negative list, which ascend, from 0, and the atom.
+// The entry that spoils a rule: its place in the positive or the negative list, which ascend, from 0, and the atom. A
+// muted rule is told as muted, and no more of it.
 pub enum SpoilerAnswer {
     Valid,
+    Muted,
     Positive(u8, Atom),
     Negative(u8, Atom),
     Refused(Refusal),

@@ -14,10 +14,10 @@ use Rattle.theory.proofs.Lists.{clash, le-or-lt}
 use Rattle.theory.specs.Certificate.{level}
 use Rattle.table.specs.declared.Rule as table
 use Rattle.table.specs.Sets.{member}
-use Rattle.table.specs.Rules.{slotOf, programOf, pastRule}
+use Rattle.table.specs.Rules.{activeIn, activeOf, pastRule}
 use Rattle.questions.proofs.Cleanness.{is-not}
 use Rattle.certificate.specs.Certificate.{Agrees, Backs, Compared, Backed, Confirmed}
-use Rattle.table.proofs.Programs.{program-at, held-rule}
+use Rattle.table.proofs.Programs.{active-place, unmuted-rule}
 use Rattle.questions.proofs.Passes.{equal?}
 
 module _ (M : AtomSet) (d s : ℕ → ℕ) (i : ℕ) (o : Option Rule) (a : ℕ) (before : List Bool) where
@@ -220,23 +220,23 @@ module _ (P : Program) (M : AtomSet) (d s : ℕ → ℕ) (n : ℕ) where
 
 -- The head of the rule in slot i.
 head-at :
-    (rules : List table.Rule) (i : ℕ) (r : Rule) → Held (programOf rules) i r
+    (rules : List table.Rule) (i : ℕ) (r : Rule) → Held (activeOf rules) i r
     → r .head ≡ getD rules i pastRule .head .0
-head-at rules i r h = ap (λ (q : Rule). q .head) (sym (held-rule rules i r h))
+head-at rules i r h = ap (λ (q : Rule). q .head) (sym (unmuted-rule rules i r h))
 
 -- The same of the array of slots: slot i was compared, with the answer t.
 module _ (rules : List table.Rule) (M : AtomSet) (d s : ℕ → ℕ) (i : ℕ) (before after : List Bool) (t : Bool)
-    (K : Compared M d s i (slotOf (getD rules i pastRule)) (getD rules i pastRule .head .0) before after t) where
-  compared : Compared M d s i (getD (programOf rules) i none) (getD rules i pastRule .head .0) before after t
+    (K : Compared M d s i (activeIn (getD rules i pastRule)) (getD rules i pastRule .head .0) before after t) where
+  compared : Compared M d s i (getD (activeOf rules) i none) (getD rules i pastRule .head .0) before after t
   compared = subst
       (λ (o : Option Rule). Compared M d s i o (getD rules i pastRule .head .0) before after t)
-      (sym (program-at rules i)) K
+      (sym (active-place rules i)) K
 
-  pub slot-fails : t ≡ false → (false ≡ true) ↔ Confirmed (programOf rules) M d s
-  slot-fails u = unconfirmed (programOf rules) M d s 0 i (λ A. clash (compared .test .1 A) u)
+  pub slot-fails : t ≡ false → (false ≡ true) ↔ Confirmed (activeOf rules) M d s
+  slot-fails u = unconfirmed (activeOf rules) M d s 0 i (λ A. clash (compared .test .1 A) u)
 
   pub slot-passes :
-      (n : ℕ) → ((a : ℕ) → M a ≡ true → a < n) → Checked (programOf rules) M d s n before i → t ≡ true
-      → Checked (programOf rules) M d s n after (i + 1)
+      (n : ℕ) → ((a : ℕ) → M a ≡ true → a < n) → Checked (activeOf rules) M d s n before i → t ≡ true
+      → Checked (activeOf rules) M d s n after (i + 1)
   slot-passes n bound C u =
-      checked-next (programOf rules) M d s n bound i _ before after (head-at rules i) C t compared u
+      checked-next (activeOf rules) M d s n bound i _ before after (head-at rules i) C t compared u

@@ -16,12 +16,13 @@ ghost use mathlib.Core.Logic.{_↔_};
 ghost use Prim.Native.Nat.{ℕ};
 ghost use Rattle.theory.specs.Certificate.{kept-in, kept-depth, kept-slot};
 ghost use Rattle.table.specs.Sets.{member, number};
-ghost use Rattle.table.specs.Rules.{slotOf, programOf};
+ghost use Rattle.table.specs.Rules.{activeIn, activeOf};
 ghost use Rattle.table.specs.Labels.{labelAt};
 ghost use Rattle.certificate.specs.Certificate.{Compared, Confirmed};
 
-// Is the slot as the kept labels say? If it holds a valid rule, the head is in, not deeper than the rule's level, and
-// where it is as deep, the slot is not before the head's kept slot. The head of a kept slot comes into `found`.
+// Is the slot as the kept labels say? If it holds an unmuted rule that is valid, the head is in, not deeper than the
+// rule's level, and where it is as deep, the slot is not before the head's kept slot. The head of a kept slot comes
+// into `found`.
 fn agrees(
     rule: Rule,
     slot: Slot,
@@ -31,10 +32,10 @@ fn agrees(
     found: &mut [bool; Table::ATOMS],
 ) -> bool
     ensures { λ r. ⌜ Compared (member (now (flags .entry))) (number (now (depths .entry)))
-        (number (now (slots .entry))) (slot .0) (slotOf rule) (rule .head .0)
+        (number (now (slots .entry))) (slot .0) (activeIn rule) (rule .head .0)
         (now (found .entry)) (now (found .exit)) r ⌝ }
 {
-    if rule.state == 0 {
+    if rule.state != 1 {
         return true;
     }
     if !valid(rule, flags) {
@@ -83,7 +84,7 @@ fn all_found(flags: &[bool; Table::ATOMS], found: &[bool; Table::ATOMS]) -> bool
 // Are the kept depths and supporting slots those that the rules ask for?
 pub fn certified(rules: [Rule; Table::SLOTS], labels: [Label; Table::ATOMS]) -> bool
     ensures { λ r. ⌜ (r ≡ true)
-        ↔ Confirmed (programOf rules) (kept-in (labelAt labels)) (kept-depth (labelAt labels))
+        ↔ Confirmed (activeOf rules) (kept-in (labelAt labels)) (kept-depth (labelAt labels))
         (kept-slot (labelAt labels)) ⌝ }
 {
     let k = keep(labels);

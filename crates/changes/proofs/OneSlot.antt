@@ -9,22 +9,23 @@ use mathlib.Core.Option.{none, some}
 use lib.Dec.{eqb}
 use lib.ListN.{length, getD, set, length-set}
 use lib.Seq.{getD-set-same, getD-set-other}
-use Rattle.theory.specs.Rules.{Program, Held, Ascending, Bounded, same}
+use Rattle.theory.specs.Rules.{Program, all, Held, Ascending, Bounded, same}
 use Rattle.theory.specs.Rules as theory
 use Rattle.theory.specs.Models.{AtomSet}
 use Rattle.theory.specs.Dependencies.{NegativeCycle}
 use Rattle.theory.specs.Questions.{first-no, rule-questions}
 use Rattle.theory.specs.Limits.{document}
 use Rattle.theory.proofs.Lists.{test, clash, eqb-eq, eqb-of}
+use Rattle.theory.proofs.Pages.{all-length}
 use Rattle.theory.proofs.Sameness.{ascending-same}
 use Rattle.theory.proofs.Questions.{other-set, passed-bounded}
 use Rattle.table.specs.declared.Rule.{Rule}
 use Rattle.table.specs.declared.Label.{Label}
 use Rattle.table.specs.declared.Table.{Table}
-use Rattle.table.specs.Rules.{programOf, slotOf, pastRule}
+use Rattle.table.specs.Rules.{bookOf, programOf, pageOf, slotOf, pastRule}
 use Rattle.table.specs.Clean.{CleanRule}
 use Rattle.table.specs.Sound.{Sound}
-use Rattle.table.proofs.Programs.{program-length, program-set}
+use Rattle.table.proofs.Programs.{book-length, book-set, program-set}
 use Rattle.calls.specs.Contracts.{held, Sized}
 use Rattle.labels.specs.Labelling.{Labels}
 
@@ -34,27 +35,30 @@ module _ (t : Table) (S : Sound t) (s : ℕ) (inside : s < document .slots) (r :
   after = set (t .rules) s r
 
   long : length (t .rules) ≡ document .slots
-  long = sym (program-length (t .rules)) ∙ S .labels .slots
+  long = sym (book-length (t .rules)) ∙ S .labels .slots
 
-  pub program-after : programOf after ≡ set (held t) s (slotOf r)
+  pub book-after : bookOf after ≡ set (held t) s (pageOf r)
+  book-after = book-set (t .rules) s r
+
+  pub program-after : programOf after ≡ set (all (held t)) s (slotOf r)
   program-after = program-set (t .rules) s r
 
   -- A rule held afterwards is the one put, or was held before.
   pub held-after :
       (k : ℕ) (q : theory.Rule) → Held (programOf after) k q
-      → ((k ≡ s) × (slotOf r ≡ some q)) ⊎ ((k ≡ s → ⊥) × Held (held t) k q)
+      → ((k ≡ s) × (slotOf r ≡ some q)) ⊎ ((k ≡ s → ⊥) × Held (all (held t)) k q)
   held-after k q h = ⊎-elim
       (λ (u : eqb k s ≡ true). (let e = eqb-eq k s u in
       inl (
         e,
-        sym (getD-set-same (held t) s (slotOf r) none (omega (arith, S .labels .slots)))
-            ∙ ap (λ (z : ℕ). getD (set (held t) s (slotOf r)) z none) (sym e) ∙ now-held,
+        sym (getD-set-same (all (held t)) s (slotOf r) none (omega (arith, S .labels .slots, all-length (held t))))
+            ∙ ap (λ (z : ℕ). getD (set (all (held t)) s (slotOf r)) z none) (sym e) ∙ now-held,
       )))
       (λ (u : eqb k s ≡ false). (let n : k ≡ s → ⊥ = λ e. clash (eqb-of k s e) u in
-      inr (n, other-set (held t) s k (slotOf r) q n now-held)))
+      inr (n, other-set (all (held t)) s k (slotOf r) q n now-held)))
       (test (eqb k s))
     where
-      now-held : Held (set (held t) s (slotOf r)) k q
+      now-held : Held (set (all (held t)) s (slotOf r)) k q
       now-held = subst (λ (P : Program). Held P k q) program-after h
 
   -- What is put is clean, passes questions 1 to 4, has ascending lists and is not held by another slot, if it is a rule
@@ -62,7 +66,7 @@ module _ (t : Table) (S : Sound t) (s : ℕ) (inside : s < document .slots) (r :
   module _ (clean : CleanRule r)
       (passes : (q : theory.Rule) → slotOf r ≡ some q → first-no (rule-questions document q) ≡ none)
       (ascending : (q : theory.Rule) → slotOf r ≡ some q → Ascending q)
-      (fresh : (k : ℕ) (q : theory.Rule) → (k ≡ s → ⊥) → slotOf r ≡ some q → Held (held t) k q → ⊥) where
+      (fresh : (k : ℕ) (q : theory.Rule) → (k ≡ s → ⊥) → slotOf r ≡ some q → Held (all (held t)) k q → ⊥) where
     passes-after :
         (k : ℕ) (q : theory.Rule) → Held (programOf after) k q → first-no (rule-questions document q) ≡ none
     passes-after k q h =
@@ -103,10 +107,10 @@ module _ (t : Table) (S : Sound t) (s : ℕ) (inside : s < document .slots) (r :
 
     pub sound-after :
         (labels : List Label) → (NegativeCycle (programOf after) → ⊥) → (M : AtomSet)
-        → Labels (programOf after) M labels → Sound (record { rules = after; labels = labels })
+        → Labels (bookOf after) M labels → Sound (record { rules = after; labels = labels })
     sound-after labels free M L = record {
       labels = record {
-        slots = program-length after ∙ length-set (t .rules) s r ∙ long;
+        slots = book-length after ∙ length-set (t .rules) s r ∙ long;
         passes = passes-after;
         ascending = ascending-after;
         single = single-after;

@@ -6,7 +6,7 @@ use mathlib.Core.Bool.{Bool, true, false}
 use mathlib.Core.List.{List}
 use mathlib.Core.Option.{none, some, Option·none-ne-some}
 use lib.ListN.{length, set}
-use Rattle.theory.specs.Rules.{Held, Ascending, Bounded}
+use Rattle.theory.specs.Rules.{all, Held, Ascending, Bounded}
 use Rattle.theory.specs.Rules as theory
 use Rattle.theory.specs.Dependencies.{NegativeCycle}
 use Rattle.theory.specs.Questions.{first-no, rule-questions, slot-questions}
@@ -15,7 +15,7 @@ use Rattle.theory.proofs.Cycles.{fewer-cycle}
 use Rattle.table.specs.declared.Rule.{Rule}
 use Rattle.table.specs.declared.Slot.{Slot}
 use Rattle.table.specs.declared.Table.{Table}
-use Rattle.table.specs.Rules.{programOf, slotOf}
+use Rattle.table.specs.Rules.{bookOf, programOf, slotOf}
 use Rattle.table.specs.Clean.{freeRule}
 use Rattle.table.specs.Sound.{Sound}
 use Rattle.table.proofs.Empty.{free-clean}
@@ -25,7 +25,7 @@ use Rattle.calls.specs.Contracts.{held, Sized, RemoveEnds}
 use Rattle.calls.proofs.Asking.{PassesSlot, slot-low}
 use Rattle.labels.specs.declared.Labelling.{Labelling}
 use Rattle.labels.specs.Labelling.{LabellingOf}
-use Rattle.changes.proofs.OneSlot.{program-after, held-after, bounded-after, sound-after, sized-after}
+use Rattle.changes.proofs.OneSlot.{book-after, held-after, bounded-after, sound-after, sized-after}
 
 -- A removal of the rule in slot s of the table t.
 module _ (t : Table) (S : Sound t) (s : ℕ) (inside : s < document .slots) where
@@ -35,7 +35,7 @@ module _ (t : Table) (S : Sound t) (s : ℕ) (inside : s < document .slots) wher
   ascending : (p : theory.Rule) → slotOf freeRule ≡ some p → Ascending p
   ascending p h = absurd (Option·none-ne-some p h)
 
-  fresh : (k : ℕ) (p : theory.Rule) → (k ≡ s → ⊥) → slotOf freeRule ≡ some p → Held (held t) k p → ⊥
+  fresh : (k : ℕ) (p : theory.Rule) → (k ≡ s → ⊥) → slotOf freeRule ≡ some p → Held (all (held t)) k p → ⊥
   fresh k p n h i = Option·none-ne-some p h
 
   bounded-freed : Bounded (programOf (set (t .rules) s freeRule)) (document .atoms)
@@ -43,20 +43,20 @@ module _ (t : Table) (S : Sound t) (s : ℕ) (inside : s < document .slots) wher
 
   -- every rule of the rest was held before
   rest-acyclic : NegativeCycle (programOf (set (t .rules) s freeRule)) → ⊥
-  rest-acyclic c = S .labels .acyclic (fewer-cycle (held t) (programOf (set (t .rules) s freeRule))
+  rest-acyclic c = S .labels .acyclic (fewer-cycle (all (held t)) (programOf (set (t .rules) s freeRule))
       (λ k p h. ⊎-elim
       (λ w. absurd (Option·none-ne-some p (w .1)))
       (λ w. (k, w .1))
       (held-after t S s inside freeRule k p h)) c)
 
   freed :
-      first-no (slot-questions document (held t) s) ≡ none → (l : Labelling)
-      → LabellingOf (programOf (set (t .rules) s freeRule)) l → Sized t → length (l .labels) ≡ document .atoms
+      first-no (slot-questions document (all (held t)) s) ≡ none → (l : Labelling)
+      → LabellingOf (bookOf (set (t .rules) s freeRule)) l → Sized t → length (l .labels) ≡ document .atoms
       → RemoveEnds t s changed.Accepted (record { rules = set (t .rules) s freeRule; labels = l .labels })
   freed asked l L Z m =
       let w = L .acyclic (not-cyclic (l .acyclic) refl) in
       contract.accepted _ S asked (sized-after t S s inside freeRule Z refl (l .labels) m)
-      (program-after t S s inside freeRule)
+      (book-after t S s inside freeRule)
       (sound-after t S s inside freeRule free-clean passes ascending fresh (l .labels) (w .0) (w .1 .0) (w .1 .1))
     where
       not-cyclic : (b : Bool) → l .acyclic ≡ b → l .acyclic ≡ true
@@ -75,8 +75,8 @@ module _
     bounded-rest = rw left (bounded-freed t (Q .sound) s (slot-low t s x Q))
 
     pub remove-ends :
-        (l : Labelling) → LabellingOf (programOf rest) l → Sized t → length (l .labels) ≡ document .atoms
+        (l : Labelling) → LabellingOf (bookOf rest) l → Sized t → length (l .labels) ≡ document .atoms
         → RemoveEnds t s changed.Accepted (record { rules = rest; labels = l .labels })
     remove-ends l L Z m =
-        let L′ : LabellingOf (programOf (set (t .rules) s freeRule)) l = rw left at L in
+        let L′ : LabellingOf (bookOf (set (t .rules) s freeRule)) l = rw left at L in
         rw left (freed t (Q .sound) s (slot-low t s x Q) (Q .yes) l L′ Z m)

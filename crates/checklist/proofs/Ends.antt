@@ -9,12 +9,13 @@ use mathlib.Core.Option.{Option, none, some, Option·none-ne-some, Option·some-
 use lib.Dec.{leb}
 use lib.ListN.{set}
 use Rattle.theory.specs.Lists.{every, distinct, sort}
-use Rattle.theory.specs.Rules.{Program, Held, any-rule, same, kept}
+use Rattle.theory.specs.Rules.{Pages, all, new-page, Held, any-rule, same}
 use Rattle.theory.specs.Questions.{asks, first-no, is-some, rule-questions, add-questions, slot-questions, with-added}
-use Rattle.theory.specs.Questions.{lowest-free, put-in}
+use Rattle.theory.specs.Questions.{lowest-free, put-in, stratified}
 use Rattle.theory.specs.Limits.{document}
 use Rattle.theory.proofs.Lists.{test, unless, lt-ltb, same-test, and-l, and-r, and-of, leb-le, le-leb}
 use Rattle.theory.proofs.Sameness.{same-held}
+use Rattle.theory.proofs.Pages.{all-length}
 use Rattle.theory.proofs.Questions.{first-no-yes, first-no-here, held-below}
 use Rattle.table.specs.declared.Slot.{Slot}
 use Rattle.table.specs.declared.Table.{Table}
@@ -36,7 +37,7 @@ use Rattle.checklist.specs.declared.AskedFile.the-variants as asked
 use Rattle.frame.specs.Frame.{Checklist, sent, skipped, fact, is-mark, files-of, marked, first-slot}
 use Rattle.checklist.specs.Questions.{FileCall, file-sent, file-skipped, skip-withdrawn, file, on-list, allowed}
 use Rattle.checklist.specs.Questions.{mark-questions}
-use Rattle.checklist.specs.Book.{marks-changed}
+use Rattle.checklist.specs.Book.{with-fact, marks-changed}
 use Rattle.checklist.specs.Contracts as ends
 use Rattle.checklist.specs.Contracts.{FileEnds}
 use Rattle.frame.specs.Parts.{count-of}
@@ -44,7 +45,7 @@ use Rattle.checklist.specs.Parts.{FileAsked, MarkAdded, taken, stands, o
 use Rattle.checklist.specs.Parts as parts
 use Rattle.frame.proofs.Frames.{checklist-of, mark-below, sent-mark, skipped-mark}
 use Rattle.checklist.proofs.Marks.{marked-at, marked-of, checklist-stratified, free-slot, added-checklist}
-use Rattle.checklist.proofs.Marks.{fact-slot}
+use Rattle.checklist.proofs.Marks.{rules-added, fact-slot}
 use Rattle.checklist.proofs.Model.{mark-in, mark-support}
 use Rattle.checklist.proofs.Labels.{Told, told-absent, told-out, told-in, told-refused}
 use Rattle.checklist.proofs.Labels.{in?, slot?, model-in, supporting-slot}
@@ -57,41 +58,41 @@ pub is-listed : (n i : ℕ) → 1 ≤ i → i ≤ n → on-list (some n) i ≡ t
 is-listed n i l h = and-of _ _ (le-leb 1 i l) (le-leb i n h)
 
 -- The number that was counted is that of the files, and 0 says that there is no checklist.
-module _ (P : Program) (n : ℕ) (e : n ≡ count-of (files-of P)) where
-  counted : (o : Option ℕ) → files-of P ≡ o → (n ≡ 0 → files-of P ≡ none) × ((n ≡ 0 → ⊥) → files-of P ≡ some n)
+module _ (B : Pages) (n : ℕ) (e : n ≡ count-of (files-of B)) where
+  counted : (o : Option ℕ) → files-of B ≡ o → (n ≡ 0 → files-of B ≡ none) × ((n ≡ 0 → ⊥) → files-of B ≡ some n)
   counted none q = (λ z. q, λ l. absurd (l (e ∙ ap count-of q)))
   counted (some m) q =
-      let C = checklist-of P m q in
+      let C = checklist-of B m q in
       let z : n ≡ m = e ∙ ap count-of q in
       (λ y. absurd (omega (arith, C .low)), λ l. q ∙ ap some (sym z))
 
-  pub counted-none : n ≡ 0 → files-of P ≡ none
-  counted-none = counted (files-of P) refl .0
+  pub counted-none : n ≡ 0 → files-of B ≡ none
+  counted-none = counted (files-of B) refl .0
 
-  pub counted-some : (n ≡ 0 → ⊥) → files-of P ≡ some n
-  counted-some = counted (files-of P) refl .1
+  pub counted-some : (n ≡ 0 → ⊥) → files-of B ≡ some n
+  counted-some = counted (files-of B) refl .1
 
 -- What a call on a file asks, one question after another.
-module _ (P : Program) (c : FileCall) where
-  pub no-list : files-of P ≡ none → first-no (mark-questions P c) ≡ some 15
+module _ (B : Pages) (c : FileCall) where
+  pub no-list : files-of B ≡ none → first-no (mark-questions B c) ≡ some 15
   no-list e = first-no-here (asks 15 _) _ (ap is-some e)
 
-  module _ (n : ℕ) (e : files-of P ≡ some n) where
-    pub off-list : on-list (some n) (file c) ≡ false → first-no (mark-questions P c) ≡ some 20
+  module _ (n : ℕ) (e : files-of B ≡ some n) where
+    pub off-list : on-list (some n) (file c) ≡ false → first-no (mark-questions B c) ≡ some 20
     off-list f =
         first-no-yes (asks 15 _) _ (ap is-some e)
         ∙ first-no-here (asks 20 _) _ (ap (λ (o : Option ℕ). on-list o (file c)) e ∙ f)
 
     module _ (l : on-list (some n) (file c) ≡ true) where
-      listed-asks : first-no (mark-questions P c) ≡ first-no (asks 22 (allowed P c) ∷ [])
+      listed-asks : first-no (mark-questions B c) ≡ first-no (asks 22 (allowed B c) ∷ [])
       listed-asks =
           first-no-yes (asks 15 _) _ (ap is-some e)
           ∙ first-no-yes (asks 20 _) _ (ap (λ (o : Option ℕ). on-list o (file c)) e ∙ l)
 
-      pub not-allowed : allowed P c ≡ false → first-no (mark-questions P c) ≡ some 22
+      pub not-allowed : allowed B c ≡ false → first-no (mark-questions B c) ≡ some 22
       not-allowed f = listed-asks ∙ first-no-here (asks 22 _) [] f
 
-      pub is-allowed : allowed P c ≡ true → first-no (mark-questions P c) ≡ none
+      pub is-allowed : allowed B c ≡ true → first-no (mark-questions B c) ≡ none
       is-allowed t = listed-asks ∙ first-no-yes (asks 22 _) [] t ∙ (unfold first-no in refl)
 
 -- An answer and a table handed back together.
@@ -194,38 +195,39 @@ module _ (t : Table) (S : Sound t) (n a : ℕ) (C : Checklist (held t) n) (m : i
   low-mark = omega (arith, mark-below n a m, C .high)
 
   -- the table holds the same rule exactly if the mark stands
-  pub same-marked : any-rule (same (fact a)) (held t) ≡ marked (held t) a
+  pub same-marked : any-rule (same (fact a)) (all (held t)) ≡ marked (held t) a
   unfolding sort
   same-marked =
-      let w = same-held document (held t) (fact a) (S .labels .ascending) (fact-passes a low-mark) in
+      let w = same-held document (all (held t)) (fact a) (S .labels .ascending) (fact-passes a low-mark) in
       same-test _ _
-      (λ u. (let h = w .0 u in marked-of (held t) a (h .0) (h .1)))
-      (λ u. w .1 (marked-at (held t) a u))
+      (λ u. (let h = w .0 u in marked-of (all (held t)) a (h .0) (h .1)))
+      (λ u. w .1 (marked-at (all (held t)) a u))
 
   -- adding it asks nothing else: a slot is free, and no loop is closed
   add-asks :
-      first-no (add-questions document (held t) (fact a))
-      ≡ first-no (asks 5 (not (any-rule (same (fact a)) (held t))) ∷ [])
+      first-no (add-questions document (all (held t)) (fact a))
+      ≡ first-no (asks 5 (not (any-rule (same (fact a)) (all (held t)))) ∷ [])
   unfolding every distinct
   add-asks =
       let w = free-slot (held t) n C (S .labels .single) (S .labels .slots) in
-      let e : is-some (lowest-free (held t)) ≡ true = ap is-some (w .1) in
-      let acyclic = checklist-stratified (with-added (held t) (fact a)) n
-      (added-checklist (held t) (w .0) a (w .1) n C m) in
+      let e : is-some (lowest-free (all (held t))) ≡ true = ap is-some (w .1) in
+      let acyclic : stratified (with-added (all (held t)) (fact a)) ≡ true =
+      ap stratified (sym (rules-added (held t) (w .0) a (w .1)))
+      ∙ checklist-stratified (with-fact (held t) a) n (added-checklist (held t) (w .0) a (w .1) n C m) in
       first-no-yes (asks 1 _) _ (lt-ltb a (document .atoms) low-mark) ∙ first-no-yes (asks 2 _) _ refl
       ∙ first-no-yes (asks 3 _) _ refl ∙ first-no-yes (asks 4 _) _ refl
       ∙ ⊎-elim
-      (λ (u : not (any-rule (same (fact a)) (held t)) ≡ true).
+      (λ (u : not (any-rule (same (fact a)) (all (held t))) ≡ true).
       first-no-yes (asks 5 _) _ u ∙ first-no-yes (asks 6 _) _ e ∙ first-no-yes (asks 7 _) [] acyclic
       ∙ sym (first-no-yes (asks 5 _) [] u))
-      (λ (u : not (any-rule (same (fact a)) (held t)) ≡ false).
+      (λ (u : not (any-rule (same (fact a)) (all (held t))) ≡ false).
       first-no-here (asks 5 _) _ u ∙ sym (first-no-here (asks 5 _) [] u))
-      (test (not (any-rule (same (fact a)) (held t))))
+      (test (not (any-rule (same (fact a)) (all (held t)))))
 
-  add-stands : marked (held t) a ≡ true → first-no (add-questions document (held t) (fact a)) ≡ some 5
+  add-stands : marked (held t) a ≡ true → first-no (add-questions document (all (held t)) (fact a)) ≡ some 5
   add-stands u = add-asks ∙ first-no-here (asks 5 _) [] (ap not (same-marked ∙ u))
 
-  add-free : marked (held t) a ≡ false → first-no (add-questions document (held t) (fact a)) ≡ none
+  add-free : marked (held t) a ≡ false → first-no (add-questions document (all (held t)) (fact a)) ≡ none
   add-free u = add-asks ∙ first-no-yes (asks 5 _) [] (ap not (same-marked ∙ u)) ∙ (unfold first-no in refl)
 
 -- File sent and file skipped: a call on a file of the list that adds the fact of its mark.
@@ -237,7 +239,8 @@ module _
 
   -- an addition that is refused says that the mark stands
   not-unmarked :
-      Sound t → {k : ℕ} → first-no (add-questions document (held t) (fact a)) ≡ some k → marked (held t) a ≡ true
+      Sound t → {k : ℕ} → first-no (add-questions document (all (held t)) (fact a)) ≡ some k
+      → marked (held t) a ≡ true
   not-unmarked S q = ⊎-elim
       (λ (y : marked (held t) a ≡ true). y)
       (λ (y : marked (held t) a ≡ false). absurd (Option·none-ne-some _ (sym (add-free t S n a C m y) ∙ q)))
@@ -245,13 +248,13 @@ module _
 
   module _ (asks-mark : allowed (held t) c ≡ not (marked (held t) a)) where
     mark-added :
-        marks-changed (held t) c ≡ with-added (held t) (fact a) → {x : ChangeAnswer} {u : Table} → MarkAdded t a x u
+        marks-changed (held t) c ≡ with-fact (held t) a → {x : ChangeAnswer} {u : Table} → MarkAdded t a x u
         → FileEnds t c x u
     mark-added adds (taken (contract.accepted s u S q k Z h U)) =
         let free : marked (held t) a ≡ false =
         unless _ (λ y. Option·none-ne-some 5 (sym q ∙ add-stands t S n a C m y)) in
         ends.accepted u S (is-allowed (held t) c n e l (asks-mark ∙ ap not free)) Z
-        (h ∙ sym (adds ∙ ap (λ (o : Option ℕ). put-in (held t) o (kept (fact a))) k)) U
+        (h ∙ sym (adds ∙ ap (λ (o : Option ℕ). put-in (held t) o (new-page (fact a))) k)) U
     mark-added adds (stands (contract.unsound un) five) = absurd (omega (arith, five))
     mark-added adds (stands (contract.refused f S q) five) =
         let there : marked (held t) a ≡ true = not-unmarked S q in
@@ -270,18 +273,21 @@ module _
 
     -- its fact stands in the slot that supports it, and a slot that holds a rule passes 8 and 9
     mark-slot :
-        Sound t → {x : LabelAnswer} → Told t a x → in? x ≡ true → Held (held t) (slot? x) (fact a) × (n < slot? x)
+        Sound t → {x : LabelAnswer} → Told t a x → in? x ≡ true
+        → Held (all (held t)) (slot? x) (fact a) × (n < slot? x)
     mark-slot S T y = mark-support (held t) n C (T .model) a _ m (supporting-slot t a T y)
 
-    slot-asks : Sound t → (s : ℕ) → Held (held t) s (fact a) → first-no (slot-questions document (held t) s) ≡ none
+    slot-asks :
+        Sound t → (s : ℕ) → Held (all (held t)) s (fact a)
+        → first-no (slot-questions document (all (held t)) s) ≡ none
     slot-asks S s h =
-        let b = held-below (held t) s (fact a) h in
-        first-no-yes (asks 8 _) _ (lt-ltb s (document .slots) (omega (arith, S .labels .slots)))
+        let b = held-below (all (held t)) s (fact a) h in
+        first-no-yes (asks 8 _) _ (lt-ltb s (document .slots) (omega (arith, all-length (held t), S .labels .slots)))
         ∙ first-no-yes (asks 9 _) [] (ap is-some h) ∙ (unfold first-no in refl)
 
     mark-removed :
-        marks-changed (held t) c ≡ set (held t) (first-slot (fact a) (held t)) none → {x : ChangeAnswer} {u : Table}
-        → MarkRemoved t a x u → FileEnds t c x u
+        marks-changed (held t) c ≡ set (held t) (first-slot (fact a) (all (held t))) none
+        → {x : ChangeAnswer} {u : Table} → MarkRemoved t a x u → FileEnds t c x u
     mark-removed removes (parts.out E) = withdrawn-out (told-out t a E refl) refl
     mark-removed removes (parts.absent E) = withdrawn-out (told-absent t a E refl) refl
     mark-removed removes (parts.refused E) =
@@ -293,9 +299,9 @@ module _
         absurd (Option·none-ne-some _ (sym (slot-asks S (s .0) (w .0)) ∙ q))
     mark-removed removes (parts.removed {s = s} E (contract.accepted u S q Z h U)) =
         let w = mark-slot S (told-in t a E refl) refl in
-        ends.accepted u S (is-allowed (held t) c n e l (asks-mark ∙ marked-of (held t) a (s .0) (w .0))) Z
+        ends.accepted u S (is-allowed (held t) c n e l (asks-mark ∙ marked-of (all (held t)) a (s .0) (w .0))) Z
         (h ∙ sym (removes
-        ∙ ap (λ (k : ℕ). set (held t) k none) (fact-slot (held t) (S .labels .single) a (s .0) (w .0)))) U
+        ∙ ap (λ (k : ℕ). set (held t) k none) (fact-slot (all (held t)) (S .labels .single) a (s .0) (w .0)))) U
 
 -- File sent, file skipped, skip withdrawn, of a file on the list.
 pub sent-ends :

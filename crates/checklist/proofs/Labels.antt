@@ -4,6 +4,7 @@ use mathlib.Core.Path.{_≡_, refl, sym, _∙_, ap, subst}
 use mathlib.Core.Bool.{Bool, true, false, true≢false}
 use mathlib.Core.List.{[]}
 use mathlib.Core.Option.{none, Option·none-ne-some}
+use Rattle.theory.specs.Rules.{active}
 use Rattle.theory.specs.Models.{AtomSet, Admissible}
 use Rattle.theory.specs.Labels.{Label, Labelled, is-in, absent, out, in-at, Supporting}
 use Rattle.theory.specs.Questions.{asks, first-no, atom-questions, is-in-label}
@@ -64,7 +65,7 @@ label-not-refused (in-at d s) = refl
 pub record Told (t : Table) (a : ℕ) (x : LabelAnswer) : Type 0 where
   pub sound : Sound t
   pub model : AtomSet
-  pub admissible : Admissible (held t) model
+  pub admissible : Admissible (active (held t)) model
   pub label : Label
   pub told : tellLabel label ≡ x
   pub labelled : Labelled (held t) model a label
@@ -101,14 +102,14 @@ module _ (t : Table) (a : ℕ) where
         sym (label-in (held t) (T .model) (T .admissible) a (T .label) (T .labelled)) ∙ sym (label-told (T .label))
         ∙ ap in? (T .told)
 
-    pub supporting-slot : in? x ≡ true → Supporting (held t) (T .model) a (slot? x)
+    pub supporting-slot : in? x ≡ true → Supporting (active (held t)) (T .model) a (slot? x)
     supporting-slot e =
-        subst (Supporting (held t) (T .model) a) (ap slot? (T .told))
+        subst (Supporting (active (held t)) (T .model) a) (ap slot? (T .told))
         (go (T .label) (T .labelled) (ap in? (T .told) ∙ e))
       where
         go :
             (l : Label) → Labelled (held t) (T .model) a l → in? (tellLabel l) ≡ true
-            → Supporting (held t) (T .model) a (slot? (tellLabel l))
+            → Supporting (active (held t)) (T .model) a (slot? (tellLabel l))
         go absent L q = absurd (true≢false (sym q))
         go out L q = absurd (true≢false (sym q))
         go (in-at d s) (is-in m D S) q = S

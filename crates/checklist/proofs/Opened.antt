@@ -11,11 +11,13 @@ use lib.Dec.{leb, ltb}
 use lib.ListN.{length, length-append, length-map, length-replicate, getD, set, replicate, List·getD-append}
 use lib.Seq.{append-snoc, getD-append-add, getD-at, set-at}
 use Rattle.theory.specs.Lists.{_∈_, every}
-use Rattle.theory.specs.Rules.{Rule, Program, Held, Ascending, entries, any-rule, same, kept}
+use Rattle.theory.specs.Rules.{Rule, Page, Pages, all, rule-on, new-page, Held, Ascending, entries, any-rule, same}
+use Rattle.theory.specs.Rules.{kept}
 use Rattle.theory.specs.Limits.{document}
 use Rattle.theory.specs.Questions.{first-no, add-questions, is-some, lowest-free, put-in, with-added, stratified}
 use Rattle.theory.specs.Book.{empty}
 use Rattle.theory.proofs.Lists.{and-l, and-r, and-of, unless, false-not, lt-ltb, leb-le, le-leb, le-or-lt}
+use Rattle.theory.proofs.Pages.{all-at, all-length, all-set, held-page}
 use Rattle.theory.proofs.Rules.{any-rule-at, held-unique}
 use Rattle.theory.proofs.Questions.{first-no-yes, first-no-here, lowest-free-of}
 use Rattle.theory.proofs.Sorting.{ascending-distinct}
@@ -25,23 +27,25 @@ use Rattle.table.specs.declared.Table.{Table}
 use Rattle.table.specs.Clean.{emptyTable}
 use Rattle.table.specs.Sound.{Sound}
 use Rattle.table.proofs.Members.{all-alike}
-use Rattle.table.proofs.Empty.{empty-sound, free-program}
+use Rattle.table.proofs.Empty.{empty-sound, free-book}
 use Rattle.calls.specs.declared.AddAnswer.{AddAnswer}
 use Rattle.calls.specs.declared.Changed.{Changed}
 use Rattle.calls.specs.declared.ChangeAnswer.the-variants as change
 use Rattle.calls.specs.declared.Refusal.the-variants.{FileCount}
 use Rattle.calls.specs.Contracts.{held, Sized, AddEnds, unsound, refused, accepted}
 use Rattle.frame.specs.Frame.{Checklist, most-files, sent, skipped, good, fact, frame, files, is-mark, marked}
+use Rattle.frame.specs.Frame.{unmuted-on}
 use Rattle.checklist.specs.Book.{opened}
 use Rattle.checklist.specs.Contracts.{OpenEnds}
 use Rattle.checklist.specs.Contracts as contract
 use Rattle.checklist.specs.Parts.{FrameAdded, Framed}
+use Rattle.frame.proofs.Unmuted.{unmuted-of}
 use Rattle.frame.proofs.Frames.{in-one, frame-head}
 use Rattle.checklist.proofs.Marks.{marked-at, descending-acyclic, checklist-stratified, mark-behind}
 use Rattle.frame.proofs.Slots.{file-rule, frame-file}
 
 -- What the table holds after the first i rules of the frame.
-abbrev pub stage : ℕ → Program
+abbrev pub stage : ℕ → Pages
 stage zero = empty document
 stage (suc n) = opened document n
 
@@ -61,27 +65,30 @@ slots-length zero = unfold slots-to in refl
 slots-length (suc i) =
     ap length (slots-more i) ∙ (omega (arith, length-append (slots-to i) (i ∷ []), slots-length i))
 
-front : ℕ → Program
-front i = map (λ s. some (frame s)) (slots-to i)
+front : ℕ → Pages
+front i = map (λ s. some (new-page (frame s))) (slots-to i)
 
-front-more : (i : ℕ) → front (suc i) ≡ front i ++ (some (frame i) ∷ [])
+front-more : (i : ℕ) → front (suc i) ≡ front i ++ (some (new-page (frame i)) ∷ [])
 unfolding front
 front-more i =
-    ap (map (λ s. some (frame s))) (slots-more i) ∙ map-append (λ s. some (frame s)) (slots-to i) (i ∷ [])
+    ap (map (λ s. some (new-page (frame s)))) (slots-more i)
+    ∙ map-append (λ s. some (new-page (frame s))) (slots-to i) (i ∷ [])
 
 front-length : (i : ℕ) → length (front i) ≡ i
 unfolding front
-front-length i = length-map (slots-to i) (λ s. some (frame s)) ∙ slots-length i
+front-length i = length-map (slots-to i) (λ s. some (new-page (frame s))) ∙ slots-length i
 
-front-held : (i s : ℕ) → s < i → Held (front i) s (frame s)
-front-held zero s l = absurd (omega arith)
-front-held (suc i) s l =
-    ap (λ (P : Program). getD P s none) (front-more i) ∙ ⊎-elim
+front-page : (i s : ℕ) → s < i → getD (front i) s none ≡ some (new-page (frame s))
+front-page zero s l = absurd (omega arith)
+front-page (suc i) s l =
+    ap (λ (B : Pages). getD B s none) (front-more i) ∙ ⊎-elim
     (λ (k : i ≤ s). (
     let e : i ≡ s = omega arith in
-    getD-at (front i) (some (frame i)) [] none s (front-length i ∙ e) ∙ ap (λ (z : ℕ). some (frame z)) e))
+    getD-at (front i) (some (new-page (frame i))) [] none s (front-length i ∙ e)
+    ∙ ap (λ (z : ℕ). some (new-page (frame z))) e))
     (λ (k : s < i).
-    List·getD-append (front i) (some (frame i) ∷ []) none s (omega (arith, front-length i)) ∙ front-held i s k)
+    List·getD-append (front i) (some (new-page (frame i)) ∷ []) none s (omega (arith, front-length i))
+    ∙ front-page i s k)
     (le-or-lt i s)
 
 -- The slots behind those are free.
@@ -96,38 +103,10 @@ stage-length i l =
       arith,
       length-append (front i) (replicate (document .slots - i) none),
       front-length i,
-      length-replicate {A = Option Rule} (document .slots - i) none,
+      length-replicate {A = Option Page} (document .slots - i) none,
     ))
 
--- Slots below i hold their rules of the frame, any other is free; so the lowest free one is slot i.
-
-pub stage-held : (i s : ℕ) → s < i → Held (stage i) s (frame s)
-stage-held i s l =
-    ap (λ (P : Program). getD P s none) (stage-split i)
-    ∙ List·getD-append (front i) (replicate (document .slots - i) none) none s (omega (arith, front-length i))
-    ∙ front-held i s l
-
-pub stage-free : (i s : ℕ) → i ≤ s → getD (stage i) s none ≡ none
-stage-free i s l =
-    let e : s ≡ length (front i) + (s - i) = omega (arith, front-length i) in
-    let free : Program = replicate (document .slots - i) none in
-    ap (λ (P : Program). getD P s none) (stage-split i)
-    ∙ ap (λ (k : ℕ). getD (front i ++ free) k none) e
-    ∙ getD-append-add (front i) free (s - i) none
-    ∙ all-alike (document .slots - i) (s - i) none
-
-pub stage-rule : (i s : ℕ) (r : Rule) → Held (stage i) s r → (s < i) × (r ≡ frame s)
-stage-rule i s r h = ⊎-elim
-    (λ (l : i ≤ s). absurd (Option·none-ne-some r (sym (stage-free i s l) ∙ h)))
-    (λ (l : s < i). (l, held-unique (stage i) s r (frame s) h (stage-held i s l)))
-    (le-or-lt i s)
-
-pub stage-lowest : (i : ℕ) → i < document .slots → lowest-free (stage i) ≡ some i
-stage-lowest i l =
-    lowest-free-of (stage i) i (omega (arith, stage-length i (omega arith))) (stage-free i i (omega arith))
-    (λ t k. (frame t, stage-held i t k))
-
--- The frame's rule of slot i is kept as it is; with it, one rule more stands.
+-- The frame's rule of slot i is kept as it is.
 
 frame-ascending : (i : ℕ) → Ascending (frame i)
 frame-ascending zero = record { positives = tt; negatives = tt }
@@ -139,23 +118,58 @@ frame-ascending (suc i) = record {
 pub frame-kept : (i : ℕ) → kept (frame i) ≡ frame i
 frame-kept i = ascending-kept (frame i) (frame-ascending i)
 
-pub stage-set : (i : ℕ) → i < document .slots → set (stage i) i (some (frame i)) ≡ stage (suc i)
+-- Slots below i hold their rules of the frame, unmuted, any other is free; so the lowest free one is slot i.
+
+stage-page : (i s : ℕ) → s < i → getD (stage i) s none ≡ some (new-page (frame s))
+stage-page i s l =
+    ap (λ (B : Pages). getD B s none) (stage-split i)
+    ∙ List·getD-append (front i) (replicate (document .slots - i) none) none s (omega (arith, front-length i))
+    ∙ front-page i s l
+
+stage-free : (i s : ℕ) → i ≤ s → getD (stage i) s none ≡ none
+stage-free i s l =
+    let e : s ≡ length (front i) + (s - i) = omega (arith, front-length i) in
+    let free : Pages = replicate (document .slots - i) none in
+    ap (λ (B : Pages). getD B s none) (stage-split i)
+    ∙ ap (λ (k : ℕ). getD (front i ++ free) k none) e
+    ∙ getD-append-add (front i) free (s - i) none
+    ∙ all-alike (document .slots - i) (s - i) none
+
+pub stage-held : (i s : ℕ) → s < i → Held (all (stage i)) s (frame s)
+stage-held i s l = held-page (stage i) s (new-page (frame s)) (stage-page i s l) ∙ ap some (frame-kept s)
+
+none-held : (i s : ℕ) → i ≤ s → getD (all (stage i)) s none ≡ none
+none-held i s l = all-at (stage i) s ∙ ap rule-on (stage-free i s l)
+
+pub stage-rule : (i s : ℕ) (r : Rule) → Held (all (stage i)) s r → (s < i) × (r ≡ frame s)
+stage-rule i s r h = ⊎-elim
+    (λ (l : i ≤ s). absurd (Option·none-ne-some r (sym (none-held i s l) ∙ h)))
+    (λ (l : s < i). (l, held-unique (all (stage i)) s r (frame s) h (stage-held i s l)))
+    (le-or-lt i s)
+
+pub stage-lowest : (i : ℕ) → i < document .slots → lowest-free (all (stage i)) ≡ some i
+stage-lowest i l =
+    lowest-free-of (all (stage i)) i (omega (arith, all-length (stage i), stage-length i (omega arith)))
+    (none-held i i (omega arith)) (λ t k. (frame t, stage-held i t k))
+
+-- With the frame's rule of slot i, one rule more stands.
+
+pub stage-set : (i : ℕ) → i < document .slots → set (stage i) i (some (new-page (frame i))) ≡ stage (suc i)
 stage-set i l =
     let k = document .slots - suc i in
     let e : document .slots - i ≡ suc k = omega arith in
-    let free : Program = replicate k none in
-    ap (λ (P : Program). set P i (some (frame i)))
+    let free : Pages = replicate k none in
+    ap (λ (B : Pages). set B i (some (new-page (frame i))))
     (stage-split i ∙ ap (λ (m : ℕ). front i ++ replicate m none) e)
-    ∙ set-at (front i) none free (some (frame i)) i (front-length i)
-    ∙ sym (append-snoc (front i) (some (frame i)) free)
-    ∙ ap (λ (P : Program). P ++ free) (sym (front-more i))
+    ∙ set-at (front i) none free (some (new-page (frame i))) i (front-length i)
+    ∙ sym (append-snoc (front i) (some (new-page (frame i))) free)
+    ∙ ap (λ (B : Pages). B ++ free) (sym (front-more i))
     ∙ sym (stage-split (suc i))
 
-pub stage-added : (i : ℕ) → i < document .slots → with-added (stage i) (frame i) ≡ stage (suc i)
+pub stage-added : (i : ℕ) → i < document .slots → with-added (all (stage i)) (frame i) ≡ all (stage (suc i))
 stage-added i l =
-    ap (λ (o : Option ℕ). put-in (stage i) o (kept (frame i))) (stage-lowest i l)
-    ∙ ap (λ (r : Rule). set (stage i) i (some r)) (frame-kept i)
-    ∙ stage-set i l
+    ap (λ (o : Option ℕ). put-in (all (stage i)) o (kept (frame i))) (stage-lowest i l)
+    ∙ sym (all-set (stage i) i (some (new-page (frame i)))) ∙ ap all (stage-set i l)
 
 -- A checklist just opened is one, and no mark stands in it.
 module _ (n : ℕ) (low : 1 ≤ n) (high : n ≤ most-files) where
@@ -163,13 +177,17 @@ module _ (n : ℕ) (low : 1 ≤ n) (high : n ≤ most-files) where
   opened-checklist = record {
     low = low;
     high = high;
+    unmuted = unmuted-of (opened document n) (λ s. ⊎-elim
+        (λ (l : suc n ≤ s). ap unmuted-on (stage-free (suc n) s l))
+        (λ (l : s < suc n). ap unmuted-on (stage-page (suc n) s l))
+        (le-or-lt (suc n) s));
     frames = λ s l. stage-held (suc n) s (omega arith);
     others = λ s r l h. absurd (omega (arith, stage-rule (suc n) s r h .0));
   }
 
   pub opened-unmarked : (a : ℕ) → is-mark n a ≡ true → marked (opened document n) a ≡ false
   opened-unmarked a m = unless _ (λ t. (
-      let w = marked-at (opened document n) a t in
+      let w = marked-at (all (opened document n)) a t in
       omega (
         arith,
         mark-behind (opened document n) n opened-checklist a (w .0) m (w .1),
@@ -177,8 +195,8 @@ module _ (n : ℕ) (low : 1 ≤ n) (high : n ≤ most-files) where
       )))
 
 -- No loop goes through a negation: slot 0 alone holds a fact, and with more rules it is a checklist.
-stage-stratified : (i : ℕ) → i ≤ most-files → stratified (stage (suc i)) ≡ true
-stage-stratified zero l = stratified-iff (stage 1) .1 (descending-acyclic (stage 1) (λ s r h x m. (
+stage-stratified : (i : ℕ) → i ≤ most-files → stratified (all (stage (suc i))) ≡ true
+stage-stratified zero l = stratified-iff (all (stage 1)) .1 (descending-acyclic (all (stage 1)) (λ s r h x m. (
     let w = stage-rule 1 s r h in
     let z : s ≡ 0 = omega (arith, w .0) in
     absurd (List·Memᴰ·not-nil (subst (λ (q : Rule). x ∈ entries q) (w .1 ∙ ap frame z) m)))))
@@ -186,9 +204,9 @@ stage-stratified (suc i) l =
     checklist-stratified (stage (suc (suc i))) (suc i) (opened-checklist (suc i) (omega arith) l)
 
 -- Another rule of the frame has another head.
-stage-new : (i : ℕ) → any-rule (same (frame i)) (stage i) ≡ false
+stage-new : (i : ℕ) → any-rule (same (frame i)) (all (stage i)) ≡ false
 stage-new i = unless _ (λ t. (
-    let w = any-rule-at (same (frame i)) (stage i) t in
+    let w = any-rule-at (same (frame i)) (all (stage i)) t in
     let k = stage-rule i (w .0) (w .1) (w .2) in
     let e = sym (frame-head i) ∙ same-iff (frame i) (w .1) .0 (w .3) .heads ∙ ap (λ (r : Rule). r .head) (k .1)
     ∙ frame-head (w .0) in
@@ -209,7 +227,7 @@ frame-bounded (suc i) l =
     (and-of _ _ (lt-ltb (skipped (suc i)) (document .atoms) (omega arith)) refl))
 
 -- So each rule of the frame is answered yes to every question, when those before it stand.
-pub frame-asked : (i : ℕ) → i ≤ most-files → first-no (add-questions document (stage i) (frame i)) ≡ none
+pub frame-asked : (i : ℕ) → i ≤ most-files → first-no (add-questions document (all (stage i)) (frame i)) ≡ none
 frame-asked i l =
     let a = frame-ascending i in
     let k : i < document .slots = omega arith in
@@ -229,14 +247,14 @@ pub stage-next :
 stage-next t u i x l S h (unsound n) = absurd (n S)
 stage-next t u i x l S h (refused f T e) =
     absurd (Option·none-ne-some _
-    (sym (frame-asked i l) ∙ ap (λ (P : Program). first-no (add-questions document P (frame i))) (sym h) ∙ e))
+    (sym (frame-asked i l) ∙ ap (λ (B : Pages). first-no (add-questions document (all B) (frame i))) (sym h) ∙ e))
 stage-next t u i x l S h (accepted s w T e low Z now W) =
     let k : i < document .slots = omega arith in
-    let d : s .0 ≡ i = Option·some-injective _ _ (sym low ∙ ap lowest-free h ∙ stage-lowest i k) in
+    let first = sym low ∙ ap (λ (B : Pages). lowest-free (all B)) h ∙ stage-lowest i k in
+    let d : s .0 ≡ i = Option·some-injective _ _ first in
     record {
       sized = Z;
-      holds = now ∙ ap₂ (λ (P : Program) (j : ℕ). set P j (some (kept (frame i)))) h d
-          ∙ ap (λ (r : Rule). set (stage i) i (some r)) (frame-kept i) ∙ stage-set i k;
+      holds = now ∙ ap₂ (λ (B : Pages) (j : ℕ). set B j (some (new-page (frame i)))) h d ∙ stage-set i k;
       sound = W;
     }
 
@@ -249,7 +267,7 @@ pub record Staged (i : ℕ) (t : Table) : Type 0 where
 pub staged-empty : (t : Table) → t ≡ emptyTable → Staged 0 t
 staged-empty t e = subst (Staged 0) (sym e) (record {
   sound = empty-sound;
-  holds = free-program (document .slots);
+  holds = free-book (document .slots);
   sized = λ l. absurd (omega arith);
 })
 

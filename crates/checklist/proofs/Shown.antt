@@ -1,5 +1,5 @@
 -- Of any table, however it came about: the list of files is empty exactly if complete is in; and a table that is no
--- checklist meets 15, whichever call it is handed to, and nothing changes. Assumes nothing.
+-- checklist, as one with a muted rule, meets 15, whichever call it is handed to, and nothing changes. Assumes nothing.
 use Prim.Native.Nat.{ℕ, _≤_}
 use native.Mathlib.Omega.{arith}
 use mathlib.Core.Path.{_≡_, refl, sym, _∙_, ap, subst}
@@ -7,13 +7,14 @@ use mathlib.Core.Logic.{_↔_}
 use mathlib.Core.Bool.{Bool, true, false, true≢false}
 use mathlib.Core.List.{List, [], _∷_, _++_, List·Memᴰ·head, List·Memᴰ·not-nil}
 use mathlib.Core.Option.{Option, none, some, Option·some-injective, Option·none-ne-some}
-use lib.ListN.{length, drop}
+use lib.ListN.{length, getD, drop}
 use Rattle.theory.specs.Lists.{_∈_, Lists}
-use Rattle.theory.specs.Rules.{Program}
+use Rattle.theory.specs.Rules.{Page, Pages, rule-on}
 use Rattle.theory.specs.Questions.{first-no, asks, is-some}
 use Rattle.theory.specs.Book.{empty}
 use Rattle.theory.specs.Limits.{document}
 use Rattle.theory.proofs.Lists.{clash, unless}
+use Rattle.theory.proofs.Pages.{all-at}
 use Rattle.theory.proofs.Questions.{first-no-yes, first-no-here, first-no-none}
 use Rattle.table.specs.declared.Table.{Table}
 use Rattle.table.specs.Sound.{Sound}
@@ -33,7 +34,7 @@ use Rattle.frame.specs.Frame.{good, frame, files-of}
 use Rattle.checklist.specs.Questions.{FileCall, on-list, checklist-questions, lacks}
 use Rattle.checklist.specs.Contracts as list
 use Rattle.checklist.specs.Contracts.{FileEnds, MissingEnds, CompleteEnds, tellComplete}
-use Rattle.frame.proofs.Frames.{checklist-of, no-files}
+use Rattle.frame.proofs.Frames.{checklist-of, no-files, muted-no-files}
 use Rattle.checklist.proofs.Ends.{listed-file, is-listed}
 use Rattle.checklist.proofs.Determined.{file-determined, missing-determined, complete-determined}
 use Rattle.checklist.proofs.Model.{Clear, lacks-iff, complete-iff}
@@ -43,29 +44,29 @@ abbrev Differ : Type 0
 Differ = _≡_ {A = ℕ} 0 1
 
 -- The list of files and complete, of any table: every file of the list is sent and has no skip standing.
-abbrev pub AllClear : Program → ℕ → Type 0
-AllClear P n = (i : ℕ) → 1 ≤ i → i ≤ n → Clear P i
+abbrev pub AllClear : Pages → ℕ → Type 0
+AllClear B n = (i : ℕ) → 1 ≤ i → i ≤ n → Clear B i
 
 some-of : (o : Option ℕ) → is-some o ≡ true → (n : ℕ) × (o ≡ some n)
 some-of none t = absurd (true≢false (sym t))
 some-of (some n) t = (n, refl)
 
-list-asked : (P : Program) (n : ℕ) → files-of P ≡ some n → first-no (checklist-questions P) ≡ none
+list-asked : (B : Pages) (n : ℕ) → files-of B ≡ some n → first-no (checklist-questions B) ≡ none
 unfolding first-no
-list-asked P n e = first-no-yes (asks 15 (is-some (files-of P))) [] (ap is-some e)
+list-asked B n e = first-no-yes (asks 15 (is-some (files-of B))) [] (ap is-some e)
 
 -- The files that the list has.
-abbrev pub Missing : Program → ℕ → Type 0
-Missing P i = (on-list (files-of P) i ≡ true) × (lacks P i ≡ true)
+abbrev pub Missing : Pages → ℕ → Type 0
+Missing B i = (on-list (files-of B) i ≡ true) × (lacks B i ≡ true)
 
-missing-none : (P : Program) (n : ℕ) → files-of P ≡ some n → AllClear P n → (i : ℕ) → Missing P i → ⊥
-missing-none P n e f i m =
+missing-none : (B : Pages) (n : ℕ) → files-of B ≡ some n → AllClear B n → (i : ℕ) → Missing B i → ⊥
+missing-none B n e f i m =
     let l = listed-file n i (ap (λ (o : Option ℕ). on-list o i) (sym e) ∙ m .0) in
-    clash (m .1) (lacks-iff P i .1 (f i (l .0) (l .1)))
+    clash (m .1) (lacks-iff B i .1 (f i (l .0) (l .1)))
 
-none-missing : (P : Program) (n : ℕ) → files-of P ≡ some n → ((i : ℕ) → Missing P i → ⊥) → AllClear P n
-none-missing P n e f i l h = lacks-iff P i .0
-    (unless (lacks P i) (λ t. f i (ap (λ (o : Option ℕ). on-list o i) e ∙ is-listed n i l h, t)))
+none-missing : (B : Pages) (n : ℕ) → files-of B ≡ some n → ((i : ℕ) → Missing B i → ⊥) → AllClear B n
+none-missing B n e f i l h = lacks-iff B i .0
+    (unless (lacks B i) (λ t. f i (ap (λ (o : Option ℕ). on-list o i) e ∙ is-listed n i l h, t)))
 
 no-entries : (is : List ℕ) (Q : ℕ → Type 0) → Lists is Q → ((i : ℕ) → Q i → ⊥) → is ≡ []
 no-entries [] Q L f = refl
@@ -175,7 +176,28 @@ module _ (t : Table) (none-there : Sound t → files-of (held t) ≡ none) where
   no-checklist-list before x after (contract.accepted M is S a A L l) =
       absurd (Option·none-ne-some 15 (sym a ∙ first-no-here (asks 15 _) [] (ap is-some (none-there S))))
 
+-- So each call of a checklist meets 15.
+pub record Meets15 (t : Table) : Type 0 where
+  pub file :
+      (c : FileCall) (x : ChangeAnswer) (u : Table) → FileEnds t c x u → (x ≡ change.Refused Unsound) × (u ≡ t)
+  pub complete : (x : CompleteAnswer) → CompleteEnds t x → x ≡ told.Refused Unsound
+  pub list :
+      (before : List ℕ) (x : ListAnswer) (after : List ℕ) → MissingEnds t before x after
+      → (x ≡ listed.Refused Unsound) × (after ≡ before)
+
+-- A checklist with a muted rule is none (request #108): where a rule of the table is muted, each call meets 15.
+pub muted-no-checklist :
+    (t : Table) (s : ℕ) (p : Page) → getD (held t) s none ≡ some p → p .muted ≡ true → Meets15 t
+muted-no-checklist t s p e m =
+    let none-there : Sound t → files-of (held t) ≡ none = λ S. muted-no-files (held t) s p e m in
+    record {
+      file = no-checklist-file t none-there;
+      complete = no-checklist-complete t none-there;
+      list = no-checklist-list t none-there;
+    }
+
 -- The empty table is no checklist: it has no frame.
 pub empty-no-files : files-of (empty document) ≡ none
 empty-no-files = no-files (empty document)
-    (λ n C. Option·none-ne-some (frame 0) (sym (all-alike (document .slots) 0 none) ∙ C .frames 0 (omega arith)))
+    (λ n C. Option·none-ne-some (frame 0) (sym (all-at (empty document) 0
+    ∙ ap rule-on (all-alike (document .slots) 0 none)) ∙ C .frames 0 (omega arith)))

@@ -6,6 +6,7 @@ use mathlib.Core.Bool.{Bool, true, false}
 use mathlib.Core.List.{List}
 use mathlib.Core.Option.{none, some}
 use Rattle.theory.specs.Lists.{Lists}
+use Rattle.theory.specs.Rules.{active}
 use Rattle.theory.specs.Models.{AtomSet, Admissible}
 use Rattle.theory.specs.Questions.{first-no}
 use Rattle.theory.specs.Limits.{document}
@@ -34,8 +35,8 @@ pub data OpenEnds (n : ℕ) : ChangeAnswer → Table → Type 0 where
       (u : Table) → first-no (open-questions n) ≡ none → Sized u → held u ≡ opened document n → Sound u
       → OpenEnds n change.Accepted u
 
--- File sent, file skipped, skip withdrawn: 15, 20, 22. A table that is not sound, or else is no checklist, is refused
--- by 15 alike.
+-- File sent, file skipped, skip withdrawn: 15, 20, 22. A table that is not sound, or else is no checklist, as where a
+-- rule is muted, is refused by 15 alike.
 pub data FileEnds (t : Table) (c : FileCall) : ChangeAnswer → Table → Type 0 where
   unsound : (Sound t → files-of (held t) ≡ none) → FileEnds t c (change.Refused Unsound) t
   refused :
@@ -59,5 +60,5 @@ tellComplete false = told.Incomplete
 pub data CompleteEnds (t : Table) : CompleteAnswer → Type 0 where
   unsound : (Sound t → files-of (held t) ≡ none) → CompleteEnds t (told.Refused Unsound)
   accepted :
-      (M : AtomSet) (n : ℕ) → Sound t → files-of (held t) ≡ some n → Admissible (held t) M
+      (M : AtomSet) (n : ℕ) → Sound t → files-of (held t) ≡ some n → Admissible (active (held t)) M
       → CompleteEnds t (tellComplete (M (good n)))

@@ -1,10 +1,10 @@
--- The calls on a checklist, and the questions that they ask of the rules, by number. Assumes nothing.
+-- The calls on a checklist, and the questions that they ask of the pages, by number. Assumes nothing.
 use Prim.Native.Nat.{ℕ}
 use mathlib.Core.Bool.{Bool, false, not, _&&_, _||_}
 use mathlib.Core.List.{List, [], _∷_}
 use mathlib.Core.Option.{Option, none, some}
 use lib.Dec.{leb}
-use Rattle.theory.specs.Rules.{Program}
+use Rattle.theory.specs.Rules.{Pages}
 use Rattle.theory.specs.Questions.{Question, asks, is-some}
 use Rattle.frame.specs.Frame.{most-files, sent, skipped, files-of, marked}
 
@@ -25,26 +25,26 @@ on-list none i = false
 on-list (some n) i = leb 1 i && leb i n
 
 -- Sending and skipping ask that this mark does not stand already, withdrawing that it does.
-abbrev pub allowed : Program → FileCall → Bool
-allowed P (file-sent i) = not (marked P (sent i))
-allowed P (file-skipped i) = not (marked P (skipped i))
-allowed P (skip-withdrawn i) = marked P (skipped i)
+abbrev pub allowed : Pages → FileCall → Bool
+allowed B (file-sent i) = not (marked B (sent i))
+allowed B (file-skipped i) = not (marked B (skipped i))
+allowed B (skip-withdrawn i) = marked B (skipped i)
 
--- Every call on a checklist. 15: Are the rules those that the marks of 1 to 60 files give?  (A table is asked before
--- whether it is sound: see the contracts.)
-abbrev pub checklist-questions : Program → List Question
-checklist-questions P = asks 15 (is-some (files-of P)) ∷ []
+-- Every call on a checklist. 15: Are the rules those that the marks of 1 to 60 files give, and is none muted?  (A table
+-- is asked before whether it is sound: see the contracts.)
+abbrev pub checklist-questions : Pages → List Question
+checklist-questions B = asks 15 (is-some (files-of B)) ∷ []
 
 -- File sent, file skipped, skip withdrawn: 15, then 20: Is the file on the list?  22: Is the mark not there yet, or,
 -- where it is withdrawn, is it there?
-abbrev pub mark-questions : Program → FileCall → List Question
-mark-questions P c =
-    asks 15 (is-some (files-of P)) ∷ asks 20 (on-list (files-of P) (file c)) ∷ asks 22 (allowed P c) ∷ []
+abbrev pub mark-questions : Pages → FileCall → List Question
+mark-questions B c =
+    asks 15 (is-some (files-of B)) ∷ asks 20 (on-list (files-of B) (file c)) ∷ asks 22 (allowed B c) ∷ []
 
 -- Opening. 21: Are there 1 to 60 files?
 abbrev pub open-questions : ℕ → List Question
 open-questions n = asks 21 (leb 1 n && leb n most-files) ∷ []
 
 -- Is the file unsent, or does a skip of it stand?
-abbrev pub lacks : Program → ℕ → Bool
-lacks P i = not (marked P (sent i)) || marked P (skipped i)
+abbrev pub lacks : Pages → ℕ → Bool
+lacks B i = not (marked B (sent i)) || marked B (skipped i)

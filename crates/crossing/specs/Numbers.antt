@@ -36,9 +36,10 @@ crossedLabel label.Out = record { refused = 0; state = 1; depth = 0; slot = 0 }
 crossedLabel (label.In d s) = record { refused = 0; state = 2; depth = d; slot = s .0 }
 crossedLabel (label.Refused f) = record { refused = numberOf f; state = 0; depth = 0; slot = 0 }
 
--- 1 says that the rule needs a positive entry, 2 that it is blocked by a negative one.
+-- 1 says that the rule needs a positive entry, 2 that it is blocked by a negative one, 3 that it is muted.
 abbrev pub crossedSpoiler : SpoilerAnswer → RuleSpoiler
 crossedSpoiler spoilt.Valid = record { refused = 0; spoiled = 0; place = 0; atom = 0 }
+crossedSpoiler spoilt.Muted = record { refused = 0; spoiled = 3; place = 0; atom = 0 }
 crossedSpoiler (spoilt.Positive i a) = record { refused = 0; spoiled = 1; place = i; atom = a .0 }
 crossedSpoiler (spoilt.Negative i a) = record { refused = 0; spoiled = 2; place = i; atom = a .0 }
 crossedSpoiler (spoilt.Refused f) = record { refused = numberOf f; spoiled = 0; place = 0; atom = 0 }

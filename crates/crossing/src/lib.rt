@@ -31,7 +31,8 @@ pub struct AtomLabel {
 }
 
 // `spoiled` is 0 for a valid rule, 1 if the rule needs a positive entry that is out, 2 if it is blocked by a negative
-// entry that is in. `atom` is that entry, `place` where it stands in its list, which ascends, from 0.
+// entry that is in, 3 if it is muted. `atom` is that entry, `place` where it stands in its list, which ascends, from 0;
+// both are 0 where there is none.
 #[repr(C)]
 pub struct RuleSpoiler {
     pub refused: u32,
@@ -158,6 +159,12 @@ pub fn crossed_spoiler(answer: SpoilerAnswer) -> RuleSpoiler
         SpoilerAnswer::Valid => RuleSpoiler {
             refused: 0,
             spoiled: 0,
+            place: 0,
+            atom: 0,
+        },
+        SpoilerAnswer::Muted => RuleSpoiler {
+            refused: 0,
+            spoiled: 3,
             place: 0,
             atom: 0,
         },

@@ -3,14 +3,14 @@
 use Prim.Native.Nat.{ℕ, _≤_}
 use native.Mathlib.Omega.{arith}
 use mathlib.Core.Path.{_≡_, refl, sym, _∙_, ap, ap₂, subst}
-use mathlib.Core.Logic.{_⊎_, inl, inr, ⊎-elim, _↔_}
+use mathlib.Core.Logic.{inl, inr, ⊎-elim, _↔_}
 use mathlib.Core.Bool.{Bool, true, false, not, _&&_, _||_}
 use mathlib.Core.List.{List, [], _∷_, _++_, map}
 use mathlib.Core.Option.{Option, none, some, Option·some-injective, Option·none-ne-some}
 use lib.Dec.{eqb, leb}
 use lib.ListN.{length, drop}
 use Rattle.theory.specs.Lists.{Lists}
-use Rattle.theory.specs.Rules.{Program}
+use Rattle.theory.specs.Rules.{Pages, all}
 use Rattle.theory.specs.Questions.{first-no, asks, is-some}
 use Rattle.theory.specs.Book.{Answer, refused, accepted}
 use Rattle.theory.specs.Limits.{document}
@@ -43,7 +43,7 @@ use Rattle.checklist.proofs.Shown.{AllClear, Missing, counted, count-clear, cle
 use Rattle.checklist.proofs.Shown.{complete-clear, clear-complete, no-checklist-file, empty-no-files}
 use Rattle.checklist.proofs.Opened.{opened-checklist, opened-unmarked}
 use Rattle.history.specs.Calls.{Call, checklist, callsAnswers, callsAfter}
-use Rattle.history.specs.Claim.{Step, adds, removes, replaces, loads, opens, marks, Trace, stop, call}
+use Rattle.history.specs.Claim.{Step, adds, removes, replaces, mutes, loads, opens, marks, Trace, stop, call}
 use Rattle.deposits.specs.Deposits.{file-calls, deposit-calls, NoneMissing, MissingFile, Deposit}
 use Rattle.history.proofs.Sequence.{step-follows, trace-agrees, empty-held}
 
@@ -66,59 +66,59 @@ skipped-sent : (i j : ℕ) → 1 ≤ i → 1 ≤ j → eqb (skipped j) (sent i) 
 skipped-sent i j l k = eqb-not (skipped j) (sent i) (λ e. omega arith)
 
 -- A call on a file that is accepted leaves a checklist of as many files, and changes the marks as its words say.
-record Moved (P Q : Program) (n : ℕ) (c : FileCall) : Type 0 where
-  pub list : Checklist Q n
-  pub sends : (i : ℕ) → 1 ≤ i → i ≤ n → marked Q (sent i) ≡ sent-by i c (marked P (sent i))
-  pub skips : (i : ℕ) → 1 ≤ i → i ≤ n → marked Q (skipped i) ≡ standing-by i c (marked P (skipped i))
+record Moved (B D : Pages) (n : ℕ) (c : FileCall) : Type 0 where
+  pub list : Checklist D n
+  pub sends : (i : ℕ) → 1 ≤ i → i ≤ n → marked D (sent i) ≡ sent-by i c (marked B (sent i))
+  pub skips : (i : ℕ) → 1 ≤ i → i ≤ n → marked D (skipped i) ≡ standing-by i c (marked B (skipped i))
 
 moved :
-    (P : Program) (n : ℕ) → Checklist P n → Single P → length P ≡ document .slots → (c : FileCall) → 1 ≤ file c
-    → file c ≤ n → allowed P c ≡ true → Moved P (marks-changed P c) n c
-moved P n C S size (file-sent j) l h a =
-    let w = free-slot P n C S size in
-    let added = added-marked P (w .0) (sent j) (w .1) in
+    (B : Pages) (n : ℕ) → Checklist B n → Single (all B) → length B ≡ document .slots → (c : FileCall) → 1 ≤ file c
+    → file c ≤ n → allowed B c ≡ true → Moved B (marks-changed B c) n c
+moved B n C S size (file-sent j) l h a =
+    let w = free-slot B n C S size in
+    let added = added-marked B (w .0) (sent j) (w .1) in
     record {
-      list = added-checklist P (w .0) (sent j) (w .1) n C (sent-mark n j l h);
-      sends = λ i k m. added (sent i) ∙ ap (λ (b : Bool). b || marked P (sent i)) (sent-same i j k l);
-      skips = λ i k m. added (skipped i) ∙ ap (λ (b : Bool). b || marked P (skipped i)) (sent-skipped i j k l);
+      list = added-checklist B (w .0) (sent j) (w .1) n C (sent-mark n j l h);
+      sends = λ i k m. added (sent i) ∙ ap (λ (b : Bool). b || marked B (sent i)) (sent-same i j k l);
+      skips = λ i k m. added (skipped i) ∙ ap (λ (b : Bool). b || marked B (skipped i)) (sent-skipped i j k l);
     }
-moved P n C S size (file-skipped j) l h a =
-    let w = free-slot P n C S size in
-    let added = added-marked P (w .0) (skipped j) (w .1) in
+moved B n C S size (file-skipped j) l h a =
+    let w = free-slot B n C S size in
+    let added = added-marked B (w .0) (skipped j) (w .1) in
     record {
-      list = added-checklist P (w .0) (skipped j) (w .1) n C (skipped-mark n j l h);
-      sends = λ i k m. added (sent i) ∙ ap (λ (b : Bool). b || marked P (sent i)) (skipped-sent i j k l);
-      skips = λ i k m. added (skipped i) ∙ ap (λ (b : Bool). b || marked P (skipped i)) (skipped-same i j k l);
+      list = added-checklist B (w .0) (skipped j) (w .1) n C (skipped-mark n j l h);
+      sends = λ i k m. added (sent i) ∙ ap (λ (b : Bool). b || marked B (sent i)) (skipped-sent i j k l);
+      skips = λ i k m. added (skipped i) ∙ ap (λ (b : Bool). b || marked B (skipped i)) (skipped-same i j k l);
     }
-moved P n C S size (skip-withdrawn j) l h a =
-    let removed = removed-marked P S (skipped j) a in
+moved B n C S size (skip-withdrawn j) l h a =
+    let removed = removed-marked B S (skipped j) a in
     record {
-      list = removed-checklist P S (skipped j) a n C (skipped-mark n j l h);
-      sends = λ i k m. removed (sent i) ∙ ap (λ (b : Bool). not b && marked P (sent i)) (skipped-sent i j k l);
-      skips = λ i k m. removed (skipped i) ∙ ap (λ (b : Bool). not b && marked P (skipped i)) (skipped-same i j k l);
+      list = removed-checklist B S (skipped j) a n C (skipped-mark n j l h);
+      sends = λ i k m. removed (sent i) ∙ ap (λ (b : Bool). not b && marked B (sent i)) (skipped-sent i j k l);
+      skips = λ i k m. removed (skipped i) ∙ ap (λ (b : Bool). not b && marked B (skipped i)) (skipped-same i j k l);
     }
 
 -- What the questions of a call on a file say where all are answered yes.
 asked-file :
-    (P : Program) (n : ℕ) (c : FileCall) → files-of P ≡ some n → first-no (mark-questions P c) ≡ none
-    → (1 ≤ file c) × (file c ≤ n) × (allowed P c ≡ true)
-asked-file P n c f e =
-    let a = first-no-none (asks 15 (is-some (files-of P))) _ e in
-    let b = first-no-none (asks 20 (on-list (files-of P) (file c))) _ (a .1) in
-    let d = first-no-none (asks 22 (allowed P c)) [] (b .1) in
+    (B : Pages) (n : ℕ) (c : FileCall) → files-of B ≡ some n → first-no (mark-questions B c) ≡ none
+    → (1 ≤ file c) × (file c ≤ n) × (allowed B c ≡ true)
+asked-file B n c f e =
+    let a = first-no-none (asks 15 (is-some (files-of B))) _ e in
+    let b = first-no-none (asks 20 (on-list (files-of B) (file c))) _ (a .1) in
+    let d = first-no-none (asks 22 (allowed B c)) [] (b .1) in
     let o : on-list (some n) (file c) ≡ true = ap (λ (k : Option ℕ). on-list k (file c)) (sym f) ∙ b .0 in
     (leb-le 1 (file c) (and-l (leb 1 (file c)) _ o), leb-le (file c) n (and-r (leb 1 (file c)) _ o), d .0)
 
 -- One call on a file, by its answer: one that was refused changes nothing.
-record Marked (P Q : Program) (n : ℕ) (c : FileCall) (x : Answer) : Type 0 where
-  pub list : Checklist Q n
+record Marked (B D : Pages) (n : ℕ) (c : FileCall) (x : Answer) : Type 0 where
+  pub list : Checklist D n
   pub sends :
       (i : ℕ) → 1 ≤ i → i ≤ n
-      → marked Q (sent i) ≡ unless-refused (was-accepted x) (sent-by i c (marked P (sent i))) (marked P (sent i))
+      → marked D (sent i) ≡ unless-refused (was-accepted x) (sent-by i c (marked B (sent i))) (marked B (sent i))
   pub skips :
       (i : ℕ) → 1 ≤ i → i ≤ n
-      → marked Q (skipped i)
-      ≡ unless-refused (was-accepted x) (standing-by i c (marked P (skipped i))) (marked P (skipped i))
+      → marked D (skipped i)
+      ≡ unless-refused (was-accepted x) (standing-by i c (marked B (skipped i))) (marked B (skipped i))
 
 file-marked :
     (n : ℕ) {t u : Table} (c : FileCall) {y : ChangeAnswer} → Sound t → Checklist (held t) n → FileEnds t c y u
@@ -128,7 +128,7 @@ file-marked n {t} c S C (list.unsound f) =
 file-marked n c S C (list.refused f T e) = record { list = C; sends = λ i l h. refl; skips = λ i l h. refl }
 file-marked n {t} c S C (list.accepted u T e Z h U) =
     let a = asked-file (held t) n c (of-checklist (held t) n C) e in
-    let m = subst (λ (Q : Program). Moved (held t) Q n c) (sym h)
+    let m = subst (λ (D : Pages). Moved (held t) D n c) (sym h)
     (moved (held t) n C (S .labels .single) (S .labels .slots) c (a .0) (a .1) (a .2)) in
     record { list = m .list; sends = m .sends; skips = m .skips }
 
@@ -143,6 +143,7 @@ file-step :
 file-step c e (adds E) = (let z : Differ = cc in absurd (omega arith))
 file-step c e (removes E) = (let z : Differ = cc in absurd (omega arith))
 file-step c e (replaces E) = (let z : Differ = cc in absurd (omega arith))
+file-step c e (mutes E) = (let z : Differ = cc in absurd (omega arith))
 file-step c e (loads E) = (let z : Differ = cc in absurd (omega arith))
 file-step c e (opens E) = (let z : Differ = cc in absurd (omega arith))
 file-step {t} {u} c e (marks {c = d} {x = y} E) =
@@ -155,6 +156,7 @@ opening-step :
 opening-step n e (adds E) = (let z : Differ = cc in absurd (omega arith))
 opening-step n e (removes E) = (let z : Differ = cc in absurd (omega arith))
 opening-step n e (replaces E) = (let z : Differ = cc in absurd (omega arith))
+opening-step n e (mutes E) = (let z : Differ = cc in absurd (omega arith))
 opening-step n e (loads E) = (let z : Differ = cc in absurd (omega arith))
 opening-step {u = u} n e (opens {n = m} {x = y} E) =
     let q : m ≡ n = cc in
@@ -179,15 +181,15 @@ open-step n e a S =
     open-accepted n (sym (w .1) ∙ a) (w .2)
 
 -- A list of calls on files, by induction on the list.
-record Stands (P Q : Program) (n : ℕ) (cs : List FileCall) (xs : List Answer) : Type 0 where
-  pub list : Checklist Q n
-  pub sends : (i : ℕ) → 1 ≤ i → i ≤ n → marked Q (sent i) ≡ after-calls (sent-by i) (marked P (sent i)) cs xs
+record Stands (B D : Pages) (n : ℕ) (cs : List FileCall) (xs : List Answer) : Type 0 where
+  pub list : Checklist D n
+  pub sends : (i : ℕ) → 1 ≤ i → i ≤ n → marked D (sent i) ≡ after-calls (sent-by i) (marked B (sent i)) cs xs
   pub skips :
-      (i : ℕ) → 1 ≤ i → i ≤ n → marked Q (skipped i) ≡ after-calls (standing-by i) (marked P (skipped i)) cs xs
+      (i : ℕ) → 1 ≤ i → i ≤ n → marked D (skipped i) ≡ after-calls (standing-by i) (marked B (skipped i)) cs xs
 
 stands-more :
-    {P Q R : Program} {n : ℕ} {c : FileCall} {x : Answer} {cs : List FileCall} {xs : List Answer}
-    → Marked P Q n c x → Stands Q R n cs xs → Stands P R n (c ∷ cs) (x ∷ xs)
+    {B D E : Pages} {n : ℕ} {c : FileCall} {x : Answer} {cs : List FileCall} {xs : List Answer}
+    → Marked B D n c x → Stands D E n cs xs → Stands B E n (c ∷ cs) (x ∷ xs)
 unfolding after-calls
 stands-more {cs = cs} {xs = xs} m w = record {
   list = w .list;
@@ -211,19 +213,19 @@ trace-stands n (c ∷ cs) {t} e S C (call {u = v} {c = d} {x = x} {cs = ds} step
 
 -- Where marks stand as the calls and answers say, the words about files say the same.
 module _
-    (n : ℕ) (cs : List FileCall) (xs : List Answer) (P : Program)
-    (sends : (i : ℕ) → 1 ≤ i → i ≤ n → marked P (sent i) ≡ been-sent i cs xs)
-    (skips : (i : ℕ) → 1 ≤ i → i ≤ n → marked P (skipped i) ≡ skip-standing i cs xs) where
-  clear-none : AllClear P n ↔ NoneMissing n cs xs
+    (n : ℕ) (cs : List FileCall) (xs : List Answer) (B : Pages)
+    (sends : (i : ℕ) → 1 ≤ i → i ≤ n → marked B (sent i) ≡ been-sent i cs xs)
+    (skips : (i : ℕ) → 1 ≤ i → i ≤ n → marked B (skipped i) ≡ skip-standing i cs xs) where
+  clear-none : AllClear B n ↔ NoneMissing n cs xs
   clear-none = (
     λ f i l h. (let c = f i l h in (sym (sends i l h) ∙ c .0, sym (skips i l h) ∙ c .1)),
     λ f i l h. (let c = f i l h in (sends i l h ∙ c .0, skips i l h ∙ c .1)),
   )
 
-  missing-same : files-of P ≡ some n → (i : ℕ) → Missing P i ↔ MissingFile n cs xs i
+  missing-same : files-of B ≡ some n → (i : ℕ) → Missing B i ↔ MissingFile n cs xs i
   missing-same e i = (there, back)
     where
-      there : Missing P i → MissingFile n cs xs i
+      there : Missing B i → MissingFile n cs xs i
       there m =
           let w = listed-file n i (ap (λ (o : Option ℕ). on-list o i) (sym e) ∙ m .0) in
           let l = w .0 in
@@ -231,21 +233,21 @@ module _
             l,
             h,
             ⊎-elim
-                (λ (t : not (marked P (sent i)) ≡ true). inl (sym (sends i l h) ∙ not-true (marked P (sent i)) t))
-                (λ (t : marked P (skipped i) ≡ true). inr (sym (skips i l h) ∙ t))
-                (or-cases (not (marked P (sent i))) (marked P (skipped i)) (m .1)),
+                (λ (t : not (marked B (sent i)) ≡ true). inl (sym (sends i l h) ∙ not-true (marked B (sent i)) t))
+                (λ (t : marked B (skipped i) ≡ true). inr (sym (skips i l h) ∙ t))
+                (or-cases (not (marked B (sent i))) (marked B (skipped i)) (m .1)),
           )
 
-      back : MissingFile n cs xs i → Missing P i
+      back : MissingFile n cs xs i → Missing B i
       back m =
           let l = m .0 in
           let h = m .1 in (
             ap (λ (o : Option ℕ). on-list o i) e ∙ is-listed n i l h,
             ⊎-elim
                 (λ (t : been-sent i cs xs ≡ false).
-                or-l (not (marked P (sent i))) (marked P (skipped i)) (false-not _ (sends i l h ∙ t)))
+                or-l (not (marked B (sent i))) (marked B (skipped i)) (false-not _ (sends i l h ∙ t)))
                 (λ (t : skip-standing i cs xs ≡ true).
-                or-r (not (marked P (sent i))) (marked P (skipped i)) (skips i l h ∙ t))
+                or-r (not (marked B (sent i))) (marked B (skipped i)) (skips i l h ∙ t))
                 (m .2),
           )
 
@@ -322,9 +324,9 @@ deposit t n cs xs u T =
     let O = w .1 in
     let l = asked-files n (O .asked) in
     let C : Checklist (held v) n =
-    subst (λ (Q : Program). Checklist Q n) (sym (O .holds)) (opened-checklist n (l .0) (l .1)) in
+    subst (λ (D : Pages). Checklist D n) (sym (O .holds)) (opened-checklist n (l .0) (l .1)) in
     let none-yet : (a : ℕ) → is-mark n a ≡ true → marked (held v) a ≡ false =
-    λ a m. ap (λ (Q : Program). marked Q a) (O .holds) ∙ opened-unmarked n (l .0) (l .1) a m in
+    λ a m. ap (λ (D : Pages). marked D a) (O .holds) ∙ opened-unmarked n (l .0) (l .1) a m in
     let z = trace-stands n cs refl (O .sound) C (w .2) in
     let A = trace-agrees (O .sound) (w .2) in
     let sends : (i : ℕ) → 1 ≤ i → i ≤ n → marked (held u) (sent i) ≡ been-sent i cs xs =
@@ -334,8 +336,8 @@ deposit t n cs xs u T =
     λ i k h. z .skips i k h
     ∙ ap (λ (b : Bool). after-calls (standing-by i) b cs xs) (none-yet (skipped i) (skipped-mark n i k h)) in
     record {
-      answered = A .told ∙ ap (λ (Q : Program). callsAnswers document Q (file-calls cs)) (O .holds);
-      slots = A .kept ∙ ap (λ (Q : Program). callsAfter document Q (file-calls cs)) (O .holds);
+      answered = A .told ∙ ap (λ (D : Pages). callsAnswers document D (file-calls cs)) (O .holds);
+      slots = A .kept ∙ ap (λ (D : Pages). callsAfter document D (file-calls cs)) (O .holds);
       sound = A .sound;
       files = of-checklist (held u) n (z .list);
       sent-marks = sends;

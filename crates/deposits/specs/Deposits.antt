@@ -8,6 +8,7 @@ use mathlib.Core.List.{List, _∷_, _++_, map}
 use mathlib.Core.Option.{some}
 use lib.ListN.{length, drop}
 use Rattle.theory.specs.Lists.{Lists}
+use Rattle.theory.specs.Rules.{active}
 use Rattle.theory.specs.Models.{AtomSet, Admissible}
 use Rattle.theory.specs.Book.{Answer}
 use Rattle.theory.specs.Limits.{document}
@@ -52,7 +53,7 @@ pub record Deposit (n : ℕ) (cs : List FileCall) (xs : List Answer) (u : Table)
   pub sent-marks : (i : ℕ) → 1 ≤ i → i ≤ n → marked (held u) (sent i) ≡ been-sent i cs xs
   pub skip-marks : (i : ℕ) → 1 ≤ i → i ≤ n → marked (held u) (skipped i) ≡ skip-standing i cs xs
   -- complete is in if and only if every file has been sent and none has a skip standing; and so it is answered
-  pub complete : (M : AtomSet) → Admissible (held u) M → (M (good n) ≡ true) ↔ NoneMissing n cs xs
+  pub complete : (M : AtomSet) → Admissible (active (held u)) M → (M (good n) ≡ true) ↔ NoneMissing n cs xs
   pub complete-answer : (x : CompleteAnswer) → CompleteEnds u x → (x ≡ Complete) ↔ NoneMissing n cs xs
   -- the list of files is empty if and only if every file has been sent and none has a skip standing; what it writes are
   -- exactly the files that have not been sent or have a skip standing, ascending

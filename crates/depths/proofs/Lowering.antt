@@ -14,9 +14,9 @@ use Rattle.theory.specs.Models.{AtomSet, valid}
 use Rattle.theory.specs.Certificate.{level}
 use Rattle.theory.proofs.Lists.{clash, lt-ltb, ltb-lt}
 use Rattle.table.specs.declared.Rule.{Rule}
-use Rattle.table.specs.Rules.{slotOf, ruleOf}
+use Rattle.table.specs.Rules.{activeIn, ruleOf}
 use Rattle.table.specs.Sets.{number}
-use Rattle.table.proofs.Programs.{slot-free, slot-held, slot-rule}
+use Rattle.table.proofs.Programs.{active-none, active-some, active-rule}
 use Rattle.depths.specs.Numbers.{within}
 use Rattle.depths.specs.Passes.{Lowers, Lowered}
 
@@ -29,21 +29,21 @@ falls-by x v e = ((λ t. inr (ltb-lt v x t)), (λ t. elim t [ inl z ↦ absurd (
 
 module _ (M : AtomSet) (n : ℕ) (r : Rule) (before : List ℕ) where
   abbrev Lower : Type 0
-  Lower = Lowers M (number before) n (slotOf r) (r .head .0)
+  Lower = Lowers M (number before) n (activeIn r) (r .head .0)
 
   abbrev Kept : Type 0
-  Kept = Lowered M n (slotOf r) (r .head .0) before before false
+  Kept = Lowered M n (activeIn r) (r .head .0) before before false
 
   stays : (Lower → ⊥) → Kept
   stays not = record { lower = λ t. absurd (true≢false (sym t)); kept = λ t. (not, refl) }
 
-  pub lower-free : r .state ≡ 0 → Kept
-  lower-free e = stays (λ w. Option·none-ne-some (w .rule) (sym (slot-free r e) ∙ w .held))
+  pub lower-none : (r .state ≡ 1 → ⊥) → Kept
+  lower-none e = stays (λ w. Option·none-ne-some (w .rule) (sym (active-none r e) ∙ w .held))
 
-  module _ (held : r .state ≡ 0 → ⊥) where
+  module _ (held : r .state ≡ 1) where
     -- what holds of the rule that the slot holds
     same : {A : Type 0} (f : theory.Rule → A) (w : Lower) → f (w .rule) ≡ f (ruleOf r)
-    same f w = ap f (sym (slot-rule r (w .rule) (w .held)))
+    same f w = ap f (sym (active-rule r (w .rule) (w .held)))
 
     pub lower-unknown : every (within (number before) (suc n)) (ruleOf r .positives) ≡ false → Kept
     lower-unknown e =
@@ -68,12 +68,12 @@ module _ (M : AtomSet) (n : ℕ) (r : Rule) (before : List ℕ) where
         pub lower-new :
             every (within (number before) (suc n)) (ruleOf r .positives) ≡ true → v ≤ n → t ≡ true
             → valid M (ruleOf r) ≡ true → (after : List ℕ) → after ≡ set before (r .head .0) v
-            → Lowered M n (slotOf r) (r .head .0) before after true
+            → Lowered M n (activeIn r) (r .head .0) before after true
         lower-new known low e good after s = record {
           lower = λ u. (
             record {
               rule = ruleOf r;
-              held = slot-held r held;
+              held = active-some r held;
               good = good;
               known = known;
               low = omega arith;

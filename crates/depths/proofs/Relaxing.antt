@@ -24,12 +24,12 @@ use Rattle.theory.proofs.Depths.{depth-count, derived-in, greatest-le, in-depth
 use Rattle.theory.proofs.Certificate.{derivations-of}
 use Rattle.theory.proofs.Questions.{held-below}
 use Rattle.table.specs.declared.Rule as table
-use Rattle.table.specs.Rules.{programOf, slotOf, pastRule}
+use Rattle.table.specs.Rules.{activeOf, activeIn, pastRule}
 use Rattle.table.specs.Sets.{number}
 use Rattle.table.specs.Turns.{slotAt}
 use Rattle.table.proofs.Members.{all-alike}
 use Rattle.table.proofs.SlotsInTurn.{slot-at-each}
-use Rattle.table.proofs.Programs.{program-at, program-length}
+use Rattle.table.proofs.Programs.{active-place, active-length}
 use Rattle.depths.specs.Numbers.{DepthsOf, within}
 use Rattle.depths.specs.Passes.{Lowers, Lowered}
 use Rattle.depths.proofs.Slots.{slot-head, within-at, within-of}
@@ -332,28 +332,28 @@ module _ (P : Program) (M : AtomSet) (n : ℕ) (B : Bounded P n) (A : Admissible
     }
 
 -- The next slot, in the words of the code: it is slot s of the table.
-module _ (rules : List table.Rule) (M : AtomSet) (n : ℕ) (B : Bounded (programOf rules) n)
-    (A : Admissible (programOf rules) M) (at : ℕ → ℕ) (k i : ℕ) (d : List ℕ) (t : Bool)
-    (W : Pass (programOf rules) M at n k i d t) (s : ℕ) (come : s ≡ at i) where
+module _ (rules : List table.Rule) (M : AtomSet) (n : ℕ) (B : Bounded (activeOf rules) n)
+    (A : Admissible (activeOf rules) M) (at : ℕ → ℕ) (k i : ℕ) (d : List ℕ) (t : Bool)
+    (W : Pass (activeOf rules) M at n k i d t) (s : ℕ) (come : s ≡ at i) where
   abbrev o : Option Rule
-  o = slotOf (getD rules s pastRule)
+  o = activeIn (getD rules s pastRule)
 
   abbrev h : ℕ
   h = getD rules s pastRule .head .0
 
-  here : getD (programOf rules) (at i) none ≡ o
-  here = ap (λ (z : ℕ). getD (programOf rules) z none) (sym come) ∙ program-at rules s
+  here : getD (activeOf rules) (at i) none ≡ o
+  here = ap (λ (z : ℕ). getD (activeOf rules) z none) (sym come) ∙ active-place rules s
 
   pub pass-next : (l : List ℕ) (flag : Bool) → Lowered M n o h d l flag → (u : Bool) → u ≡ (flag || t)
-      → Pass (programOf rules) M at n k (i + 1) l u
+      → Pass (activeOf rules) M at n k (i + 1) l u
   pass-next l true R u e =
       let w = R .lower refl in
       let heads = slot-head (getD rules s pastRule) in
-      rw e (pass-lower (programOf rules) M n B A at k i d t W o h here heads (w .0) l (w .1))
+      rw e (pass-lower (activeOf rules) M n B A at k i d t W o h here heads (w .0) l (w .1))
   pass-next l false R u e =
       let w = R .kept refl in
       let heads = slot-head (getD rules s pastRule) in
-      rw (e, w .1) (pass-over (programOf rules) M n B A at k i d t W o h here heads (w .0))
+      rw (e, w .1) (pass-over (activeOf rules) M n B A at k i d t W o h here heads (w .0))
 
 -- No more rounds are made than there are atoms.
 pub rounds-few :
@@ -369,12 +369,12 @@ rounds-end P M n k d false g W = W
 
 -- The end of a round over the table's slots, upwards or downwards.
 pub round-end :
-    (rules : List table.Rule) (M : AtomSet) (n : ℕ) → Bounded (programOf rules) n → Admissible (programOf rules) M
+    (rules : List table.Rule) (M : AtomSet) (n : ℕ) → Bounded (activeOf rules) n → Admissible (activeOf rules) M
     → (S : ℕ) → length rules ≡ S → (down : Bool) (k i : ℕ) (d : List ℕ) → S ≤ i → (t : Bool)
-    → Pass (programOf rules) M (slotAt S down) n k i d t → Outer (programOf rules) M n (k + 1) d t
+    → Pass (activeOf rules) M (slotAt S down) n k i d t → Outer (activeOf rules) M n (k + 1) d t
 round-end rules M n B A S long down k i d past t W =
-    pass-end (programOf rules) M n B A (slotAt S down) k i d
+    pass-end (activeOf rules) M n B A (slotAt S down) k i d
     (λ s l. (
-    let w = slot-at-each S down s (omega (arith, program-length rules)) in
+    let w = slot-at-each S down s (omega (arith, active-length rules)) in
     (w .0, omega (arith, w .1), w .2)))
     t W

@@ -18,7 +18,7 @@ ghost use Rattle.theory.specs.Models.{Admissible};
 ghost use Rattle.theory.specs.Certificate.{level};
 ghost use Rattle.theory.specs.Limits.{document};
 ghost use Rattle.table.specs.Sets.{member, number};
-ghost use Rattle.table.specs.Rules.{programOf, slotOf, ruleOf};
+ghost use Rattle.table.specs.Rules.{activeOf, activeIn, ruleOf};
 ghost use Rattle.depths.specs.Numbers.{DepthsOf, within};
 ghost use Rattle.depths.specs.Passes.{Lowered};
 
@@ -68,13 +68,13 @@ fn falls(number: u16, to: usize) -> bool
     to < number as usize
 }
 
-// The number of the slot's head falls to the level of its rule, if that is valid and smaller: did it? A level above
-// ATOMS is no depth.
+// The number of the slot's head falls to the level of its rule, if that is unmuted and valid, and smaller: did it? A
+// level above ATOMS is no depth.
 fn lower(rule: Rule, model: &[bool; Table::ATOMS], found: &mut [u16; Table::ATOMS]) -> bool
-    ensures { λ r. ⌜ Lowered (member (now (model .entry))) (document .atoms) (slotOf rule) (rule .head .0)
+    ensures { λ r. ⌜ Lowered (member (now (model .entry))) (document .atoms) (activeIn rule) (rule .head .0)
         (now (found .entry)) (now (found .exit)) r ⌝ }
 {
-    if rule.state == 0 {
+    if rule.state != 1 {
         return false;
     }
     if !below(rule, found, 257) {
@@ -99,8 +99,8 @@ fn lower(rule: Rule, model: &[bool; Table::ATOMS], found: &mut [u16; Table::ATOM
 // The depth of each in atom, 0 for every other: rounds over the slots, upwards and downwards in turn, up to the first
 // that lowers none.
 pub fn depths(rules: [Rule; Table::SLOTS], model: &[bool; Table::ATOMS]) -> [u16; Table::ATOMS]
-    requires { ⌜ Bounded (programOf rules) (document .atoms) × Admissible (programOf rules) (member (now model)) ⌝ }
-    ensures { λ r. ⌜ DepthsOf (programOf rules) (member (now (model .entry))) (number r) ⌝ }
+    requires { ⌜ Bounded (activeOf rules) (document .atoms) × Admissible (activeOf rules) (member (now model)) ⌝ }
+    ensures { λ r. ⌜ DepthsOf (activeOf rules) (member (now (model .entry))) (number r) ⌝ }
 {
     let mut found: [u16; Table::ATOMS] = [0; Table::ATOMS];
     let mut round: usize = 0;

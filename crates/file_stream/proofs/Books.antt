@@ -9,7 +9,7 @@ use mathlib.Core.List.{List}
 use mathlib.Core.Option.{Option, none, some, Option·none-ne-some}
 use lib.ListN.{length, take, replicate, length-take, length-replicate}
 use lib.Seq.{take-all, take-take, take-append-seam}
-use Rattle.theory.specs.Rules.{Program}
+use Rattle.theory.specs.Rules.{active, Pages}
 use Rattle.theory.specs.Models.{OnlyModel}
 use Rattle.theory.specs.Labels.{Label, Labelled}
 use Rattle.theory.specs.Sound.{SoundLabels}
@@ -53,15 +53,15 @@ load-prints-unique {file} p q =
 
 -- The labels that a sound table keeps are those that the book shows of its rules.
 table-labels :
-    {P : Program} {out : List ℕ} (u : Table) → Sound u → held u ≡ P → out ≡ tellLoad changed.Accepted u
-    → SeesLabels P out
-table-labels {P} u S h told =
+    {B : Pages} {out : List ℕ} (u : Table) → Sound u → held u ≡ B → out ≡ tellLoad changed.Accepted u
+    → SeesLabels B out
+table-labels {B} u S h told =
     let model = S .labels .model in
     record {
       model = model;
-      only = subst (λ (Q : Program). OnlyModel Q model) h (sound-model u S);
+      only = subst (λ (C : Pages). OnlyModel (active C) model) h (sound-model u S);
       label = labelAt (u .labels);
-      labelled = λ a l. subst (λ (Q : Program). Labelled Q model a (labelAt (u .labels) a)) h (S .labels .labels a l);
+      labelled = λ a l. subst (λ (C : Pages). Labelled C model a (labelAt (u .labels) a)) h (S .labels .labels a l);
       told = told;
     }
 
@@ -113,9 +113,9 @@ first-bytes input {out} p =
 
 -- Saving. The file of a sound table has room, so neither 15 nor 11 is met.
 
-file-short : {P : Program} {label : ℕ → Label} → SoundLabels document P label → length (fileOf P) ≤ LONGEST
-file-short {P} {label} s =
-    whole-short (fileOf P) (first-no-none _ _ (file-accepted P label s) .0)
+file-short : {B : Pages} {label : ℕ → Label} → SoundLabels document B label → length (fileOf B) ≤ LONGEST
+file-short {B} {label} s =
+    whole-short (fileOf B) (first-no-none _ _ (file-accepted B label s) .0)
 
 saved-file :
     (t : Table) (before after : List ℕ) (x : ListAnswer) → Sound t → LONGEST ≤ length before → SaveEnds t before x after
@@ -147,10 +147,10 @@ pub saved-loaded :
     → SeesLabels (bookAfter (callsOf (fedBytes (s .sheet)))) out
 saved-loaded {r} {out} s p =
     let claim = program-history (s .sheet) in
-    let P = bookAfter (callsOf (fedBytes (s .sheet))) in
+    let B = bookAfter (callsOf (fedBytes (s .sheet))) in
     let sound = claim .sound .labels in
     let label = labelAt (r .last .reply .table .labels) in
-    let S : SoundLabels document P label = subst (λ (Q : Program). SoundLabels document Q label) (claim .slots) sound in
+    let S : SoundLabels document B label = subst (λ (C : Pages). SoundLabels document C label) (claim .slots) sound in
     let seen = load-book (subst (λ (f : List ℕ). LoadPrints f out) (saved-book s) p) in
-    subst (λ (Q : Program). SeesLabels Q out) (file-pages P label S)
-    (subst (λ (o : Option ℕ). LoadSeen (fileOf P) o out) (file-accepted P label S) seen)
+    subst (λ (C : Pages). SeesLabels C out) (file-pages B label S)
+    (subst (λ (o : Option ℕ). LoadSeen (fileOf B) o out) (file-accepted B label S) seen)

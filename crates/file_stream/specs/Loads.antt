@@ -41,7 +41,7 @@ pub record LoadPrints (file out : List ℕ) : Type 0 where
   pub told : out ≡ tellLoad answer table
 
 -- The same by the plain book alone: of 16, 17, 18 and 19 the first answered no is the refusal; else the labels are
--- those defined for the pages that the file has, in their one admissible model.
+-- those defined for the pages that the file has, in the one admissible model of their unmuted rules.
 abbrev pub LoadSeen : List ℕ → Option ℕ → List ℕ → Type 0
 LoadSeen file (some k) out = out ≡ refusedLine k
 LoadSeen file none out = SeesLabels (pagesOf document file) out

@@ -7,7 +7,7 @@ use mathlib.Core.List.{List, map}
 use lib.Dec.{ltb}
 use lib.ListN.{length}
 use Rattle.theory.specs.Lists.{every}
-use Rattle.theory.specs.Rules.{Rule, Program, Held, same}
+use Rattle.theory.specs.Rules.{all, Held, Pages, Program, Rule, same}
 use Rattle.theory.specs.Dependencies.{NegativeCycle}
 use Rattle.theory.specs.Questions.{first-no, rules, stratified}
 use Rattle.theory.specs.Limits.{document}
@@ -16,11 +16,11 @@ use Rattle.theory.proofs.Questions.{first-no-yes, first-no-here}
 use Rattle.theory.proofs.Cycles.{cycle-found, stratified-iff}
 use Rattle.table.specs.declared.Table.{Table}
 use Rattle.table.specs.declared.Rule as slot
-use Rattle.table.specs.Rules.{programOf}
+use Rattle.table.specs.Rules.{bookOf, programOf}
 use Rattle.table.specs.Clean.{emptyTable}
 use Rattle.questions.proofs.Refusals.{both-no, both-no-2}
 use Rattle.slots.specs.Slots.{Single}
-use Rattle.blocks.specs.Places.{ruleIn}
+use Rattle.blocks.specs.Places.{Place, ruleIn}
 use Rattle.blocks.specs.Questions.{blocks, blockCount, placesOf, whole, summed, numbered, filled}
 use Rattle.blocks.specs.Questions.{distinctRules, recordsRight, pagesOf}
 use Rattle.blocks.proofs.Sequences.{places-eight}
@@ -61,35 +61,43 @@ module _ (bs : List ℕ) where
         not-filled e = not-right (both-no _ _ e)
 
         module _ (f : every filled (blocks bs) ≡ true) where
-          abbrev pages : Program
+          abbrev ps : List Place
+          ps = placesOf (blocks bs)
+
+          abbrev pages : Pages
           pages = pagesOf document bs
 
-          not-records : recordsRight document (placesOf (blocks bs)) ≡ false → LoadEnds bs (Refused Record) emptyTable
+          not-records : recordsRight document ps ≡ false → LoadEnds bs (Refused Record) emptyTable
           not-records e = not-right (both-no-2 _ _ f e)
 
-          pub not-all-right : allRight 0 (placesOf (blocks bs)) ≡ false → LoadEnds bs (Refused Record) emptyTable
-          not-all-right e = not-records (unless _ (λ t. clash (split (placesOf (blocks bs)) t .0) e))
+          pub not-all-right : allRight 0 ps ≡ false → LoadEnds bs (Refused Record) emptyTable
+          not-all-right e = not-records (unless _ (λ t. clash (split ps t .0) e))
 
-          module _ (a : allRight 0 (placesOf (blocks bs)) ≡ true) where
+          module _ (a : allRight 0 ps ≡ true) where
             -- the table of the rules read
             module _ (slots : List slot.Rule) (well : WellFormedSlots slots) (long : length slots ≡ document .slots)
-                (read : programOf slots ≡ pages) where
-              distinct : Single (programOf slots) → distinctRules (map ruleIn (placesOf (blocks bs))) ≡ true
+                (read : bookOf slots ≡ pages) where
+              same-program : programOf slots ≡ all pages
+              same-program = ap all read
+
+              distinct : Single (programOf slots) → distinctRules (map ruleIn ps) ≡ true
               distinct U =
-                  ap distinctRules (same-rules (placesOf (blocks bs)) (places-eight (blocks bs)) a)
-                  ∙ distinct-rules pages
+                  ap distinctRules (same-rules ps (places-eight (blocks bs)) a)
+                  ∙ distinct-rules (all pages)
                   (subst (λ (P : Program). (s t : ℕ) (q r : Rule) → Held P s q → Held P t r → same q r ≡ true → s ≡ t)
-                  read (rules-single slots well long U))
+                  same-program (rules-single slots well long U))
 
               pub rules-end : (x : ChangeAnswer) (u : Table) → RulesLoad slots x u → LoadEnds bs x u
               rules-end x u (twice n) =
-                  not-records (unless _ (λ t. n (subst Single (sym read) (once (placesOf (blocks bs)) (places-eight (blocks bs)) a (split (placesOf (blocks bs)) t .1)))))
+                  not-records (unless _ (λ t.
+                  n (subst Single (sym same-program) (once ps (places-eight (blocks bs)) a (split ps t .1)))))
               rules-end x u (cyclic U c) =
-                  not-records (unless _ (λ t. clash (split (placesOf (blocks bs)) t .2) (cycle-found pages (subst NegativeCycle read c))))
+                  not-records (unless _ (λ t.
+                  clash (split ps t .2) (cycle-found (all pages) (subst NegativeCycle same-program c))))
               rules-end x u (loads v U n Z h S) =
+                  let none-closed = stratified-iff (all pages) .1 (λ c. n (subst NegativeCycle (sym same-program) c)) in
                   contract.accepted v
                   (first-no-yes _ _ w ∙ first-no-yes _ _ s ∙ first-no-yes _ _ m
-                  ∙ first-no-yes _ _ (and-of (every filled (blocks bs)) _ f
-                  (join (placesOf (blocks bs)) a (distinct U) (stratified-iff pages .1 (λ c. n (subst NegativeCycle (sym read) c)))))
+                  ∙ first-no-yes _ _ (and-of (every filled (blocks bs)) _ f (join ps a (distinct U) none-closed))
                   ∙ (unfold first-no in refl))
                   Z (h ∙ read) S

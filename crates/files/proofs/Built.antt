@@ -8,7 +8,7 @@ use mathlib.Core.Option.{Option, none, some}
 use lib.Dec.{ltb}
 use lib.ListN.{length, getD, set, replicate, length-map, length-set, length-replicate, List·getD-map}
 use Rattle.theory.specs.Lists.{every}
-use Rattle.theory.specs.Rules.{Rule, Program, Held}
+use Rattle.theory.specs.Rules.{active, all, Page, Pages}
 use Rattle.theory.specs.Models.{AtomSet, Admissible, OnlyModel}
 use Rattle.theory.specs.Dependencies.{NegativeCycle}
 use Rattle.theory.specs.Labels.{absent, out, in-at, Labelled}
@@ -19,12 +19,13 @@ use Rattle.theory.specs.Limits.{document}
 use Rattle.theory.proofs.Lists.{and-l, and-r}
 use Rattle.theory.proofs.Questions.{first-no-none}
 use Rattle.theory.proofs.Cycles.{stratified-iff}
+use Rattle.theory.proofs.Pages.{active-acyclic}
 use Rattle.theory.proofs.Models.{exactly-one-model}
 use Rattle.theory.proofs.Labels.{label-exists}
 use Rattle.table.specs.declared.Label.{Label}
 use Rattle.table.specs.declared.Table.{Table}
 use Rattle.table.specs.declared.Rule as slot
-use Rattle.table.specs.Rules.{slotOf, programOf, pastRule}
+use Rattle.table.specs.Rules.{bookOf, pageOf, pastRule}
 use Rattle.table.specs.Labels.{labelOf, labelAt, absentLabel}
 use Rattle.table.specs.Clean.{freeRule, CleanLabel, WellFormed}
 use Rattle.table.specs.Sound.{Sound}
@@ -34,25 +35,25 @@ use Rattle.sound.proofs.Soundness.{sound-labelled}
 use Rattle.blocks.specs.Places.{Place, recorded, records}
 use Rattle.blocks.specs.Questions.{blocks, placesOf, filled, right, recordsRight, file-questions, pagesOf}
 use Rattle.blocks.proofs.Bytes.{All, every-all}
-use Rattle.blocks.proofs.Pages.{rule-in}
+use Rattle.blocks.proofs.Pages.{page-in}
 use Rattle.blocks.proofs.Sequences.{Eight, places-eight}
 use Rattle.loading.specs.Reading.{atom, slotFrom}
-use Rattle.loading.proofs.Gathering.{slot-from, right-well, free-well}
+use Rattle.loading.proofs.Gathering.{page-from, right-well, free-well}
 use Rattle.calls.specs.Contracts.{held, Sized}
 use Rattle.files.proofs.Recorded.{split, all-right, same-records, once, all-held, pages-length}
 
 -- The slot for a page, and the label kept for a label.
-abbrev pub slotFor : Option Rule → slot.Rule
+abbrev pub slotFor : Option Page → slot.Rule
 slotFor none = freeRule
-slotFor (some r) = slotFrom (recorded 0 r)
+slotFor (some p) = slotFrom (recorded 0 p)
 
-slot-for : (o : Option Rule) → slotOf (slotFor o) ≡ o
+slot-for : (o : Option Page) → pageOf (slotFor o) ≡ o
 slot-for none = refl
-slot-for (some r) = slot-from (recorded 0 r) ∙ ap some (rule-in 0 r)
+slot-for (some p) = page-from (recorded 0 p) ∙ ap some (page-in 0 p)
 
-program-for : (P : Program) → programOf (map slotFor P) ≡ P
-program-for [] = refl
-program-for (o ∷ P) = λ i. slot-for o i ∷ program-for P i
+book-for : (B : Pages) → bookOf (map slotFor B) ≡ B
+book-for [] = refl
+book-for (o ∷ B) = λ i. slot-for o i ∷ book-for B i
 
 abbrev pub keptLabel : theory.Label → Label
 keptLabel absent = absentLabel
@@ -90,80 +91,84 @@ module _ (bs : List ℕ) (e : first-no (file-questions document bs) ≡ none) wh
   abbrev pub ps : List Place
   ps = placesOf (blocks bs)
 
-  abbrev pub P : Program
-  P = pagesOf document bs
+  abbrev pub B : Pages
+  B = pagesOf document bs
 
   asked : recordsRight document ps ≡ true
   asked =
       let three = first-no-none _ _ (first-no-none _ _ (first-no-none _ _ e .1) .1) in
       and-r (every filled (blocks bs)) _ (first-no-none _ _ (three .1) .0)
 
-  recorded-pages : records P ≡ ps
+  recorded-pages : records B ≡ ps
   recorded-pages = same-records ps (places-eight (blocks bs)) (split ps asked .0)
 
   -- the rule of each page is right and has eight entries
-  held-right : (s : ℕ) (r : Rule) → Held P s r → right document (recorded s r) ≡ true
-  held-right s r h =
+  held-right : (s : ℕ) (p : Page) → getD B s none ≡ some p → right document (recorded s p) ≡ true
+  held-right s p h =
       let same : 0 + s ≡ s = omega arith in
-      subst (λ (k : ℕ). right document (recorded k r) ≡ true) same (all-held (λ p. right document p ≡ true) 0 P
-      (subst (All (λ p. right document p ≡ true)) (sym recorded-pages)
-      (every-all (λ p. right document p ≡ true) (right document) (λ p t. t) ps
-      (all-right ps (places-eight (blocks bs)) (split ps asked .0)))) s r h)
+      subst (λ (k : ℕ). right document (recorded k p) ≡ true) same (all-held (λ q. right document q ≡ true) 0 B
+      (subst (All (λ q. right document q ≡ true)) (sym recorded-pages)
+      (every-all (λ q. right document q ≡ true) (right document) (λ q t. t) ps
+      (all-right ps (places-eight (blocks bs)) (split ps asked .0)))) s p h)
 
-  held-eight : (s : ℕ) (r : Rule) → Held P s r → Eight (recorded s r)
-  held-eight s r h = all-held Eight 0 P (subst (All Eight) (sym recorded-pages) (places-eight (blocks bs))) s r h
+  held-eight : (s : ℕ) (p : Page) → getD B s none ≡ some p → Eight (recorded s p)
+  held-eight s p h = all-held Eight 0 B (subst (All Eight) (sym recorded-pages) (places-eight (blocks bs))) s p h
 
-  long : length P ≡ document .slots
-  long = pages-length (empty document) ps ∙ length-replicate {A = Option Rule} (document .slots) none
+  long : length B ≡ document .slots
+  long = pages-length (empty document) ps ∙ length-replicate {A = Option Page} (document .slots) none
 
-  pub model : (M : AtomSet) × OnlyModel P M
-  model = exactly-one-model P (stratified-iff P .0 (split ps asked .2))
+  acyclic : NegativeCycle (all B) → ⊥
+  acyclic = stratified-iff (all B) .0 (split ps asked .2)
+
+  pub model : (M : AtomSet) × OnlyModel (active B) M
+  model = exactly-one-model (active B) (active-acyclic B acyclic)
 
   abbrev pub M : AtomSet
   M = model .0
 
   abbrev pub label : ℕ → theory.Label
-  label a = label-exists P M (model .1 .model .founded) a .0
+  label a = label-exists B M (model .1 .model .founded) a .0
 
-  labelled : (a : ℕ) → Labelled P M a (label a)
-  labelled a = label-exists P M (model .1 .model .founded) a .1
+  labelled : (a : ℕ) → Labelled B M a (label a)
+  labelled a = label-exists B M (model .1 .model .founded) a .1
 
   abbrev pub built : Table
-  built = record { rules = map slotFor P; labels = labelList label (document .atoms) }
+  built = record { rules = map slotFor B; labels = labelList label (document .atoms) }
 
-  pub built-held : held built ≡ P
-  built-held = program-for P
+  pub built-held : held built ≡ B
+  built-held = book-for B
 
-  slot-at : (s : ℕ) → s < document .slots → getD (built .rules) s pastRule ≡ slotFor (getD P s none)
+  slot-at : (s : ℕ) → s < document .slots → getD (built .rules) s pastRule ≡ slotFor (getD B s none)
   slot-at s l =
-      there (map slotFor P) s pastRule freeRule (omega (arith, length-map P slotFor, long))
-      ∙ List·getD-map slotFor P s none
+      there (map slotFor B) s pastRule freeRule (omega (arith, length-map B slotFor, long))
+      ∙ List·getD-map slotFor B s none
 
   pub built-sized : Sized built
   built-sized = record {
-    slots = length-map P slotFor ∙ long;
+    slots = length-map B slotFor ∙ long;
     atoms = list-length label (document .atoms);
-    entries = λ s l. ap (λ (r : slot.Rule). length (r .entries)) (slot-at s l) ∙ eight-at s (getD P s none) refl;
+    entries = λ s l. ap (λ (r : slot.Rule). length (r .entries)) (slot-at s l) ∙ eight-at s (getD B s none) refl;
   }
     where
-      eight-at : (s : ℕ) (o : Option Rule) → getD P s none ≡ o → length (slotFor o .entries) ≡ document .entries
+      eight-at : (s : ℕ) (o : Option Page) → getD B s none ≡ o → length (slotFor o .entries) ≡ document .entries
       eight-at s none h = refl
-      eight-at s (some r) h = length-map (recorded s r .entries) atom ∙ held-eight s r h
+      eight-at s (some p) h = length-map (recorded s p .entries) atom ∙ held-eight s p h
 
   well : (s : ℕ) → s < document .slots → WellFormed (getD (built .rules) s pastRule)
-  well s l = subst WellFormed (sym (slot-at s l)) (well-at s (getD P s none) refl)
+  well s l = subst WellFormed (sym (slot-at s l)) (well-at s (getD B s none) refl)
     where
-      well-at : (s : ℕ) (o : Option Rule) → getD P s none ≡ o → WellFormed (slotFor o)
+      well-at : (s : ℕ) (o : Option Page) → getD B s none ≡ o → WellFormed (slotFor o)
       well-at s none h = free-well
-      well-at s (some r) h = right-well (recorded s r) (held-right s r h)
+      well-at s (some p) h = right-well (recorded s p) (held-right s p h)
 
   pub built-sound : Sound built
   built-sound =
-      sound-labelled built (length-map P slotFor ∙ long) (list-length label (document .atoms)) well
+      sound-labelled built (length-map B slotFor ∙ long) (list-length label (document .atoms)) well
       (λ a l. subst CleanLabel (sym (list-at label (document .atoms) a l)) (kept-clean (label a)))
-      (subst Single (sym built-held) (once ps (places-eight (blocks bs)) (split ps asked .0) (split ps asked .1)))
-      (subst (λ (Q : Program). NegativeCycle Q → ⊥) (sym built-held) (stratified-iff P .0 (split ps asked .2)))
-      M (subst (λ (Q : Program). Admissible Q M) (sym built-held) (model .1 .model))
-      (λ a l. subst (λ (Q : Program). Labelled Q M a (labelAt (built .labels) a)) (sym built-held)
-      (subst (Labelled P M a) (sym (ap labelOf (list-at label (document .atoms) a l) ∙ kept-label (label a)))
+      (subst (λ (C : Pages). Single (all C)) (sym built-held)
+      (once ps (places-eight (blocks bs)) (split ps asked .0) (split ps asked .1)))
+      (subst (λ (C : Pages). NegativeCycle (all C) → ⊥) (sym built-held) acyclic)
+      M (subst (λ (C : Pages). Admissible (active C) M) (sym built-held) (model .1 .model))
+      (λ a l. subst (λ (C : Pages). Labelled C M a (labelAt (built .labels) a)) (sym built-held)
+      (subst (Labelled B M a) (sym (ap labelOf (list-at label (document .atoms) a l) ∙ kept-label (label a)))
       (labelled a)))

@@ -6,14 +6,14 @@ use mathlib.Core.Bool.{true, _&&_}
 use mathlib.Core.List.{List, [], _∷_, map}
 use mathlib.Core.Option.{none, some, Option·none-ne-some, Option·some-injective}
 use lib.Dec.{ltb}
-use lib.ListN.{length, length-set}
+use lib.ListN.{getD, length, length-set}
 use Rattle.theory.specs.Lists.{every}
-use Rattle.theory.specs.Rules.{Rule, Program, Held}
+use Rattle.theory.specs.Rules.{all, Page, Pages}
 use Rattle.theory.specs.Questions.{rules, stratified}
 use Rattle.theory.specs.Limits.{document}
 use Rattle.theory.proofs.Lists.{and-l, and-r, and-of}
 use Rattle.slots.specs.Slots.{Single}
-use Rattle.blocks.specs.Places.{Place, recorded, recordsFrom, records, ruleIn}
+use Rattle.blocks.specs.Places.{pageIn, Place, recorded, recordsFrom, records, ruleIn}
 use Rattle.blocks.specs.Questions.{ascends, right, distinctRules, recordedOn, recordsRight, pagesWith}
 use Rattle.blocks.proofs.Bytes.{All}
 use Rattle.blocks.proofs.Sequences.{Eight}
@@ -23,7 +23,8 @@ use Rattle.loading.specs.Reading.{allRight}
 
 module _ (ps : List Place) where
   pub split : recordsRight document ps ≡ true
-      → (allRight 0 ps ≡ true) × (distinctRules (map ruleIn ps) ≡ true) × (stratified (pagesWith document ps) ≡ true)
+      → (allRight 0 ps ≡ true) × (distinctRules (map ruleIn ps) ≡ true)
+      × (stratified (all (pagesWith document ps)) ≡ true)
   unfolding recordsRight allRight
   split t =
       let up = ascends 0 (map (λ p. p .slot) ps) in
@@ -36,7 +37,7 @@ module _ (ps : List Place) where
       (and-of up _ (and-l up _ t) (and-of low _ (and-l low _ t₂) (and-l well _ t₃)), and-l one _ t₄, and-r one _ t₄)
 
   pub join :
-      allRight 0 ps ≡ true → distinctRules (map ruleIn ps) ≡ true → stratified (pagesWith document ps) ≡ true
+      allRight 0 ps ≡ true → distinctRules (map ruleIn ps) ≡ true → stratified (all (pagesWith document ps)) ≡ true
       → recordsRight document ps ≡ true
   unfolding recordsRight allRight
   join a d t =
@@ -64,32 +65,32 @@ module _ (ps : List Place) where
         let low = every (λ p. ltb (p .slot) (document .slots)) ps in
         records-of-pages document (omega arith) ps eight (and-l up _ a) (and-l low _ (and-r up _ a)) all-right
 
-    pub same-rules : map ruleIn ps ≡ rules (pagesWith document ps)
+    pub same-rules : map ruleIn ps ≡ rules (all (pagesWith document ps))
     same-rules = ap (map ruleIn) (sym same-records) ∙ records-rules 0 (pagesWith document ps)
 
-    pub once : distinctRules (map ruleIn ps) ≡ true → Single (pagesWith document ps)
-    once d = distinct-held (pagesWith document ps) (sym (ap distinctRules same-rules) ∙ d)
+    pub once : distinctRules (map ruleIn ps) ≡ true → Single (all (pagesWith document ps))
+    once d = distinct-held (all (pagesWith document ps)) (sym (ap distinctRules same-rules) ∙ d)
 
--- What holds of every record holds of that of each held rule.
+-- What holds of every record holds of that of each page with a rule.
 pub all-held :
-    (F : Place → Type 0) (s : ℕ) (P : Program) → All F (recordsFrom s P) → (t : ℕ) (r : Rule) → Held P t r
-    → F (recorded (s + t) r)
+    (F : Place → Type 0) (s : ℕ) (B : Pages) → All F (recordsFrom s B) → (t : ℕ) (p : Page) → getD B t none ≡ some p
+    → F (recorded (s + t) p)
 unfolding recordsFrom
-all-held F s [] a t r h = absurd (Option·none-ne-some r h)
-all-held F s (none ∷ P) a zero r h = absurd (Option·none-ne-some r h)
-all-held F s (none ∷ P) a (suc t) r h =
+all-held F s [] a t p h = absurd (Option·none-ne-some p h)
+all-held F s (none ∷ B) a zero p h = absurd (Option·none-ne-some p h)
+all-held F s (none ∷ B) a (suc t) p h =
     let e : suc s + t ≡ s + suc t = omega arith in
-    subst (λ (k : ℕ). F (recorded k r)) e (all-held F (suc s) P a t r h)
-all-held F s (some q ∷ P) a zero r h =
+    subst (λ (k : ℕ). F (recorded k p)) e (all-held F (suc s) B a t p h)
+all-held F s (some q ∷ B) a zero p h =
     let e : s ≡ s + 0 = omega arith in
-    subst (λ (k : ℕ). F (recorded k r)) e
-    (subst (λ (p : Rule). F (recorded s p)) (Option·some-injective q r h) (a .0))
-all-held F s (some q ∷ P) a (suc t) r h =
+    subst (λ (k : ℕ). F (recorded k p)) e
+    (subst (λ (z : Page). F (recorded s z)) (Option·some-injective q p h) (a .0))
+all-held F s (some q ∷ B) a (suc t) p h =
     let e : suc s + t ≡ s + suc t = omega arith in
-    subst (λ (k : ℕ). F (recorded k r)) e (all-held F (suc s) P (a .1) t r h)
+    subst (λ (k : ℕ). F (recorded k p)) e (all-held F (suc s) B (a .1) t p h)
 
 -- Records keep the number of pages.
-pub pages-length : (P : Program) (ps : List Place) → length (recordedOn document P ps) ≡ length P
+pub pages-length : (B : Pages) (ps : List Place) → length (recordedOn document B ps) ≡ length B
 unfolding recordedOn
-pages-length P [] = refl
-pages-length P (p ∷ ps) = pages-length _ ps ∙ length-set P (p .slot) (some (ruleIn p))
+pages-length B [] = refl
+pages-length B (p ∷ ps) = pages-length _ ps ∙ length-set B (p .slot) (some (pageIn p))

@@ -11,7 +11,7 @@ use Rattle.theory.specs.Rules as theory
 use Rattle.theory.specs.Limits.{document}
 use Rattle.theory.proofs.Lists.{not-true, not-false, clash}
 use Rattle.table.specs.declared.Rule.{Rule}
-use Rattle.table.specs.Rules.{programOf}
+use Rattle.table.specs.Rules.{bookOf, programOf}
 use Rattle.table.specs.Labels.{absentLabel}
 use Rattle.table.specs.Clean.{emptyTable}
 use Rattle.slots.specs.Slots.{Single}
@@ -55,7 +55,7 @@ module _ (rules : List Rule) (well : WellFormedSlots rules) (long : length rules
     pub rules-twice : not b ≡ true → RulesLoad rules (Refused Record) emptyTable
     rules-twice u = rules-load.twice (λ U. clash (told .1 U) (not-true b u))
 
-    module _ (once : not b ≡ false) (l : Labelling) (L : LabellingOf (programOf rules) l) where
+    module _ (once : not b ≡ false) (l : Labelling) (L : LabellingOf (bookOf rules) l) where
       pub rules-cyclic : not (l .acyclic) ≡ true → RulesLoad rules (Refused Record) emptyTable
       rules-cyclic u = rules-load.cyclic (told .0 (not-false b once)) (L .cyclic (not-true (l .acyclic) u))
 

@@ -7,7 +7,7 @@ use Rattle.theory.specs.Dependencies.{NegativeCycle}
 use Rattle.theory.specs.Limits.{document}
 use Rattle.table.specs.declared.Rule.{Rule}
 use Rattle.table.specs.declared.Table.{Table}
-use Rattle.table.specs.Rules.{programOf, pastRule}
+use Rattle.table.specs.Rules.{bookOf, programOf, pastRule}
 use Rattle.table.specs.Clean.{emptyTable, WellFormed}
 use Rattle.table.specs.Sound.{Sound}
 use Rattle.slots.specs.Slots.{Single}
@@ -27,4 +27,4 @@ pub data RulesLoad (rules : List Rule) : ChangeAnswer → Table → Type 0 where
       Single (programOf rules) → NegativeCycle (programOf rules) → RulesLoad rules (Refused Record) emptyTable
   loads :
       (u : Table) → Single (programOf rules) → (NegativeCycle (programOf rules) → ⊥) → Sized u
-      → held u ≡ programOf rules → Sound u → RulesLoad rules Accepted u
+      → held u ≡ bookOf rules → Sound u → RulesLoad rules Accepted u

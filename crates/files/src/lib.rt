@@ -58,7 +58,7 @@ fn refuse(why: Refusal) -> Changed
     hand_back(ChangeAnswer::Refused(why), nothing)
 }
 
-// The table of the rules that were read, if they pass questions 5 and 7; else the empty one.
+// The table of the rules that were read, with their marks, if they pass questions 5 and 7; else the empty one.
 fn load_rules(rules: [Rule; Table::SLOTS]) -> Changed
     requires { ⌜ WellFormedSlots rules ⌝ }
     ensures { λ r. ⌜ RulesLoad rules (r .answer) (r .table) ⌝ }

@@ -1,4 +1,4 @@
-// The sets of justifications and of consequences of an atom.
+// The sets of justifications and of consequences of an atom: of all rules held, muted or not.
 use rule::negative_end;
 use table::Atom;
 use table::Rule;

@@ -1,22 +1,23 @@
--- Laws of the frame and of the marks' atoms: a program is a checklist of n files if its slots hold what they should,
--- and of no other number. Assumes nothing.
+-- Laws of the frame and of the marks' atoms: pages are a checklist of n files if none is muted and the slots hold what
+-- they should, and of no other number. Assumes nothing.
 use Prim.Native.Nat.{ℕ, zero, suc, _+_, _*_, _/_, _%_, _≤_, _<_}
 use native.Mathlib.Omega.{arith}
 use mathlib.Core.Path.{_≡_, refl, sym, _∙_, ap, ap₂, subst}
 use mathlib.Core.Logic.{_⊎_, inl, inr, ⊎-elim, _↔_}
-use mathlib.Core.Bool.{Bool, true, false, _||_, true≢false}
+use mathlib.Core.Bool.{Bool, true, false, _&&_, _||_, true≢false}
 use mathlib.Core.List.{List, [], _∷_, List·Memᴰ·head, List·Memᴰ·not-nil, List·Memᴰ·cases-cons}
 use mathlib.Core.List.{Memᴰ·append-left, Memᴰ·append-right, List·Memᴰ·append-cases}
 use mathlib.Core.Option.{Option, none, some, Option·some-injective, Option·none-ne-some}
 use lib.Dec.{eqb, leb}
 use lib.ListN.{length, getD}
 use Rattle.theory.specs.Lists.{_∈_}
-use Rattle.theory.specs.Rules.{Rule, Program, passes}
-use Rattle.theory.proofs.Lists.{and-l, and-r, and-of, or-cases, or-l, or-r, unless, eqb-eq, eqb-of}
+use Rattle.theory.specs.Rules.{Rule, Program, Page, Pages, all, passes}
+use Rattle.theory.proofs.Lists.{and-l, and-r, and-of, or-cases, or-l, or-r, unless, clash, eqb-eq, eqb-of}
 use Rattle.theory.proofs.Lists.{ltb-lt, lt-ltb, leb-le, le-leb, le-or-lt, any-at, any-of}
 use Rattle.theory.proofs.Lists.{first-place, first-in, first-exists, first-of}
 use Rattle.frame.specs.Frame.{Checklist, most-files, sent, skipped, good, fact, frame, files, is-mark, equal-lists}
-use Rattle.frame.specs.Frame.{equal, free-or-mark, fits, fits-from, files-of}
+use Rattle.frame.specs.Frame.{equal, free-or-mark, fits, fits-from, files-of, none-muted}
+use Rattle.frame.proofs.Unmuted.{unmuted-page}
 
 -- Lists that are told equal are; so are rules, and each is equal to itself.
 
@@ -204,18 +205,18 @@ frame-not-fact i a e = (let z : _≡_ {A = ℕ} 2 0 = ap (λ (r : Rule). length 
 
 -- Of no other number of files: behind the frame no slot holds a rule with entries.
 
-not-fewer : (P : Program) (m n : ℕ) → Checklist P m → Checklist P n → m < n → ⊥
-not-fewer P m zero C D l = omega arith
-not-fewer P m (suc i) C D l =
+not-fewer : (B : Pages) (m n : ℕ) → Checklist B m → Checklist B n → m < n → ⊥
+not-fewer B m zero C D l = omega arith
+not-fewer B m (suc i) C D l =
     frame-not-fact i _ (C .others (suc i) (frame (suc i)) l (D .frames (suc i) (omega arith)) .1)
 
-pub one-number : (P : Program) (m n : ℕ) → Checklist P m → Checklist P n → m ≡ n
-one-number P m n C D = ⊎-elim
+pub one-number : (B : Pages) (m n : ℕ) → Checklist B m → Checklist B n → m ≡ n
+one-number B m n C D = ⊎-elim
     (λ (l : m ≤ n). ⊎-elim
     (λ (k : n ≤ m). omega arith)
-    (λ (k : m < n). absurd (not-fewer P m n C D k))
+    (λ (k : m < n). absurd (not-fewer B m n C D k))
     (le-or-lt n m))
-    (λ (l : n < m). absurd (not-fewer P n m D C l))
+    (λ (l : n < m). absurd (not-fewer B n m D C l))
     (le-or-lt m n)
 
 -- The test of a slot is what a checklist asks of it.
@@ -240,42 +241,49 @@ held-mark :
 held-mark n none f = refl
 held-mark n (some q) f = (let w = f q refl in and-of _ _ (w .0) (equal-iff (fact (q .head)) q .1 (sym (w .1))))
 
-fits-checklist : (P : Program) (n : ℕ) → 1 ≤ n → n ≤ most-files → fits-from n 0 P ≡ true → Checklist P n
-fits-checklist P n l h t = (let f = fits-all n P .0 t in record {
+fits-checklist :
+    (B : Pages) (n : ℕ) → 1 ≤ n → n ≤ most-files → (none-muted B && fits-from n 0 (all B)) ≡ true → Checklist B n
+fits-checklist B n l h t = (let f = fits-all n (all B) .0 (and-r (none-muted B) _ t) in record {
   low = l;
   high = h;
-  frames = λ s k. passes-held (frame s) (getD P s none) (sym (fits-frame n s _ k) ∙ f s);
-  others = λ s r k e. mark-held n (getD P s none) r (sym (fits-behind n s _ k) ∙ f s) e;
+  unmuted = and-l (none-muted B) _ t;
+  frames = λ s k. passes-held (frame s) (getD (all B) s none) (sym (fits-frame n s _ k) ∙ f s);
+  others = λ s r k e. mark-held n (getD (all B) s none) r (sym (fits-behind n s _ k) ∙ f s) e;
 })
 
-checklist-fits : (P : Program) (n : ℕ) → Checklist P n → fits-from n 0 P ≡ true
-checklist-fits P n C = fits-all n P .1 (λ s. ⊎-elim
+checklist-fits : (B : Pages) (n : ℕ) → Checklist B n → (none-muted B && fits-from n 0 (all B)) ≡ true
+checklist-fits B n C = and-of _ _ (C .unmuted) (fits-all n (all B) .1 (λ s. ⊎-elim
     (λ (l : s ≤ n). fits-frame n s _ l ∙ ap (passes (equal (frame s))) (C .frames s l) ∙ equal-refl (frame s))
-    (λ (l : n < s). fits-behind n s _ l ∙ held-mark n (getD P s none) (λ r. C .others s r l))
-    (le-or-lt s n))
+    (λ (l : n < s). fits-behind n s _ l ∙ held-mark n (getD (all B) s none) (λ r. C .others s r l))
+    (le-or-lt s n)))
 
--- What is told of a program is the number of files of which it is the checklist.
+-- What is told of pages is the number of files of which they are the checklist.
 
-pub checklist-of : (P : Program) (n : ℕ) → files-of P ≡ some n → Checklist P n
+pub checklist-of : (B : Pages) (n : ℕ) → files-of B ≡ some n → Checklist B n
 unfolding files-of
-checklist-of P n e =
-    let f : ℕ → Bool = λ k. fits-from k 0 P in
+checklist-of B n e =
+    let f : ℕ → Bool = λ k. none-muted B && fits-from k 0 (all B) in
     let w = first-place f (files most-files) n e in
     let l = in-files most-files n .0 (first-in f (files most-files) _ n w) in
-    fits-checklist P n (l .0) (l .1) (w .good)
+    fits-checklist B n (l .0) (l .1) (w .good)
 
-pub of-checklist : (P : Program) (n : ℕ) → Checklist P n → files-of P ≡ some n
+pub of-checklist : (B : Pages) (n : ℕ) → Checklist B n → files-of B ≡ some n
 unfolding files-of
-of-checklist P n C =
-    let f : ℕ → Bool = λ k. fits-from k 0 P in
-    let w = first-exists f (files most-files) n (in-files most-files n .1 (C .low, C .high)) (checklist-fits P n C) in
+of-checklist B n C =
+    let f : ℕ → Bool = λ k. none-muted B && fits-from k 0 (all B) in
+    let w = first-exists f (files most-files) n (in-files most-files n .1 (C .low, C .high)) (checklist-fits B n C) in
     let e = first-of f (files most-files) (w .0) (w .1) (w .2) .0 in
-    e ∙ ap some (one-number P (w .1) n (checklist-of P (w .1) e) C)
+    e ∙ ap some (one-number B (w .1) n (checklist-of B (w .1) e) C)
 
--- A program that is a checklist of no number of files is told as none.
-pub no-files : (P : Program) → ((n : ℕ) → Checklist P n → ⊥) → files-of P ≡ none
-no-files P f = go (files-of P) refl
+-- Pages that are a checklist of no number of files are told as none.
+pub no-files : (B : Pages) → ((n : ℕ) → Checklist B n → ⊥) → files-of B ≡ none
+no-files B f = go (files-of B) refl
   where
-    go : (o : Option ℕ) → files-of P ≡ o → files-of P ≡ none
+    go : (o : Option ℕ) → files-of B ≡ o → files-of B ≡ none
     go none e = e
-    go (some n) e = absurd (f n (checklist-of P n e))
+    go (some n) e = absurd (f n (checklist-of B n e))
+
+-- Pages of which one is muted are a checklist of no number of files (request #108).
+pub muted-no-files :
+    (B : Pages) (s : ℕ) (p : Page) → getD B s none ≡ some p → p .muted ≡ true → files-of B ≡ none
+muted-no-files B s p e m = no-files B (λ n C. clash m (unmuted-page B (C .unmuted) s p e))

@@ -1,23 +1,27 @@
--- A slot that holds a fact, the frame's rule of a file, or the fact of a mark, read off its fields. Assumes nothing.
+-- A slot that holds a fact, the frame's rule of a file, or the fact of a mark, unmuted, read off its fields. Assumes
+-- nothing.
 use Prim.Native.Nat.{ℕ, zero, suc, _+_, _-_, _*_, _≤_, _<_, min}
 use native.Mathlib.Omega.{arith}
 use mathlib.Core.Path.{_≡_, refl, sym, _∙_, ap, ap₂, subst}
 use mathlib.Core.Logic.{_↔_, ⊎-elim}
 use mathlib.Core.Bool.{Bool, true, false}
 use mathlib.Core.List.{List, [], _∷_}
-use mathlib.Core.Option.{none, some, Option·none-ne-some, Option·some-injective}
+use mathlib.Core.Option.{Option, none, some, Option·none-ne-some}
+use lib.Dec.{eqb}
 use lib.ListN.{length, getD, take, drop, length-map, length-take, length-drop}
-use Rattle.theory.specs.Rules.{entries, Program, Held}
+use Rattle.theory.specs.Rules.{active, active-on, all, entries, Held, Page, Pages, Program}
 use Rattle.theory.specs.Rules as theory
 use Rattle.theory.specs.Limits.{document}
-use Rattle.theory.proofs.Lists.{clash, le-or-lt}
+use Rattle.theory.proofs.Lists.{clash, eqb-eq, eqb-of, false-not, le-or-lt}
+use Rattle.theory.proofs.Pages.{active-at, active-held, held-page, page-held}
 use Rattle.theory.proofs.Questions.{held-below}
 use Rattle.table.specs.declared.Atom.{Atom}
 use Rattle.table.specs.declared.Rule.{Rule}
-use Rattle.table.specs.Rules.{numbers, slotOf, ruleOf, programOf, noAtom, pastRule}
-use Rattle.table.proofs.Programs.{slot-free, slot-held, slot-rule, program-at, program-length}
-use Rattle.frame.specs.Frame.{MarkFact, Checklist, fact, frame, is-mark, files-of}
+use Rattle.table.specs.Rules.{numbers, page-in, pageOf, activeIn, ruleOf, bookOf, activeOf, noAtom, pastRule}
+use Rattle.table.proofs.Programs.{active-rule, active-some, active-state, active-place, book-at, program-length}
+use Rattle.frame.specs.Frame.{MarkFact, Checklist, fact, frame, is-mark, files-of, none-muted, unmuted-on}
 use Rattle.frame.specs.Parts.{FreeOrMark, FrameRun, MarksBehind, count-of}
+use Rattle.frame.proofs.Unmuted.{active-all, active-page, page-active, unmuted-of, unmuted-page}
 use Rattle.frame.proofs.Frames.{frame-not-fact, of-checklist, no-files}
 
 -- What a test tells that is answered no, and one that is answered yes.
@@ -38,34 +42,36 @@ negatives-length r =
     ∙ length-take (r .negatives) (drop (r .positives) (r .entries))
     ∙ ap (min (r .negatives)) (length-drop (r .positives) (r .entries))
 
--- A slot that holds a rule whose lists together leave room: its counts are the lists' lengths.
-module _ (r : Rule) (q : theory.Rule) (long : length (r .entries) ≡ document .entries) (h : slotOf r ≡ some q) where
+-- A slot that holds a rule, unmuted, whose lists together leave room: its counts are the lists' lengths.
+module _ (r : Rule) (q : theory.Rule) (long : length (r .entries) ≡ document .entries) (h : activeIn r ≡ some q) where
   pub head-held : r .head .0 ≡ q .head
-  head-held = ap (λ (x : theory.Rule). x .head) (slot-rule r q h)
+  head-held = ap (λ (x : theory.Rule). x .head) (active-rule r q h)
 
   pub positives-held : length (q .positives) < document .entries → r .positives ≡ length (q .positives)
   positives-held l =
-      let e = ap (λ (x : theory.Rule). length (x .positives)) (slot-rule r q h) in
+      let e = ap (λ (x : theory.Rule). length (x .positives)) (active-rule r q h) in
       omega (arith, e, positives-length r)
 
   pub negatives-held :
       length (q .positives) < document .entries → length (q .negatives) < document .entries - length (q .positives)
       → r .negatives ≡ length (q .negatives)
   negatives-held l m =
-      let e = ap (λ (x : theory.Rule). length (x .negatives)) (slot-rule r q h) in
+      let e = ap (λ (x : theory.Rule). length (x .negatives)) (active-rule r q h) in
       let p = positives-held l in
       omega (arith, e, negatives-length r)
 
--- A slot whose counts are 0 holds a fact.
+-- A slot whose counts are 0 holds a fact, and if its state is 1, unmuted.
 pub fact-held :
-    (r : Rule) (a : ℕ) → (r .state ≡ 0 → ⊥) → r .head .0 ≡ a → r .positives ≡ 0 → r .negatives ≡ 0
-    → slotOf r ≡ some (fact a)
-fact-held r a n h p m =
-    slot-held r n ∙ ap some (λ i. record {
-      head = h i;
-      positives = ap (λ (k : ℕ). numbers (take k (r .entries))) p i;
-      negatives = ap (λ (k : ℕ). numbers (take k (drop (r .positives) (r .entries)))) m i;
-    })
+    (r : Rule) (a : ℕ) → r .head .0 ≡ a → r .positives ≡ 0 → r .negatives ≡ 0
+    → (eqb (r .state) 1 ≡ true) ↔ (activeIn r ≡ some (fact a))
+fact-held r a h p m = (
+  λ t. active-some r (eqb-eq (r .state) 1 t) ∙ ap some (λ i. record {
+    head = h i;
+    positives = ap (λ (k : ℕ). numbers (take k (r .entries))) p i;
+    negatives = ap (λ (k : ℕ). numbers (take k (drop (r .positives) (r .entries)))) m i;
+  }),
+  λ e. eqb-of (r .state) 1 (active-state r (fact a) e),
+)
 
 -- The frame's rule of file i, from 1, by its numbers.
 abbrev pub file-rule : ℕ → theory.Rule
@@ -117,20 +123,21 @@ module _ (xs : List Atom) (i : ℕ) (long : length xs ≡ 8) (l : 1 ≤ i) where
 -- A slot with two positives and one negative holds the frame's rule of its head's file if its three entries are those.
 module _ (r : Rule) (i : ℕ) (long : length (r .entries) ≡ 8) (l : 1 ≤ i) where
   pub file-held :
-      (r .state ≡ 0 → ⊥) → r .head .0 ≡ 3 * i → r .positives ≡ 2 → r .negatives ≡ 1 → ThreeAre (r .entries) i
-      → slotOf r ≡ some (frame i)
+      r .state ≡ 1 → r .head .0 ≡ 3 * i → r .positives ≡ 2 → r .negatives ≡ 1 → ThreeAre (r .entries) i
+      → activeIn r ≡ some (frame i)
   file-held n h p m t =
       let xs = r .entries in
       let ps : numbers (take (r .positives) xs) ≡ (3 * i - 3) ∷ (3 * i - 2) ∷ [] =
       ap (λ (k : ℕ). numbers (take k xs)) p ∙ three xs long .0 ∙ (λ k. t .first k ∷ t .second k ∷ []) in
       let ns : numbers (take (r .negatives) (drop (r .positives) xs)) ≡ (3 * i - 1) ∷ [] =
       ap₂ (λ (k j : ℕ). numbers (take k (drop j xs))) m p ∙ three xs long .1 ∙ (λ k. t .third k ∷ []) in
-      slot-held r n ∙ ap some ((λ k. record { head = h k; positives = ps k; negatives = ns k }) ∙ sym (frame-file i l))
+      active-some r n
+      ∙ ap some ((λ k. record { head = h k; positives = ps k; negatives = ns k }) ∙ sym (frame-file i l))
 
-  pub held-file : slotOf r ≡ some (frame i) → r .positives ≡ 2 → r .negatives ≡ 1 → ThreeAre (r .entries) i
+  pub held-file : activeIn r ≡ some (frame i) → r .positives ≡ 2 → r .negatives ≡ 1 → ThreeAre (r .entries) i
   held-file e p m =
       let xs = r .entries in
-      let w = slot-rule r (frame i) e ∙ frame-file i l in
+      let w = active-rule r (frame i) e ∙ frame-file i l in
       let ps = sym (three xs long .0) ∙ ap (λ (k : ℕ). numbers (take k xs)) (sym p)
       ∙ ap (λ (q : theory.Rule). q .positives) w in
       let ns = sym (three xs long .1) ∙ ap₂ (λ (k j : ℕ). numbers (take k (drop j xs))) (sym m) (sym p)
@@ -141,22 +148,36 @@ module _ (r : Rule) (i : ℕ) (long : length (r .entries) ≡ 8) (l : 1 ≤ i) w
         third = ap (λ (zs : List ℕ). getD zs 0 0) ns;
       }
 
--- A free slot has no rule to ask about; a held one is told by its rule.
-pub free-passes : (n : ℕ) (r : Rule) → r .state ≡ 0 → FreeOrMark n (slotOf r)
-free-passes n r e q h = absurd (Option·none-ne-some q (sym (slot-free r e) ∙ h))
+-- A free slot has no rule to ask about; a held one has the page of its rule, by which it is told.
+pub free-passes : (n : ℕ) (r : Rule) → r .state ≡ 0 → FreeOrMark n (pageOf r)
+free-passes n r e p h = absurd (Option·none-ne-some p (sym (ap (λ (k : ℕ). page-in k (ruleOf r)) e) ∙ h))
 
-module _ (n : ℕ) (r : Rule) where
-  pub no-mark : (is-mark n (r .head .0) ≡ false) → (r .state ≡ 0 → ⊥) → FreeOrMark n (slotOf r) → ⊥
-  no-mark f h w = clash (w (ruleOf r) (slot-held r h) .0) f
+page-there : (r : Rule) → (r .state ≡ 0 → ⊥) → (p : Page) × (pageOf r ≡ some p) × (p .rule ≡ ruleOf r)
+page-there r = go (r .state)
+  where
+    go : (k : ℕ) → (k ≡ 0 → ⊥) → (p : Page) × (page-in k (ruleOf r) ≡ some p) × (p .rule ≡ ruleOf r)
+    go zero h = absurd (h refl)
+    go (suc zero) h = (_, refl, refl)
+    go (suc (suc k)) h = (_, refl, refl)
+
+module _ (n : ℕ) (r : Rule) (there : r .state ≡ 0 → ⊥) where
+  pub no-mark : (is-mark n (r .head .0) ≡ false) → FreeOrMark n (pageOf r) → ⊥
+  no-mark f w =
+      let p = page-there r there in
+      clash (ap (λ (q : theory.Rule). is-mark n (q .head)) (sym (p .2)) ∙ w (p .0) (p .1) .1 .0) f
 
   pub mark-told :
-      (b : Bool) → is-mark n (r .head .0) ≡ true → (r .state ≡ 0 → ⊥)
-      → (b ≡ true) ↔ (slotOf r ≡ some (fact (r .head .0))) → (b ≡ true) ↔ FreeOrMark n (slotOf r)
-  mark-told b m h told = (
-    λ t q e. (
-        let w : fact (r .head .0) ≡ q = Option·some-injective _ _ (sym (told .0 t) ∙ e) in
-        subst (MarkFact n) w (m, refl)),
-    λ w. told .1 (slot-held r h ∙ ap some (w (ruleOf r) (slot-held r h) .1)),
+      (b : Bool) → is-mark n (r .head .0) ≡ true → (b ≡ true) ↔ (activeIn r ≡ some (fact (r .head .0)))
+      → (b ≡ true) ↔ FreeOrMark n (pageOf r)
+  mark-told b m told = (
+    λ t p e. (
+        let w = active-page p (fact (r .head .0)) (ap active-on (sym e) ∙ told .0 t) in
+        (w .0, subst (MarkFact n) (sym (w .1)) (m, refl))),
+    λ w. (
+        let p = page-there r there in
+        let v = w (p .0) (p .1) in
+        told .1 (ap active-on (p .1) ∙ page-active (p .0) (v .0)
+        ∙ ap some (v .1 .1 ∙ ap (λ (q : theory.Rule). fact (q .head)) (p .2)))),
   )
 
 -- The frame of n files stands from slot 0 on.
@@ -164,87 +185,113 @@ abbrev pub Stands : Program → ℕ → Type 0
 Stands P n = (s : ℕ) → s ≤ n → Held P s (frame s)
 
 module _ (rules : List Rule) where
-  pub no-start : (slotOf (getD rules 0 pastRule) ≡ some (fact 0) → ⊥) → FrameRun (programOf rules) 0
+  pub no-start : (activeIn (getD rules 0 pastRule) ≡ some (fact 0) → ⊥) → FrameRun (activeOf rules) 0
   no-start n = record {
     few = omega arith;
     stands = λ l. absurd (omega arith);
-    ends = λ l f. n (sym (program-at rules 0) ∙ f 0 (omega arith));
+    ends = λ l f. n (sym (active-place rules 0) ∙ f 0 (omega arith));
   }
 
-  pub one-start : slotOf (getD rules 0 pastRule) ≡ some (fact 0) → Stands (programOf rules) 0
+  pub one-start : activeIn (getD rules 0 pastRule) ≡ some (fact 0) → Stands (activeOf rules) 0
   one-start e s l = (let z : 0 ≡ s = omega arith in
-      subst (λ (k : ℕ). Held (programOf rules) k (frame k)) z (program-at rules 0 ∙ e))
+      subst (λ (k : ℕ). Held (activeOf rules) k (frame k)) z (active-place rules 0 ∙ e))
 
-  module _ (n : ℕ) (all : Stands (programOf rules) n) where
+  module _ (n : ℕ) (all : Stands (activeOf rules) n) where
     pub one-more :
-        slotOf (getD rules (n + 1) pastRule) ≡ some (frame (n + 1)) → Stands (programOf rules) (n + 1)
+        activeIn (getD rules (n + 1) pastRule) ≡ some (frame (n + 1)) → Stands (activeOf rules) (n + 1)
     one-more e s l = ⊎-elim
         (λ (k : s ≤ n). all s k)
         (λ (k : n < s). let z : n + 1 ≡ s = omega arith in
-        subst (λ (k : ℕ). Held (programOf rules) k (frame k)) z (program-at rules (n + 1) ∙ e))
+        subst (λ (k : ℕ). Held (activeOf rules) k (frame k)) z (active-place rules (n + 1) ∙ e))
         (le-or-lt s n)
 
     pub run-ends :
-        n < 60 → (slotOf (getD rules (n + 1) pastRule) ≡ some (frame (n + 1)) → ⊥) → FrameRun (programOf rules) n
+        n < 60 → (activeIn (getD rules (n + 1) pastRule) ≡ some (frame (n + 1)) → ⊥) → FrameRun (activeOf rules) n
     run-ends l f = record {
       few = omega arith;
       stands = λ k. all;
-      ends = λ k w. f (sym (program-at rules (n + 1)) ∙ w (n + 1) (omega arith));
+      ends = λ k w. f (sym (active-place rules (n + 1)) ∙ w (n + 1) (omega arith));
     }
 
-    pub run-full : n ≤ 60 → 60 ≤ n → FrameRun (programOf rules) n
+    pub run-full : n ≤ 60 → 60 ≤ n → FrameRun (activeOf rules) n
     run-full l m = record { few = l; stands = λ k. all; ends = λ k w. absurd (omega arith) }
 
 -- The slots from n + 1 to below s are free or hold marks.
-abbrev pub MarksTo : Program → ℕ → ℕ → Type 0
-MarksTo P n s = (k : ℕ) (q : theory.Rule) → n < k → k < s → Held P k q → MarkFact n q
+abbrev pub MarksTo : Pages → ℕ → ℕ → Type 0
+MarksTo B n s = (k : ℕ) → n < k → k < s → FreeOrMark n (getD B k none)
 
-module _ (rules : List Rule) (n s : ℕ) (some-marks : MarksTo (programOf rules) n s) where
-  pub marks-more : FreeOrMark n (slotOf (getD rules s pastRule)) → MarksTo (programOf rules) n (s + 1)
-  marks-more w k q l m h = ⊎-elim
-      (λ (j : s ≤ k). let z : k ≡ s = omega arith in
-      w q (sym (program-at rules s) ∙ ap (λ (i : ℕ). getD (programOf rules) i none) (sym z) ∙ h))
-      (λ (j : k < s). some-marks k q l j h)
+module _ (rules : List Rule) (n s : ℕ) (some-marks : MarksTo (bookOf rules) n s) where
+  pub marks-more : FreeOrMark n (pageOf (getD rules s pastRule)) → MarksTo (bookOf rules) n (s + 1)
+  marks-more w k l m = ⊎-elim
+      (λ (j : s ≤ k). let z : s ≡ k = omega arith in
+      subst (λ (i : ℕ). FreeOrMark n (getD (bookOf rules) i none)) z (subst (FreeOrMark n) (sym (book-at rules s)) w))
+      (λ (j : k < s). some-marks k l j)
       (le-or-lt s k)
 
   pub marks-stop :
-      n < s → (FreeOrMark n (slotOf (getD rules s pastRule)) → ⊥) → MarksBehind (programOf rules) n false
-  marks-stop l f = told-no (λ w. f (λ q e. w s q l (program-at rules s ∙ e)))
+      n < s → (FreeOrMark n (pageOf (getD rules s pastRule)) → ⊥) → MarksBehind (bookOf rules) n false
+  marks-stop l f = told-no (λ w. f (subst (FreeOrMark n) (book-at rules s) (w s l)))
 
-  pub marks-all : length rules ≤ s → MarksBehind (programOf rules) n true
-  marks-all l = told-yes (λ k q j h. some-marks k q j
-      (omega (arith, l, held-below (programOf rules) k q h, program-length rules)) h)
+  pub marks-all : length rules ≤ s → MarksBehind (bookOf rules) n true
+  marks-all l = told-yes (λ k j p e. some-marks k j (omega (
+    arith,
+    l,
+    held-below (all (bookOf rules)) k (p .rule) (held-page (bookOf rules) k p e),
+    program-length rules,
+  )) p e)
 
 -- What the run of the frame and the slots behind it say of the whole.
-module _ (P : Program) (n : ℕ) (R : FrameRun P n) where
-  run-number : (m : ℕ) → Checklist P m → m ≡ n
+module _ (B : Pages) (n : ℕ) (R : FrameRun (active B) n) where
+  run-number : (m : ℕ) → Checklist B m → m ≡ n
   run-number m C = ⊎-elim
       (λ (l : m ≤ n). ⊎-elim
       (λ (k : n ≤ m). omega arith)
-      (λ (k : m < n). absurd (next-held m C k (R .stands (omega (arith, C .low)) (suc m) (omega arith))))
+      (λ (k : m < n). absurd (next-held (R .stands (omega (arith, C .low)) (suc m) (omega arith))))
       (le-or-lt n m))
-      (λ (l : n < m). absurd (R .ends (omega (arith, C .high)) (λ s k. C .frames s (omega arith))))
+      (λ (l : n < m). absurd (R .ends (omega (arith, C .high)) (λ s k. unmuted-frame s (omega arith))))
       (le-or-lt m n)
     where
-      next-held : (m : ℕ) → Checklist P m → m < n → Held P (suc m) (frame (suc m)) → ⊥
-      next-held m C k h = frame-not-fact m _ (C .others (suc m) (frame (suc m)) (omega arith) h .1)
+      next-held : Held (active B) (suc m) (frame (suc m)) → ⊥
+      next-held h =
+          frame-not-fact m _ (C .others (suc m) (frame (suc m)) (omega arith) (active-held B _ _ h) .1)
 
-  pub count-none : n ≡ 0 → 0 ≡ count-of (files-of P)
-  count-none z = sym (ap count-of (no-files P (λ m C. omega (arith, run-number m C, C .low))))
+      unmuted-frame : Stands (active B) m
+      unmuted-frame s k = ap (λ (P : Program). getD P s none) (active-all B (C .unmuted)) ∙ C .frames s k
 
-  module _ (b : Bool) (behind : MarksBehind P n b) where
-    pub count-broken : b ≡ false → 0 ≡ count-of (files-of P)
+  pub count-none : n ≡ 0 → 0 ≡ count-of (files-of B)
+  count-none z = sym (ap count-of (no-files B (λ m C. omega (arith, run-number m C, C .low))))
+
+  module _ (b : Bool) (behind : MarksBehind B n b) where
+    pub count-broken : b ≡ false → 0 ≡ count-of (files-of B)
     count-broken f =
-        sym (ap count-of (no-files P (λ m C. (
-        let z = run-number m C in
-        let D : Checklist P n = subst (Checklist P) z C in
-        clash (behind .1 (D .others)) f))))
+        sym (ap count-of (no-files B (λ m C. (
+        let D : Checklist B n = subst (Checklist B) (run-number m C) C in
+        clash (behind .1 (λ s l p e.
+        (unmuted-page B (D .unmuted) s p e, D .others s (p .rule) l (held-page B s p e)))) f))))
 
-    pub count-whole : (n ≡ 0 → ⊥) → b ≡ true → n ≡ count-of (files-of P)
+    -- no page is muted: neither the frame's nor one behind it
+    whole-unmuted : 1 ≤ n → b ≡ true → none-muted B ≡ true
+    whole-unmuted l t = unmuted-of B (λ s. ⊎-elim
+        (λ (k : s ≤ n). of-rule (getD B s none) (frame s) (sym (active-at B s) ∙ R .stands l s k))
+        (λ (k : n < s). of-mark (getD B s none) (behind .0 t s k))
+        (le-or-lt s n))
+      where
+        of-rule : (o : Option Page) (r : theory.Rule) → active-on o ≡ some r → unmuted-on o ≡ true
+        of-rule none r e = refl
+        of-rule (some p) r e = false-not (p .muted) (active-page p r e .0)
+
+        of-mark : (o : Option Page) → FreeOrMark n o → unmuted-on o ≡ true
+        of-mark none w = refl
+        of-mark (some p) w = false-not (p .muted) (w p refl .0)
+
+    pub count-whole : (n ≡ 0 → ⊥) → b ≡ true → n ≡ count-of (files-of B)
     count-whole l t =
-        sym (ap count-of (of-checklist P n (record {
+        sym (ap count-of (of-checklist B n (record {
           low = omega arith;
           high = R .few;
-          frames = R .stands (omega arith);
-          others = behind .0 t;
+          unmuted = whole-unmuted (omega arith) t;
+          frames = λ s k. active-held B s (frame s) (R .stands (omega arith) s k);
+          others = λ s r k h. (
+              let p = page-held B s r h in
+              subst (MarkFact n) (p .2) (behind .0 t s k (p .0) (p .1) .1));
         })))

@@ -1,13 +1,13 @@
--- Request #106: the checklist of n files, 1 to 60: its atoms, its frame, its marks, and which programs are one. Assumes
+-- Request #106: the checklist of n files, 1 to 60: its atoms, its frame, its marks, and which pages are one. Assumes
 -- nothing.
 use Prim.Native.Nat.{ℕ, zero, suc, _-_, _*_, _≤_, _<_}
 use mathlib.Core.Path.{_≡_}
-use mathlib.Core.Bool.{Bool, true, false, _&&_, _||_}
+use mathlib.Core.Bool.{Bool, true, false, not, _&&_, _||_}
 use mathlib.Core.List.{List, [], _∷_, _++_}
 use mathlib.Core.Option.{Option, none, some}
 use lib.Dec.{eqb, leb, ltb}
-use Rattle.theory.specs.Lists.{any, first}
-use Rattle.theory.specs.Rules.{Rule, Program, Held, passes, any-rule}
+use Rattle.theory.specs.Lists.{any, every, first}
+use Rattle.theory.specs.Rules.{Rule, Program, Page, Pages, all, Held, passes, any-rule}
 
 -- A checklist is opened for 1 to 60 files.
 abbrev pub most-files : ℕ
@@ -58,15 +58,24 @@ equal q r =
 abbrev pub MarkFact : ℕ → Rule → Type 0
 MarkFact n r = (is-mark n (r .head) ≡ true) × (r ≡ fact (r .head))
 
--- A program is a checklist of n files if its rules are those that the marks of n files give: the frame in slots 0 to n,
--- and in any other slot nothing, or the fact of a mark.
-pub record Checklist (P : Program) (n : ℕ) : Type 0 where
+-- No page is muted (request #108).
+abbrev pub unmuted-on : Option Page → Bool
+unmuted-on none = true
+unmuted-on (some p) = not (p .muted)
+
+abbrev pub none-muted : Pages → Bool
+none-muted B = every unmuted-on B
+
+-- Pages are a checklist of n files if none is muted, and their rules are those that the marks of n files give: the
+-- frame in slots 0 to n, and in any other slot nothing, or the fact of a mark.
+pub record Checklist (B : Pages) (n : ℕ) : Type 0 where
   pub low : 1 ≤ n
   pub high : n ≤ most-files
-  pub frames : (s : ℕ) → s ≤ n → Held P s (frame s)
-  pub others : (s : ℕ) (r : Rule) → n < s → Held P s r → MarkFact n r
+  pub unmuted : none-muted B ≡ true
+  pub frames : (s : ℕ) → s ≤ n → Held (all B) s (frame s)
+  pub others : (s : ℕ) (r : Rule) → n < s → Held (all B) s r → MarkFact n r
 
--- The same as a test, slot by slot.
+-- What the rules are as a test, slot by slot.
 abbrev pub free-or-mark : ℕ → Option Rule → Bool
 free-or-mark n none = true
 free-or-mark n (some r) = is-mark n (r .head) && equal (fact (r .head)) r
@@ -79,14 +88,14 @@ unfoldable pub fits-from : ℕ → ℕ → Program → Bool
 fits-from n s [] = ltb n s
 fits-from n s (o ∷ P) = fits n s o && fits-from n (suc s) P
 
--- How many files the checklist has that a program is, if it is one: the laws `checklist-of` and `of-checklist`. (It is
--- one of no other number of files: `one-number`.)
-unfoldable pub files-of : Program → Option ℕ
-files-of P = first (λ n. fits-from n 0 P) (files most-files)
+-- How many files the checklist has that pages are, if they are one: the laws `checklist-of` and `of-checklist`. (They
+-- are one of no other number of files: `one-number`.)
+unfoldable pub files-of : Pages → Option ℕ
+files-of B = first (λ n. none-muted B && fits-from n 0 (all B)) (files most-files)
 
 -- A mark stands if a slot holds its fact: this file is sent, this one has a skip standing.
-abbrev pub marked : Program → ℕ → Bool
-marked P a = any-rule (equal (fact a)) P
+abbrev pub marked : Pages → ℕ → Bool
+marked B a = any-rule (equal (fact a)) (all B)
 
 -- The first slot that holds the rule, if one does.
 unfoldable pub first-slot : Rule → Program → ℕ

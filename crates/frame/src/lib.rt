@@ -9,20 +9,17 @@ ghost use Prim.Native.Nat.{_≤_};
 ghost use lib.ListN.{take};
 ghost use mathlib.Core.Option.{some};
 ghost use Rattle.theory.specs.Rules.{entries};
-ghost use Rattle.table.specs.Rules.{numbers, slotOf, programOf};
+ghost use Rattle.table.specs.Rules.{numbers, pageOf, activeIn, bookOf, activeOf};
 ghost use Rattle.frame.specs.Frame.{most-files, fact, frame, is-mark, files-of};
 ghost use Rattle.frame.specs.Parts.{FreeOrMark, FrameRun, MarksBehind, count-of};
 
 // The most files of a checklist.
 pub const MOST: usize = 60;
 
-// Does the slot hold this atom as a fact?
+// Does the slot hold this atom as a fact, unmuted?
 fn holds_fact(rule: Rule, atom: u16) -> bool
-    ensures { λ r. ⌜ (r ≡ true) ↔ (slotOf rule ≡ some (fact atom)) ⌝ }
+    ensures { λ r. ⌜ (r ≡ true) ↔ (activeIn rule ≡ some (fact atom)) ⌝ }
 {
-    if rule.state == 0 {
-        return false;
-    }
     if rule.head.0 != atom {
         return false;
     }
@@ -32,7 +29,7 @@ fn holds_fact(rule: Rule, atom: u16) -> bool
     if rule.negatives != 0 {
         return false;
     }
-    true
+    rule.state == 1
 }
 
 // Are these the entries of the frame's rule of file i, from 1?
@@ -52,12 +49,12 @@ fn file_entries(atoms: [Atom; Table::ENTRIES], i: u16) -> bool
     true
 }
 
-// Does the slot hold the frame's rule of file i, from 1?
+// Does the slot hold the frame's rule of file i, from 1, unmuted?
 fn holds_file(rule: Rule, i: u16) -> bool
     requires { ⌜ (1 ≤ i) × (i ≤ most-files) ⌝ }
-    ensures { λ r. ⌜ (r ≡ true) ↔ (slotOf rule ≡ some (frame i)) ⌝ }
+    ensures { λ r. ⌜ (r ≡ true) ↔ (activeIn rule ≡ some (frame i)) ⌝ }
 {
-    if rule.state == 0 {
+    if rule.state != 1 {
         return false;
     }
     if rule.head.0 != 3 * i {
@@ -87,10 +84,10 @@ fn is_mark(atom: u16, n: u16) -> bool
     true
 }
 
-// Is the slot free, or does it hold the fact of a mark of one of n files?
+// Is the slot free, or does it hold the fact of a mark of one of n files, unmuted?
 fn free_or_mark(rule: Rule, n: u16) -> bool
     requires { ⌜ n ≤ most-files ⌝ }
-    ensures { λ r. ⌜ (r ≡ true) ↔ FreeOrMark n (slotOf rule) ⌝ }
+    ensures { λ r. ⌜ (r ≡ true) ↔ FreeOrMark n (pageOf rule) ⌝ }
 {
     if rule.state == 0 {
         return true;
@@ -102,9 +99,9 @@ fn free_or_mark(rule: Rule, n: u16) -> bool
     holds_fact(rule, atom)
 }
 
-// Of how many files, at most 60, the frame stands in slots 0, 1, 2, .. one after another.
+// Of how many files, at most 60, the frame stands in slots 0, 1, 2, .. one after another, unmuted.
 fn frame_run(rules: [Rule; Table::SLOTS]) -> usize
-    ensures { λ r. ⌜ FrameRun (programOf rules) r ⌝ }
+    ensures { λ r. ⌜ FrameRun (activeOf rules) r ⌝ }
 {
     let start = rules[0];
     if !holds_fact(start, 0) {
@@ -121,10 +118,10 @@ fn frame_run(rules: [Rule; Table::SLOTS]) -> usize
     n
 }
 
-// Does every slot behind the frame of n files hold nothing, or the fact of a mark?
+// Does every slot behind the frame of n files hold nothing, or the fact of a mark, unmuted?
 fn marks_behind(rules: [Rule; Table::SLOTS], n: usize) -> bool
     requires { ⌜ n ≤ most-files ⌝ }
-    ensures { λ r. ⌜ MarksBehind (programOf rules) n r ⌝ }
+    ensures { λ r. ⌜ MarksBehind (bookOf rules) n r ⌝ }
 {
     let mut s: usize = n + 1;
     while s < Table::SLOTS {
@@ -139,7 +136,7 @@ fn marks_behind(rules: [Rule; Table::SLOTS], n: usize) -> bool
 
 // How many files the checklist has that the rules are; 0 where they are none.
 pub fn file_count(rules: [Rule; Table::SLOTS]) -> usize
-    ensures { λ r. ⌜ r ≡ count-of (files-of (programOf rules)) ⌝ }
+    ensures { λ r. ⌜ r ≡ count-of (files-of (bookOf rules)) ⌝ }
 {
     let n = frame_run(rules);
     if n == 0 {

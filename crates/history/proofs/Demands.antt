@@ -1,6 +1,6 @@
--- Demand 2: after an addition, a removal, a replacement, a load or a call of a checklist an atom is in if and only if
--- it is in the admissible model of the rules now held; a rule that closes a loop through a negation is refused by 7,
--- and no other is. Request #102, of the calls. Assumes nothing.
+-- Demand 2: after an addition, a removal, a replacement, a muting, a load or a call of a checklist an atom is in if and
+-- only if it is in the admissible model of the unmuted rules now held; a rule that closes a loop through a negation is
+-- refused by 7, and no other is. Request #102, of the calls. Assumes nothing.
 use Prim.Native.Nat.{ℕ, _<_}
 use native.Mathlib.Omega.{arith}
 use mathlib.Core.Path.{_≡_, refl, sym, _∙_, ap, subst}
@@ -10,10 +10,10 @@ use mathlib.Core.Option.{none, some, Option·some-injective, Option·none-ne-som
 use lib.Dec.{eqb}
 use lib.ListN.{take, drop}
 use Rattle.theory.specs.Lists.{every}
-use Rattle.theory.specs.Rules.{Rule, Program, Held, any-rule, same}
-use Rattle.theory.specs.Models.{AtomSet, Admissible}
+use Rattle.theory.specs.Rules.{Rule, Program, Pages, all, active, Held, any-rule, same}
+use Rattle.theory.specs.Models.{Admissible}
 use Rattle.theory.specs.Dependencies.{NegativeCycle}
-use Rattle.theory.specs.Labels.{Label, absent, out, in-at, Labelled, is-absent, is-out, is-in}
+use Rattle.theory.specs.Labels.{Labelled}
 use Rattle.theory.specs.Questions.{Question, asks, first-no, add-questions, replace-questions, stratified}
 use Rattle.theory.specs.Questions.{is-in-label, with-added, with-replaced}
 use Rattle.theory.specs.Limits.{document}
@@ -23,7 +23,8 @@ use Rattle.theory.proofs.Sameness.{same-iff}
 use Rattle.theory.proofs.Removal.{none-left, ground-gone}
 use Rattle.theory.proofs.Cycles.{found-cycle, cycle-found}
 use Rattle.theory.proofs.Questions.{first-no-here, first-no-take, never-refused, passed-bounded}
-use Rattle.theory.proofs.Labels.{in-occurs}
+use Rattle.theory.proofs.Pages.{all-set}
+use Rattle.theory.proofs.Labels.{label-in}
 use Rattle.table.specs.declared.Table.{Table}
 use Rattle.table.specs.Labels.{labelAt}
 use Rattle.table.specs.Clean.{emptyTable}
@@ -37,7 +38,7 @@ use Rattle.calls.specs.declared.Refusal.{Refusal}
 use Rattle.calls.specs.declared.Refusal.the-variants as refusal
 use Rattle.calls.specs.Answers.{numberOf}
 use Rattle.calls.specs.Contracts as contract
-use Rattle.calls.specs.Contracts.{held, AddEnds, ChangeEnds, RemoveEnds, ReplaceEnds, LoadEnds}
+use Rattle.calls.specs.Contracts.{held, AddEnds, ChangeEnds, RemoveEnds, ReplaceEnds, MuteEnds, LoadEnds}
 use Rattle.calls.proofs.Refusals.{refusalOf, refusal-number}
 use Rattle.checklist.specs.Questions.{FileCall}
 use Rattle.checklist.specs.Contracts as list
@@ -45,31 +46,24 @@ use Rattle.checklist.specs.Contracts.{OpenEnds, FileEnds}
 use Rattle.history.specs.Claim.{InModel}
 use Rattle.history.proofs.Sequence.{sound-model}
 
--- A label says in exactly if the atom is in the model.
-pub label-in-model :
-    (P : Program) (M : AtomSet) → Admissible P M → (a : ℕ) (l : Label) → Labelled P M a l → is-in-label l ≡ M a
-label-in-model P M A a absent (is-absent f) = sym (unless (M a) (λ t. f (in-occurs P M (A .founded) a t)))
-label-in-model P M A a out (is-out o n) = sym n
-label-in-model P M A a (in-at d s) (is-in t D S) = sym t
-
 sound-in-model : (u : Table) → Sound u → InModel u
 sound-in-model u S = record {
   model = S .labels .model;
   only = sound-model u S;
   exactly = λ a l. (
-      let e = label-in-model (held u) (S .labels .model) (S .labels .admissible) a _ (S .labels .labels a l) in
+      let e = label-in (held u) (S .labels .model) (S .labels .admissible) a _ (S .labels .labels a l) in
       ((λ t. sym e ∙ t), (λ t. e ∙ t)));
 }
 
--- Demand 2, of an addition, of a removal, of a replacement and of a call on a file, on a sound table; of a load and of
--- an opening, which take none: a refusal hands back the empty table.
+-- Demand 2, of an addition, of a removal, of a replacement, of a muting and of a call on a file, on a sound table; of a
+-- load and of an opening, which take none: a refusal hands back the empty table.
 pub demand-2-add : (t u : Table) (r : Rule) (x : AddAnswer) → AddEnds t r x u → Sound t → InModel u
 demand-2-add t u r x (contract.unsound n) S = absurd (n S)
 demand-2-add t u r x (contract.refused f T e) S = sound-in-model t S
 demand-2-add t u r x (contract.accepted s w T e l Z h U) S = sound-in-model w U
 
 demand-2-change :
-    {questions : List Question} {after : Program} (t u : Table) (x : ChangeAnswer) → ChangeEnds questions after t x u
+    {questions : List Question} {after : Pages} (t u : Table) (x : ChangeAnswer) → ChangeEnds questions after t x u
     → Sound t → InModel u
 demand-2-change t u x (contract.unsound n) S = absurd (n S)
 demand-2-change t u x (contract.refused f T e) S = sound-in-model t S
@@ -81,6 +75,9 @@ demand-2-remove t u s x E S = demand-2-change t u x E S
 pub demand-2-replace :
     (t u : Table) (s : ℕ) (r : Rule) (x : ChangeAnswer) → ReplaceEnds t s r x u → Sound t → InModel u
 demand-2-replace t u s r x E S = demand-2-change t u x E S
+
+pub demand-2-mute : (t u : Table) (s : ℕ) (m : Bool) (x : ChangeAnswer) → MuteEnds t s m x u → Sound t → InModel u
+demand-2-mute t u s m x E S = demand-2-change t u x E S
 
 pub demand-2-load : (bytes : List ℕ) (u : Table) (x : ChangeAnswer) → LoadEnds bytes x u → InModel u
 demand-2-load bytes u x (contract.refused f e) = sound-in-model emptyTable empty-sound
@@ -97,10 +94,10 @@ demand-2-file t u c x (list.accepted w T e Z h U) S = sound-in-model w U
 
 -- The table with the rule, as it is kept; and in the place of a slot's.
 abbrev with-rule : Table → Rule → Program
-with-rule t r = with-added (held t) r
+with-rule t r = with-added (all (held t)) r
 
 abbrev with-new : Table → ℕ → Rule → Program
-with-new t s r = with-replaced (held t) s r
+with-new t s r = with-replaced (all (held t)) s r
 
 -- Every question numbered 7 is answered yes.
 abbrev seven-yes : List Question → Bool
@@ -130,7 +127,7 @@ refusal-asked f k m e =
 
 add-asked :
     (t u : Table) (r : Rule) (f : Refusal) (x : AddAnswer) → x ≡ added.Refused f → AddEnds t r x u → Sound t
-    → first-no (add-questions document (held t) r) ≡ some (numberOf f)
+    → first-no (add-questions document (all (held t)) r) ≡ some (numberOf f)
 add-asked t u r f x q (contract.unsound n) S = absurd (n S)
 add-asked t u r f x q (contract.refused g T e) S =
     (let k : g ≡ f = cc in e ∙ ap (λ (h : Refusal). some (numberOf h)) k)
@@ -138,12 +135,12 @@ add-asked t u r f x q (contract.accepted s w T e l Z h U) S = (let z : _≡_ {A 
 
 add-refused :
     (t u : Table) (r : Rule) (x : AddAnswer) → AddEnds t r x u → Sound t → (k : ℕ) → (k ≡ 11 → ⊥)
-    → first-no (add-questions document (held t) r) ≡ some k → x ≡ added.Refused (refusalOf k)
+    → first-no (add-questions document (all (held t)) r) ≡ some k → x ≡ added.Refused (refusalOf k)
 add-refused t u r x (contract.unsound n) S k m asked = absurd (n S)
 add-refused t u r x (contract.refused f T e) S k m asked = ap added.Refused (refusal-asked f k m (sym e ∙ asked))
 add-refused t u r x (contract.accepted s w T e l Z h U) S k m asked = absurd (Option·none-ne-some k (sym e ∙ asked))
 
-module _ (questions : List Question) (after : Program) (t : Table) where
+module _ (questions : List Question) (after : Pages) (t : Table) where
   change-asked :
       (u : Table) (f : Refusal) (x : ChangeAnswer) → x ≡ changed.Refused f → ChangeEnds questions after t x u → Sound t
       → first-no questions ≡ some (numberOf f)
@@ -166,14 +163,14 @@ pub refused-7-cycle :
     (t u : Table) (r : Rule) → AddEnds t r (added.Refused refusal.NegativeCycle) u → Sound t
     → NegativeCycle (with-rule t r)
 refused-7-cycle t u r E S =
-    seven-cycle (add-questions document (held t) r) (with-rule t r) (λ y. unfold every in (rw (y, every)))
+    seven-cycle (add-questions document (all (held t)) r) (with-rule t r) (λ y. unfold every in (rw (y, every)))
     (add-asked t u r refusal.NegativeCycle _ refl E S)
 
 pub replace-refused-7-cycle :
     (t u : Table) (s : ℕ) (r : Rule) → ReplaceEnds t s r (changed.Refused refusal.NegativeCycle) u → Sound t
     → NegativeCycle (with-new t s r)
 replace-refused-7-cycle t u s r E S =
-    seven-cycle (replace-questions document (held t) s r) (with-new t s r) (λ y. unfold every in (rw (y, every)))
+    seven-cycle (replace-questions document (all (held t)) s r) (with-new t s r) (λ y. unfold every in (rw (y, every)))
     (change-asked _ _ t u refusal.NegativeCycle _ refl E S)
 
 -- And where the questions before it, 1 to 6 of an addition, 8, 9 and 1 to 5 of a replacement, are answered yes, a rule
@@ -181,45 +178,45 @@ replace-refused-7-cycle t u s r E S =
 
 pub cycle-refused-7 :
     (t u : Table) (r : Rule) (x : AddAnswer) → AddEnds t r x u → Sound t
-    → first-no (take 6 (add-questions document (held t) r)) ≡ none → NegativeCycle (with-rule t r)
+    → first-no (take 6 (add-questions document (all (held t)) r)) ≡ none → NegativeCycle (with-rule t r)
     → x ≡ added.Refused refusal.NegativeCycle
 cycle-refused-7 t u r x E S six c =
     add-refused t u r x E S 7 (λ e. omega arith)
-    (cycle-seven 6 (add-questions document (held t) r) (with-rule t r) six refl c)
+    (cycle-seven 6 (add-questions document (all (held t)) r) (with-rule t r) six refl c)
 
 pub replace-cycle-refused-7 :
     (t u : Table) (s : ℕ) (r : Rule) (x : ChangeAnswer) → ReplaceEnds t s r x u → Sound t
-    → first-no (take 7 (replace-questions document (held t) s r)) ≡ none → NegativeCycle (with-new t s r)
+    → first-no (take 7 (replace-questions document (all (held t)) s r)) ≡ none → NegativeCycle (with-new t s r)
     → x ≡ changed.Refused refusal.NegativeCycle
 replace-cycle-refused-7 t u s r x E S seven c =
     change-refused-first _ _ t u x E S 7 (λ e. omega arith)
-    (cycle-seven 7 (replace-questions document (held t) s r) (with-new t s r) seven refl c)
+    (cycle-seven 7 (replace-questions document (all (held t)) s r) (with-new t s r) seven refl c)
 
 -- Request #102: where a slot holds the rule in whatever order, an addition of it that passes questions 1 to 4 is
 -- refused by 5; and once that slot is removed, no slot holds it.
 
 pub same-refused-5 :
     (t u : Table) (r : Rule) (x : AddAnswer) → AddEnds t r x u → Sound t
-    → first-no (take 4 (add-questions document (held t) r)) ≡ none → (s : ℕ) (q : Rule) → Held (held t) s q
+    → first-no (take 4 (add-questions document (all (held t)) r)) ≡ none → (s : ℕ) (q : Rule) → Held (all (held t)) s q
     → same r q ≡ true → x ≡ added.Refused refusal.Same
 same-refused-5 t u r x E S four s q h y =
     add-refused t u r x E S 5 (λ e. omega arith)
-    (first-no-take 4 (add-questions document (held t) r) four
-    ∙ first-no-here _ _ (ap not (any-rule-of (same r) (held t) s q h y)))
+    (first-no-take 4 (add-questions document (all (held t)) r) four
+    ∙ first-no-here _ _ (ap not (any-rule-of (same r) (all (held t)) s q h y)))
 
 pub removed-none-left :
     (t u : Table) (s : ℕ) (y : ChangeAnswer) → RemoveEnds t s y u → y ≡ changed.Accepted → (q r : Rule)
-    → Held (held t) s q → same r q ≡ true → any-rule (same r) (held u) ≡ false
+    → Held (all (held t)) s q → same r q ≡ true → any-rule (same r) (all (held u)) ≡ false
 removed-none-left t u s y (contract.unsound n) e q r h v = (let z : _≡_ {A = ℕ} 0 1 = cc in absurd (omega arith))
 removed-none-left t u s y (contract.refused f S a) e q r h v = (let z : _≡_ {A = ℕ} 0 1 = cc in absurd (omega arith))
 removed-none-left t u s y (contract.accepted w S a Z i U) e q r h v =
-    ap (any-rule (same r)) i ∙ none-left document (held t) _ (S .labels) r s q h v
+    ap (any-rule (same r)) (ap all i ∙ all-set (held t) s none) ∙ none-left document (held t) _ (S .labels) r s q h v
 
 -- And where the removed rule was the only one of its head, in whatever order, that atom's label is not in any more.
 pub removed-label-gone :
     (t u : Table) (s : ℕ) (y : ChangeAnswer) → RemoveEnds t s y u → y ≡ changed.Accepted → (q r : Rule)
-    → Held (held t) s q → same r q ≡ true
-    → ((k : ℕ) (p : Rule) → Held (held t) k p → p .head ≡ r .head → same r p ≡ true)
+    → Held (all (held t)) s q → same r q ≡ true
+    → ((k : ℕ) (p : Rule) → Held (all (held t)) k p → p .head ≡ r .head → same r p ≡ true)
     → is-in-label (labelAt (u .labels) (r .head)) ≡ false
 removed-label-gone t u s y (contract.unsound n) e q r h v only = (let z : _≡_ {A = ℕ} 0 1 = cc in absurd (omega arith))
 removed-label-gone t u s y (contract.refused f S a) e q r h v only =
@@ -228,8 +225,8 @@ removed-label-gone t u s y (contract.accepted w S a Z i U) e q r h v only =
     let L = U .labels in
     let low : r .head < document .atoms =
     subst (λ (x : ℕ). x < document .atoms) (sym (same-iff r q .0 v .heads))
-    (passed-bounded document (held t) (S .labels .passes) s q h (q .head) (List·Memᴰ·head refl)) in
+    (passed-bounded document (all (held t)) (S .labels .passes) s q h (q .head) (List·Memᴰ·head refl)) in
     ground-gone document (held t) _ (S .labels) r s q h v only (L .model)
-    (subst (λ (P : Program). Admissible P (L .model)) i (L .admissible)) _
-    (subst (λ (P : Program). Labelled P (L .model) (r .head) (labelAt (w .labels) (r .head))) i
+    (subst (λ (B : Pages). Admissible (active B) (L .model)) i (L .admissible)) _
+    (subst (λ (B : Pages). Labelled B (L .model) (r .head) (labelAt (w .labels) (r .head))) i
     (L .labels (r .head) low))

@@ -2,10 +2,10 @@
 use Prim.Native.Nat.{ℕ, zero, suc, _+_, _-_, _≤_, _<_}
 use native.Mathlib.Omega.{arith}
 use mathlib.Core.Path.{_≡_, refl, sym, _∙_, ap, ap₂, subst}
-use mathlib.Core.Bool.{Bool, true, false, true≢false, _&&_}
+use mathlib.Core.Bool.{Bool, true, false, true≢false, not, _&&_}
 use mathlib.Core.List.{List}
 use mathlib.Core.Option.{Option, none, some}
-use lib.Dec.{leb}
+use lib.Dec.{eqb, leb}
 use lib.ListN.{length, getD, take, drop}
 use Rattle.theory.specs.Rules.{Rule}
 use Rattle.theory.specs.Book as book
@@ -24,16 +24,16 @@ use Rattle.history.specs.declared.RuleFound.{RuleFound}
 use Rattle.history.specs.declared.RuleFound.the-variants as found
 use Rattle.history.specs.declared.Stepped.{Stepped}
 use Rattle.history.specs.Calls.{Call, change, checklist}
-use Rattle.history.specs.Encoding.{Placed, rule-at, rule-end, load-at, when, in-files, encode}
-use Rattle.history.specs.Encoding.{placed-rule, placed-load, placed-kind, placed}
+use Rattle.history.specs.Encoding.{Placed, rule-at, rule-end, load-at, mute-at, when, in-files, encode}
+use Rattle.history.specs.Encoding.{placed-rule, placed-load, placed-mute, placed-kind, placed}
 use Rattle.table.specs.declared.Table.{Table}
 use Rattle.checklist.specs.Questions.{file-sent, file-skipped, skip-withdrawn}
 use Rattle.checklist.specs.Book.{opening, of-file}
 use Rattle.checklist.specs.Book as list
 use Rattle.checklist.specs.Contracts.{OpenEnds, FileEnds}
 use Rattle.history.specs.Claim.{Step, opens, marks}
-use Rattle.history.specs.Steps.{rule-between, callOf, Parts, InOrder, FindRule, cut, whole, NextLoad}
-use Rattle.history.specs.Steps.{NextOf, StepOf}
+use Rattle.history.specs.Steps.{rule-between, callOf, Parts, InOrder, ReadAs, FindRule, cut, whole}
+use Rattle.history.specs.Steps.{NextLoad, NextMute, NextOf, StepOf}
 use Rattle.history.specs.Steps.{NextChecklist, below, above, among, checklistCall, ChecklistEnds}
 
 pub small : (f : Refusal) (n : ℕ) → n ≡ numberOf f → n ≤ 22
@@ -127,25 +127,28 @@ module _ (ws files : List ℕ) (at : ℕ) where
       → NextLoad ws files at (next.Load (getD ws (at + 1) 0) (getD ws (at + 2) 0) (at + 3))
   reads-load l o i = record { read = sym (load-fits l o i); order = (o, i) }
 
-  pub reads-other :
-      (r : Next) → at + 2 ≤ length ws → getD ws at 0 ≡ 2 → NextLoad ws files at r → NextOf ws files at r
-  reads-other r l e N = record { read = N .read ∙ sym (by-kind l 2 e); order = N .order }
+  -- What another function read, of the kind that stands there.
+  pub reads-kind :
+      (k : ℕ) (r : Next) → at + 2 ≤ length ws → getD ws at 0 ≡ k → ReadAs ws files (placed-kind ws files at k) r
+      → NextOf ws files at r
+  reads-kind k r l e N = record { read = N .read ∙ sym (by-kind l k e); order = N .order }
 
   abbrev this : ℕ → Option Placed
   this j = some (record { call = checklist (checklistCall j (getD ws (at + 1) 0)); behind = at + 2 })
 
-  -- What a kind that is neither 0, 1, 2 nor 7 says, from 8 on nothing.
+  -- What a kind that is neither 0, 1, 2, 7 nor 8 says, from 9 on nothing.
   pub reads-checklist :
       (r : Next) → at + 2 ≤ length ws → (getD ws at 0 ≡ 0 → ⊥) → (getD ws at 0 ≡ 1 → ⊥) → (getD ws at 0 ≡ 2 → ⊥)
-      → (getD ws at 0 ≡ 7 → ⊥) → NextChecklist (getD ws at 0) (getD ws (at + 1) 0) (at + 2) r → NextOf ws files at r
-  reads-checklist r l f g h i (below k) = absurd (low (getD ws at 0) refl k)
+      → (getD ws at 0 ≡ 7 → ⊥) → (getD ws at 0 ≡ 8 → ⊥)
+      → NextChecklist (getD ws at 0) (getD ws (at + 1) 0) (at + 2) r → NextOf ws files at r
+  reads-checklist r l f g h i j (below k) = absurd (low (getD ws at 0) refl k)
     where
       low : (k : ℕ) → getD ws at 0 ≡ k → k < 3 → ⊥
       low zero e k = f e
       low (suc zero) e k = g e
       low (suc (suc zero)) e k = h e
       low (suc (suc (suc j))) e k = omega arith
-  reads-checklist r l f g h i (above k) = record { read = sym (other (getD ws at 0) refl k); order = tt }
+  reads-checklist r l f g h i j (above k) = record { read = sym (other (getD ws at 0) refl k); order = tt }
     where
       other : (k : ℕ) → getD ws at 0 ≡ k → 6 < k → placed ws files at ≡ none
       other zero e k = absurd (omega arith)
@@ -156,9 +159,10 @@ module _ (ws files : List ℕ) (at : ℕ) where
       other (suc (suc (suc (suc (suc zero))))) e k = absurd (omega arith)
       other (suc (suc (suc (suc (suc (suc zero)))))) e k = absurd (omega arith)
       other (suc (suc (suc (suc (suc (suc (suc zero))))))) e k = absurd (i e)
-      other (suc (suc (suc (suc (suc (suc (suc (suc j)))))))) e k =
-          by-kind l (suc (suc (suc (suc (suc (suc (suc (suc j)))))))) e
-  reads-checklist r l f g h i (among k m) = record {
+      other (suc (suc (suc (suc (suc (suc (suc (suc zero)))))))) e k = absurd (j e)
+      other (suc (suc (suc (suc (suc (suc (suc (suc (suc n))))))))) e k =
+          by-kind l (suc (suc (suc (suc (suc (suc (suc (suc (suc n))))))))) e
+  reads-checklist r l f g h i j (among k m) = record {
     read = sym (which (getD ws at 0) refl k m);
     order = l;
   }
@@ -177,6 +181,27 @@ module _ (ws files : List ℕ) (at : ℕ) where
       which (suc (suc (suc (suc (suc zero))))) e k m = by-kind l 5 e ∙ told 2 (omega arith)
       which (suc (suc (suc (suc (suc (suc zero)))))) e k m = by-kind l 6 e ∙ told 3 (omega arith)
       which (suc (suc (suc (suc (suc (suc (suc j))))))) e k m = absurd (omega arith)
+
+-- A muting: none if it is cut short.
+module _ (ws : List ℕ) (at : ℕ) where
+  mute-fits : (t : Bool) → leb (at + 3) (length ws) ≡ t → placed-mute ws at ≡ when t (some (mute-at ws at))
+  unfolding placed-mute
+  mute-fits t e = ap (λ (b : Bool). when b (some (mute-at ws at))) e
+
+  pub mute-whole : at + 3 ≤ length ws → placed-mute ws at ≡ some (mute-at ws at)
+  mute-whole l = mute-fits true (le-leb _ _ l)
+
+  pub mute-short : length ws < at + 3 → NextMute ws at next.End
+  mute-short l files = record {
+    read = sym (mute-fits false
+        (unless (leb (at + 3) (length ws)) (λ t. omega (arith, leb-le (at + 3) (length ws) t))));
+    order = tt;
+  }
+
+  pub reads-mute :
+      at + 3 ≤ length ws
+      → NextMute ws at (next.Mute (getD ws (at + 1) 0) (not (eqb (getD ws (at + 2) 0) 0)) (at + 3))
+  reads-mute l files = record { read = sym (mute-whole l); order = l }
 
 -- A call of the rule whose head stands at a place: none if the rule is cut short.
 module _ (ws : List ℕ) (at : ℕ) (of : Rule → book.Call) where

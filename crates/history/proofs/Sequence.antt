@@ -1,94 +1,93 @@
 -- Demand 3 holds after any list of calls from the empty table, each meeting its contract; and demand 2 after each.
 -- Assumes nothing.
 use Prim.Native.Nat.{ℕ, _<_}
-use native.Mathlib.Omega.{arith}
 use mathlib.Core.Path.{_≡_, refl, sym, _∙_, ap, ap₂, subst}
 use mathlib.Core.Logic.{⊎-elim}
 use mathlib.Core.Bool.{true, false}
 use mathlib.Core.List.{List, [], _∷_, map}
 use mathlib.Core.Option.{Option, none, some}
 use lib.Dec.{ltb}
-use lib.ListN.{length, getD}
-use Rattle.theory.specs.Rules.{Rule, Program, Held}
-use Rattle.theory.specs.Rules as theory
+use lib.ListN.{getD}
+use Rattle.theory.specs.Rules.{Rule, Page, Pages, all, active, new-page, Held}
 use Rattle.theory.specs.Models.{AtomSet, valid, Admissible, OnlyModel}
 use Rattle.theory.specs.Dependencies.{NegativeCycle}
 use Rattle.theory.specs.Labels.{Label, out, in-at, Labelled, is-out, is-in}
 use Rattle.theory.specs.Labels.{Spoiler, spoiler, Spoils}
-use Rattle.theory.specs.Questions.{Question, first-no, slot-questions, atom-questions, put-in}
-use Rattle.theory.specs.Questions.{asks, is-some}
+use Rattle.theory.specs.Questions.{Question, first-no, atom-questions, put-in}
+use Rattle.theory.specs.Questions.{asks}
 use Rattle.theory.specs.Book as book
-use Rattle.theory.specs.Book.{add, remove, replace, Answer, refused, accepted, empty, answer, after, answers, after-all}
-use Rattle.theory.specs.Book.{refusal, granted, changed, slot-answer}
+use Rattle.theory.specs.Book.{add, remove, replace, mute, Answer, refused, accepted, empty, answer, after, answers}
+use Rattle.theory.specs.Book.{after-all, refusal, granted, changed, slot-answer}
 use Rattle.theory.specs.Limits.{document}
 use Rattle.theory.proofs.Lists.{test, clash, lt-ltb}
 use Rattle.theory.proofs.Rules.{valid-positive}
-use Rattle.theory.proofs.Questions.{first-no-yes, held-below, passed-bounded}
-use Rattle.theory.proofs.Strata.{acyclic-strata, rules-below, model-unique}
+use Rattle.theory.proofs.Questions.{first-no-yes, passed-bounded}
+use Rattle.theory.proofs.Pages.{all-length, held-page}
 use Rattle.theory.proofs.Depths.{depth-count}
-use Rattle.theory.proofs.Labels.{in-occurs, spoils, spoiler-exists}
+use Rattle.theory.proofs.Labels.{in-occurs-held, spoils, spoiler-exists}
 use Rattle.theory.proofs.Explanations.{list-below}
 use Rattle.table.specs.declared.Table.{Table}
 use Rattle.table.specs.Labels.{labelAt}
 use Rattle.table.specs.Clean.{emptyTable}
 use Rattle.table.specs.Sound.{Sound}
-use Rattle.table.proofs.Empty.{empty-sound, free-program}
+use Rattle.table.proofs.Empty.{empty-sound, free-book}
 use Rattle.blocks.specs.Questions.{file-questions, pagesOf}
 use Rattle.blocks.specs.Book.{loadAnswer, loadPages}
 use Rattle.calls.specs.declared.ChangeAnswer.{ChangeAnswer}
 use Rattle.calls.specs.declared.LabelAnswer.{LabelAnswer}
 use Rattle.calls.specs.declared.SpoilerAnswer.{SpoilerAnswer}
-use Rattle.calls.specs.Answers.{bookChange, tellLabel, tellSpoiler}
+use Rattle.calls.specs.Answers.{bookChange, tellLabel, tellPage}
 use Rattle.calls.specs.Contracts as contract
 use Rattle.calls.specs.Contracts.{held, ChangeEnds, LabelEnds, SpoilerEnds}
+use Rattle.calls.proofs.Asking.{slot-asked}
+use Rattle.calls.proofs.OneTable.{one-model}
 use Rattle.calls.proofs.Determined.{label-determined, spoiler-determined}
 use Rattle.checklist.specs.Book.{opening, of-file, checklistAnswer, checklistAfter}
 use Rattle.checklist.specs.Book as list-book
 use Rattle.checklist.specs.Contracts as list-contract
 use Rattle.checklist.proofs.Ends.{no-list}
 use Rattle.history.specs.Calls.{Call, change, callAnswer, callAfter, callsAnswers, callsAfter}
-use Rattle.history.specs.Claim.{Step, adds, removes, replaces, loads, opens, marks, Trace, stop, call}
+use Rattle.history.specs.Claim.{Step, adds, removes, replaces, mutes, loads, opens, marks, Trace, stop, call}
 use Rattle.history.specs.Claim.{bookAnswers, bookAfter, Supported, History}
 
--- The rules of a sound table have one admissible model, and its atoms are below the limit.
+-- The unmuted rules of a sound table have one admissible model, and its atoms are below the limit.
 
-pub sound-model : (t : Table) (S : Sound t) → OnlyModel (held t) (S .labels .model)
+pub sound-model : (t : Table) (S : Sound t) → OnlyModel (active (held t)) (S .labels .model)
 sound-model t S = record {
   model = S .labels .admissible;
-  alone = λ N A. model-unique (held t) (rules-below (held t)) (acyclic-strata (held t) (S .labels .acyclic)) N
-      (S .labels .model) A (S .labels .admissible);
+  alone = λ N A. one-model (held t) (S .labels .acyclic) N (S .labels .model) A (S .labels .admissible);
 }
 
 pub sound-below : (t : Table) (S : Sound t) (x : ℕ) → S .labels .model x ≡ true → x < document .atoms
 sound-below t S x u =
-    let w = in-occurs (held t) (S .labels .model) (S .labels .admissible .founded) x u in
-    passed-bounded document (held t) (S .labels .passes) (w .slot) (w .rule) (w .held) x (w .there)
+    let w = in-occurs-held (held t) (S .labels .model) (S .labels .admissible .founded) x u in
+    passed-bounded document (all (held t)) (S .labels .passes) (w .slot) (w .rule) (w .held) x (w .there)
 
 -- What a call on a sound table answers and leaves is what the book does, and the table stays sound.
-pub record Follows (P : Program) (c : Call) (x : Answer) (u : Table) : Type 0 where
-  pub said : x ≡ callAnswer document P c
-  pub holds : held u ≡ callAfter document P c
+pub record Follows (B : Pages) (c : Call) (x : Answer) (u : Table) : Type 0 where
+  pub said : x ≡ callAnswer document B c
+  pub holds : held u ≡ callAfter document B c
   pub still : Sound u
 
-answer-no : (P : Program) (c : book.Call) (k : ℕ) → refusal document P c ≡ some k → answer document P c ≡ refused k
+answer-no : (B : Pages) (c : book.Call) (k : ℕ) → refusal document B c ≡ some k → answer document B c ≡ refused k
 unfolding answer
-answer-no P c k e = rw (e, answer)
+answer-no B c k e = rw (e, answer)
 
-answer-yes : (P : Program) (c : book.Call) → refusal document P c ≡ none → answer document P c ≡ granted document P c
+answer-yes : (B : Pages) (c : book.Call) → refusal document B c ≡ none → answer document B c ≡ granted document B c
 unfolding answer
-answer-yes P c e = rw (e, answer)
+answer-yes B c e = rw (e, answer)
 
-after-no : (P : Program) (c : book.Call) (k : ℕ) → refusal document P c ≡ some k → after document P c ≡ P
+after-no : (B : Pages) (c : book.Call) (k : ℕ) → refusal document B c ≡ some k → after document B c ≡ B
 unfolding after
-after-no P c k e = rw (e, after)
+after-no B c k e = rw (e, after)
 
-after-yes : (P : Program) (c : book.Call) → refusal document P c ≡ none → after document P c ≡ changed document P c
+after-yes : (B : Pages) (c : book.Call) → refusal document B c ≡ none → after document B c ≡ changed document B c
 unfolding after
-after-yes P c e = rw (e, after)
+after-yes B c e = rw (e, after)
 
--- The rules of the empty table are the empty book.
+-- The pages of the empty table are the empty book.
 pub empty-held : held emptyTable ≡ empty document
-empty-held = free-program (document .slots)
+empty-held = free-book (document .slots)
 
 -- The same of a load, which asks its questions of the bytes alone.
 
@@ -118,30 +117,30 @@ load-pages-yes bytes e = rw (e, loadPages)
 -- The same of a checklist's call.
 
 checklist-answer-no :
-    (P : Program) (c : list-book.Call) (k : ℕ) → list-book.refusal document P c ≡ some k
-    → checklistAnswer document P c ≡ refused k
+    (B : Pages) (c : list-book.Call) (k : ℕ) → list-book.refusal document B c ≡ some k
+    → checklistAnswer document B c ≡ refused k
 unfolding checklistAnswer
-checklist-answer-no P c k e = rw (e, checklistAnswer)
+checklist-answer-no B c k e = rw (e, checklistAnswer)
 
 checklist-answer-yes :
-    (P : Program) (c : list-book.Call) → list-book.refusal document P c ≡ none
-    → checklistAnswer document P c ≡ accepted
+    (B : Pages) (c : list-book.Call) → list-book.refusal document B c ≡ none
+    → checklistAnswer document B c ≡ accepted
 unfolding checklistAnswer
-checklist-answer-yes P c e = rw (e, checklistAnswer)
+checklist-answer-yes B c e = rw (e, checklistAnswer)
 
 checklist-after-no :
-    (P : Program) (c : list-book.Call) (k : ℕ) → list-book.refusal document P c ≡ some k
-    → checklistAfter document P c ≡ list-book.left document P c
+    (B : Pages) (c : list-book.Call) (k : ℕ) → list-book.refusal document B c ≡ some k
+    → checklistAfter document B c ≡ list-book.left document B c
 unfolding checklistAfter
-checklist-after-no P c k e = rw (e, checklistAfter)
+checklist-after-no B c k e = rw (e, checklistAfter)
 
 checklist-after-yes :
-    (P : Program) (c : list-book.Call) → list-book.refusal document P c ≡ none
-    → checklistAfter document P c ≡ list-book.granted document P c
+    (B : Pages) (c : list-book.Call) → list-book.refusal document B c ≡ none
+    → checklistAfter document B c ≡ list-book.granted document B c
 unfolding checklistAfter
-checklist-after-yes P c e = rw (e, checklistAfter)
+checklist-after-yes B c e = rw (e, checklistAfter)
 
--- A call that changes a table and is answered accepted: a removal, a replacement.
+-- A call that changes a table and is answered accepted: a removal, a replacement, a muting.
 change-follows :
     {t u : Table} {x : ChangeAnswer} (c : book.Call) {qs : List Question} → refusal document (held t) c ≡ first-no qs
     → granted document (held t) c ≡ accepted → Sound t → ChangeEnds qs (changed document (held t) c) t x u
@@ -167,11 +166,12 @@ step-follows {t} S (adds {r} (contract.refused f T e)) = record {
 }
 step-follows {t} S (adds {r} (contract.accepted s u T e l Z h U)) = record {
   said = sym (answer-yes (held t) (add r) e ∙ ap slot-answer l);
-  holds = h ∙ sym (after-yes (held t) (add r) e ∙ ap (λ (o : Option ℕ). put-in (held t) o (theory.kept r)) l);
+  holds = h ∙ sym (after-yes (held t) (add r) e ∙ ap (λ (o : Option ℕ). put-in (held t) o (new-page r)) l);
   still = U;
 }
 step-follows S (removes {s} E) = change-follows (remove s) refl refl S E
 step-follows S (replaces {s} {r} E) = change-follows (replace s r) refl refl S E
+step-follows S (mutes {s} {m} E) = change-follows (mute s m) refl refl S E
 step-follows {t} S (loads {bytes} (contract.refused f e)) = record {
   said = sym (load-answer-no bytes _ e);
   holds = empty-held ∙ sym (load-pages-no bytes _ e);
@@ -211,9 +211,9 @@ step-follows {t} S (marks {c} (list-contract.accepted u T e Z h U)) = record {
 }
 
 -- The same of a list of calls, by induction on the list.
-pub record Agrees (P : Program) (cs : List Call) (xs : List Answer) (v : Table) : Type 0 where
-  pub told : xs ≡ callsAnswers document P cs
-  pub kept : held v ≡ callsAfter document P cs
+pub record Agrees (B : Pages) (cs : List Call) (xs : List Answer) (v : Table) : Type 0 where
+  pub told : xs ≡ callsAnswers document B cs
+  pub kept : held v ≡ callsAfter document B cs
   pub sound : Sound v
 
 pub trace-agrees :
@@ -224,16 +224,16 @@ trace-agrees S (call {cs = cs} step rest) =
     let w = step-follows S step in
     let z = trace-agrees (w .still) rest in
     record {
-      told = ap₂ _∷_ (w .said) (z .told ∙ ap (λ (P : Program). callsAnswers document P cs) (w .holds));
-      kept = z .kept ∙ ap (λ (P : Program). callsAfter document P cs) (w .holds);
+      told = ap₂ _∷_ (w .said) (z .told ∙ ap (λ (B : Pages). callsAnswers document B cs) (w .holds));
+      kept = z .kept ∙ ap (λ (B : Pages). callsAfter document B cs) (w .holds);
       sound = z .sound;
     }
 
 -- An in atom of a sound table shows what the third demand asks.
 in-supported :
-    (P : Program) (M : AtomSet) → Admissible P M → ((x : ℕ) → M x ≡ true → x < document .atoms) → (a d s : ℕ)
-    → Labelled P M a (in-at d s) → Supported P M a d s
-in-supported P M A low a d s (is-in t D S) =
+    (B : Pages) (M : AtomSet) → Admissible (active B) M → ((x : ℕ) → M x ≡ true → x < document .atoms) → (a d s : ℕ)
+    → Labelled B M a (in-at d s) → Supported (active B) M a d s
+in-supported B M A low a d s (is-in t D S) =
     let w = S .supports in
     let xs = list-below M (document .atoms) low in
     record {
@@ -246,44 +246,32 @@ in-supported P M A low a d s (is-in t D S) =
       fewest = D .least;
       in-atoms = xs .0;
       listed = xs .1;
-      few = depth-count P M (A .founded) (xs .0) (λ x i. xs .1 .exactly x .1 i) a d t D;
+      few = depth-count (active B) M (A .founded) (xs .0) (λ x i. xs .1 .exactly x .1 i) a d t D;
     }
 
--- A rule of an out atom has a spoiler, which really spoils it, and before which no entry does.
+-- An unmuted rule of an out atom has a spoiler, which really spoils it, and before which no entry does.
 out-spoiled :
-    (P : Program) (M : AtomSet) → Admissible P M → (a s : ℕ) (r : Rule) → Labelled P M a out → Held P s r
-    → r .head ≡ a → (x : Spoiler) × (spoiler M r ≡ some x) × Spoils M r x
-out-spoiled P M A a s r (is-out o n) h e = ⊎-elim
+    (B : Pages) (M : AtomSet) → Admissible (active B) M → (a s : ℕ) (r : Rule) → Labelled B M a out
+    → Held (active B) s r → r .head ≡ a → (x : Spoiler) × (spoiler M r ≡ some x) × Spoils M r x
+out-spoiled B M A a s r (is-out o n) h e = ⊎-elim
     (λ (t : valid M r ≡ true). absurd (clash (ap M (sym e) ∙ A .closed s r h t) n))
     (λ (t : valid M r ≡ false). (let w = spoiler-exists M r t in (w .0, w .1, spoils M r (w .0) (w .1))))
     (test (valid M r))
 
--- The questions of Label and Spoiler are answered yes below the limits and where a rule is held.
+-- The question of Label is answered yes below the limit.
 
 label-asked : (a : ℕ) → a < document .atoms → first-no (atom-questions document a) ≡ none
 unfolding first-no
 label-asked a l = first-no-yes (asks 10 (ltb a (document .atoms))) [] (lt-ltb a (document .atoms) l)
 
-slot-asked :
-    (P : Program) (s : ℕ) (r : Rule) → length P ≡ document .slots → Held P s r
-    → first-no (slot-questions document P s) ≡ none
-unfolding first-no
-slot-asked P s r e h =
-    first-no-yes (asks 8 (ltb s (document .slots))) (asks 9 (is-some (getD P s none)) ∷ [])
-    (lt-ltb s (document .slots) (omega (arith, held-below P s r h)))
-    ∙ first-no-yes (asks 9 (is-some (getD P s none))) [] (ap is-some h)
-
 -- What holds of any sound table, in the words of the claim.
 module _ (cs : List Call) (xs : List Answer) (t : Table) (e : held t ≡ bookAfter cs) (S : Sound t) where
-  P : Program
-  P = bookAfter cs
-
   M : AtomSet
   M = S .labels .model
 
-  model : Admissible (bookAfter cs) M
+  model : Admissible (active (bookAfter cs)) M
   unfolding M
-  model = subst (λ (Q : Program). Admissible Q (S .labels .model)) e (S .labels .admissible)
+  model = subst (λ (B : Pages). Admissible (active B) (S .labels .model)) e (S .labels .admissible)
 
   low : (x : ℕ) → M x ≡ true → x < document .atoms
   unfolding M
@@ -291,7 +279,7 @@ module _ (cs : List Call) (xs : List Answer) (t : Table) (e : held t ≡ bookAft
 
   kept : (a : ℕ) → a < document .atoms → Labelled (bookAfter cs) M a (labelAt (t .labels) a)
   unfolding M
-  kept a l = subst (λ (Q : Program). Labelled Q (S .labels .model) a (labelAt (t .labels) a)) e
+  kept a l = subst (λ (B : Pages). Labelled B (S .labels .model) a (labelAt (t .labels) a)) e
       (S .labels .labels a l)
 
   answered-label :
@@ -307,14 +295,14 @@ module _ (cs : List Call) (xs : List Answer) (t : Table) (e : held t ≡ bookAft
   )
 
   answered-spoiler :
-      (s : ℕ) (r : Rule) → Held (bookAfter cs) s r → (x : SpoilerAnswer) → SpoilerEnds t s x
-      → x ≡ tellSpoiler (spoiler M r)
+      (s : ℕ) (p : Page) → getD (bookAfter cs) s none ≡ some p → (x : SpoilerAnswer) → SpoilerEnds t s x
+      → x ≡ tellPage M p
   unfolding M
-  answered-spoiler s r h x E =
-      let i : Held (held t) s r = subst (λ (Q : Program). Held Q s r) (sym e) h in
-      spoiler-determined t s x _ E
-      (contract.accepted (S .labels .model) r S (slot-asked (held t) s r (S .labels .slots) i) i
-      (S .labels .admissible))
+  answered-spoiler s p h x E =
+      let i = ap (λ (B : Pages). getD B s none) e ∙ h in
+      let asked = slot-asked (all (held t)) s (p .rule) (all-length (held t) ∙ S .labels .slots)
+      (held-page (held t) s p i) in
+      spoiler-determined t s x _ E (contract.accepted (S .labels .model) p S asked i (S .labels .admissible))
 
   claim : xs ≡ bookAnswers cs → History cs xs t
   claim told = record {
@@ -323,8 +311,8 @@ module _ (cs : List Call) (xs : List Answer) (t : Table) (e : held t ≡ bookAft
     sound = S;
     model = M;
     admissible = model;
-    alone = λ N A a. model-unique (bookAfter cs) (rules-below (bookAfter cs)) (acyclic-strata (bookAfter cs)
-        (subst (λ (Q : Program). NegativeCycle Q → ⊥) e (S .labels .acyclic))) N M A model a;
+    alone = λ N A a. one-model (bookAfter cs) (subst (λ (B : Pages). NegativeCycle (all B) → ⊥) e (S .labels .acyclic))
+        N M A model a;
     labels = kept;
     label-answer = answered-label;
     supported = λ a d s l q. in-supported (bookAfter cs) M model low a d s
@@ -338,19 +326,19 @@ module _ (cs : List Call) (xs : List Answer) (t : Table) (e : held t ≡ bookAft
 pub history : (cs : List Call) (xs : List Answer) (t : Table) → Trace emptyTable cs xs t → History cs xs t
 history cs xs t T =
     let w = trace-agrees empty-sound T in
-    claim cs xs t (w .kept ∙ ap (λ (Q : Program). callsAfter document Q cs) empty-held) (w .sound)
-    (w .told ∙ ap (λ (Q : Program). callsAnswers document Q cs) empty-held)
+    claim cs xs t (w .kept ∙ ap (λ (B : Pages). callsAfter document B cs) empty-held) (w .sound)
+    (w .told ∙ ap (λ (B : Pages). callsAnswers document B cs) empty-held)
 
--- A list of additions, removals and replacements alone is answered, and leaves pages, as theory's book says.
+-- A list of additions, removals, replacements and mutings alone is answered, and leaves pages, as theory's book says.
 
 pub changes-answered :
-    (P : Program) (cs : List book.Call) → callsAnswers document P (map change cs) ≡ answers document P cs
+    (B : Pages) (cs : List book.Call) → callsAnswers document B (map change cs) ≡ answers document B cs
 unfolding callsAnswers answers
-changes-answered P [] = refl
-changes-answered P (c ∷ cs) = ap (λ (xs : List Answer). answer document P c ∷ xs) (changes-answered _ cs)
+changes-answered B [] = refl
+changes-answered B (c ∷ cs) = ap (λ (xs : List Answer). answer document B c ∷ xs) (changes-answered _ cs)
 
 pub changes-after :
-    (P : Program) (cs : List book.Call) → callsAfter document P (map change cs) ≡ after-all document P cs
+    (B : Pages) (cs : List book.Call) → callsAfter document B (map change cs) ≡ after-all document B cs
 unfolding callsAfter after-all
-changes-after P [] = refl
-changes-after P (c ∷ cs) = changes-after _ cs
+changes-after B [] = refl
+changes-after B (c ∷ cs) = changes-after _ cs

@@ -4,15 +4,17 @@ use Prim.Native.Nat.{ℕ, zero, suc, _+_, _-_, _^_, _≤_, _<_}
 use native.Mathlib.Omega.{arith}
 use mathlib.Core.Path.{_≡_, refl, sym, _∙_, ap, ap₂, subst}
 use mathlib.Core.Logic.{⊎-elim}
+use mathlib.Core.Bool.{Bool, true, false, cond, not}
 use mathlib.Core.List.{List, [], _∷_, _++_, map, append-assoc, append-nil, List·Memᴰ, List·Memᴰ·head, List·Memᴰ·tail}
 use mathlib.Core.List.{List·Memᴰ·cases-cons, List·Memᴰ·append-cases, List·Memᴰ·not-nil}
 use mathlib.Core.Option.{some}
+use lib.Dec.{eqb}
 use lib.ListN.{length, getD, take, drop, length-append}
 use lib.Seq.{getD-append-seam, getD-append-add, take-append-seam, drop-append-seam, drop-append-add, drop-drop}
 use Rattle.theory.specs.Lists.{_∈_}
 use Rattle.theory.specs.Rules.{Rule}
 use Rattle.theory.specs.Book as book
-use Rattle.theory.specs.Book.{add, remove, replace, Answer}
+use Rattle.theory.specs.Book.{add, remove, replace, mute, Answer}
 use Rattle.history.specs.declared.Replayed.{Replayed}
 use Rattle.checklist.specs.Questions.{file-sent, file-skipped, skip-withdrawn}
 use Rattle.checklist.specs.Book.{opening, of-file}
@@ -24,7 +26,7 @@ use Rattle.history.specs.Encoding.{placed-rule, checklist-at, placed-kin
 use Rattle.history.specs.Encoding.{call-file, loaded-files, rule-words, call-words, written-from, written}
 use Rattle.history.specs.Encoding.{Below, Words, Bytes, RuleFits, CallFits}
 use Rattle.history.specs.Replays.{Replays, ReplaysCalls, calls-in}
-use Rattle.history.proofs.Reading.{short, by-kind, rule-whole, load-fits}
+use Rattle.history.proofs.Reading.{short, by-kind, rule-whole, mute-whole, load-fits}
 use Rattle.history.proofs.Replaying.{decode-over, decode-next}
 
 -- A rule that stands behind other words is read.
@@ -101,6 +103,15 @@ rule-behind xs lead rest r of =
     ∙ ap (λ (ws : List ℕ). some (record { call = change (of r); behind = length ws }))
     (append-assoc xs lead (rule-words r))
 
+-- The mark of a muting that was written is read.
+mark-read : (m : Bool) → not (eqb (cond m 1 0) 0) ≡ m
+mark-read true = refl
+mark-read false = refl
+
+mark-fits : (m : Bool) → cond m 1 0 < 2 ^ 32
+mark-fits true = omega arith
+mark-fits false = omega arith
+
 -- A call that stands behind other words is read.
 module _ (files xs rest : List ℕ) where
   placed-removal :
@@ -113,6 +124,18 @@ module _ (files xs rest : List ℕ) where
       (getD-append-seam xs 0 (s ∷ rest) 0)
       ∙ ap (λ (k : ℕ). some (record { call = change (remove k); behind = length xs + 2 }))
       (getD-append-add xs (0 ∷ s ∷ rest) 1 0)
+
+  placed-muting :
+      (s mark : ℕ)
+      → placed (xs ++ (8 ∷ s ∷ mark ∷ rest)) files (length xs)
+      ≡ some (record { call = change (mute s (not (eqb mark 0))); behind = length xs + 3 })
+  placed-muting s mark =
+      let ys : List ℕ = 8 ∷ s ∷ mark ∷ rest in
+      let n = length-append xs ys in
+      by-kind (xs ++ ys) files (length xs) (omega (arith, n)) 8 (getD-append-seam xs 8 (s ∷ mark ∷ rest) 0)
+      ∙ mute-whole (xs ++ ys) (length xs) (omega (arith, n))
+      ∙ ap₂ (λ (k j : ℕ). some (record { call = change (mute k (not (eqb j 0))); behind = length xs + 3 }))
+      (getD-append-add xs ys 1 0) (getD-append-add xs ys 2 0)
 
   placed-change :
       (passed : ℕ) (c : book.Call)
@@ -133,6 +156,10 @@ module _ (files xs rest : List ℕ) where
       ∙ ap (λ (k : ℕ). placed-rule (xs ++ (7 ∷ s ∷ ws)) (length xs + 2) (replace k))
       (getD-append-add xs (7 ∷ s ∷ ws) 1 0)
       ∙ rule-behind xs (7 ∷ s ∷ []) rest r (replace s)
+  placed-change passed (mute s m) =
+      placed-muting s (cond m 1 0)
+      ∙ ap₂ (λ (b : Bool) (k : ℕ). some (record { call = change (mute s b); behind = k })) (mark-read m)
+      (sym (length-append xs (8 ∷ s ∷ cond m 1 0 ∷ [])))
 
   -- A call of a checklist: by its kind and its number.
   module _ (kind i : ℕ) where
@@ -301,6 +328,7 @@ change-fits : (n : ℕ) (c : book.Call) → CallFits (change c) → Words (call-
 change-fits n (remove s) f = below-cons (omega arith) (below-cons f below-nil)
 change-fits n (add r) f = below-cons (omega arith) (rule-words-fit r f)
 change-fits n (replace s r) (l, f) = below-cons (omega arith) (below-cons l (rule-words-fit r f))
+change-fits n (mute s m) f = below-cons (omega arith) (below-cons f (below-cons (mark-fits m) below-nil))
 
 checklist-fits : (n : ℕ) (c : list.Call) → CallFits (checklist c) → Words (call-words n (checklist c))
 checklist-fits n (opening k) f = below-cons (omega arith) (below-cons f below-nil)

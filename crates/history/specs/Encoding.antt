@@ -1,14 +1,14 @@
 -- A list of calls written as numbers, with the files that they load, and answers written as numbers. Assumes nothing.
 use Prim.Native.Nat.{ℕ, zero, suc, _+_, _-_, _^_, _<_}
-use mathlib.Core.Bool.{Bool, true, false, _&&_}
+use mathlib.Core.Bool.{Bool, true, false, cond, not, _&&_}
 use mathlib.Core.List.{List, [], _∷_, _++_}
 use mathlib.Core.Option.{Option, none, some}
-use lib.Dec.{leb}
+use lib.Dec.{eqb, leb}
 use lib.ListN.{length, getD, take, drop}
 use Rattle.theory.specs.Lists.{_∈_}
 use Rattle.theory.specs.Rules.{Rule}
 use Rattle.theory.specs.Book as book
-use Rattle.theory.specs.Book.{add, remove, replace, Answer, refused, slot, accepted}
+use Rattle.theory.specs.Book.{add, remove, replace, mute, Answer, refused, slot, accepted}
 use Rattle.checklist.specs.Questions.{file, file-sent, file-skipped, skip-withdrawn}
 use Rattle.checklist.specs.Book.{opening, of-file}
 use Rattle.checklist.specs.Book as list
@@ -41,6 +41,11 @@ abbrev pub load-at : List ℕ → List ℕ → ℕ → Placed
 load-at ws files at =
     record { call = load (between files (getD ws (at + 1) 0) (getD ws (at + 2) 0)); behind = at + 3 }
 
+-- A muting, of the slot told after its kind; by the mark told next: 0 unmutes, any other number mutes.
+abbrev pub mute-at : List ℕ → ℕ → Placed
+mute-at ws at =
+    record { call = change (mute (getD ws (at + 1) 0) (not (eqb (getD ws (at + 2) 0) 0))); behind = at + 3 }
+
 -- A call of a checklist whose number stands at the place after its kind.
 abbrev pub checklist-at : List ℕ → ℕ → (ℕ → list.Call) → Placed
 checklist-at ws at of = record { call = checklist (of (getD ws (at + 1) 0)); behind = at + 2 }
@@ -64,11 +69,14 @@ placed-load ws files at =
     when (leb (at + 3) (length ws) && in-files files (getD ws (at + 1) 0) (getD ws (at + 2) 0))
     (some (load-at ws files at))
 
+unfoldable pub placed-mute : List ℕ → ℕ → Option Placed
+placed-mute ws at = when (leb (at + 3) (length ws)) (some (mute-at ws at))
+
 -- 0 and a slot: a removal. 1, a head, how many positives and how many negatives, then these: an addition. 2 and two
 -- places: a load of the bytes of the files from the first to below the second. 3 and a number of files: the opening of
 -- a checklist. 4, 5, 6 and a file: file sent, file skipped, skip withdrawn. 7, a slot, then as behind the 1 of an
--- addition: a replacement. Any other number is no call; what is cut short is none, and neither is a load of bytes that
--- the files do not have.
+-- addition: a replacement. 8, a slot and a mark: a muting. Any other number is no call; what is cut short is none, and
+-- neither is a load of bytes that the files do not have.
 abbrev pub placed-kind : List ℕ → List ℕ → ℕ → ℕ → Option Placed
 placed-kind ws files at zero = some (record { call = change (remove (getD ws (at + 1) 0)); behind = at + 2 })
 placed-kind ws files at (suc zero) = placed-rule ws (at + 1) add
@@ -80,7 +88,8 @@ placed-kind ws files at (suc (suc (suc (suc (suc (suc zero)))))) =
     some (checklist-at ws at (λ i. of-file (skip-withdrawn i)))
 placed-kind ws files at (suc (suc (suc (suc (suc (suc (suc zero))))))) =
     placed-rule ws (at + 2) (replace (getD ws (at + 1) 0))
-placed-kind ws files at (suc (suc (suc (suc (suc (suc (suc (suc k)))))))) = none
+placed-kind ws files at (suc (suc (suc (suc (suc (suc (suc (suc zero)))))))) = placed-mute ws at
+placed-kind ws files at (suc (suc (suc (suc (suc (suc (suc (suc (suc k))))))))) = none
 
 unfoldable pub placed : List ℕ → List ℕ → ℕ → Option Placed
 placed ws files at = when (leb (at + 2) (length ws)) (placed-kind ws files at (getD ws at 0))
@@ -112,6 +121,7 @@ abbrev pub call-words : ℕ → Call → List ℕ
 call-words passed (change (remove s)) = 0 ∷ s ∷ []
 call-words passed (change (add r)) = 1 ∷ rule-words r
 call-words passed (change (replace s r)) = 7 ∷ s ∷ rule-words r
+call-words passed (change (mute s m)) = 8 ∷ s ∷ cond m 1 0 ∷ []
 call-words passed (load bytes) = 2 ∷ passed ∷ (passed + length bytes) ∷ []
 call-words passed (checklist (opening n)) = 3 ∷ n ∷ []
 call-words passed (checklist (of-file (file-sent i))) = 4 ∷ i ∷ []
@@ -145,6 +155,7 @@ abbrev pub CallFits : Call → Type 0
 CallFits (change (remove s)) = s < 2 ^ 32
 CallFits (change (add r)) = RuleFits r
 CallFits (change (replace s r)) = (s < 2 ^ 32) × RuleFits r
+CallFits (change (mute s m)) = s < 2 ^ 32
 CallFits (load bytes) = Bytes bytes
 CallFits (checklist (opening n)) = n < 2 ^ 32
 CallFits (checklist (of-file c)) = file c < 2 ^ 32

@@ -6,7 +6,7 @@ use mathlib.Core.List.{List}
 use mathlib.Core.Option.{Option, none, some}
 use lib.ListN.{length, getD}
 use Rattle.theory.specs.Rules.{Rule}
-use Rattle.theory.specs.Book.{add, remove, replace, Answer}
+use Rattle.theory.specs.Book.{add, remove, replace, mute, Answer}
 use Rattle.table.specs.declared.Table.{Table}
 use Rattle.calls.specs.declared.ChangeAnswer.{ChangeAnswer}
 use Rattle.checklist.specs.Questions.{file-sent, file-skipped, skip-withdrawn}
@@ -20,7 +20,7 @@ use Rattle.history.specs.declared.RuleFound.the-variants as found
 use Rattle.history.specs.declared.Stepped.{Stepped}
 use Rattle.history.specs.Calls.{Call, change, load, checklist}
 use Rattle.history.specs.Claim.{Step}
-use Rattle.history.specs.Encoding.{Placed, rule-end, between, placed-load, placed, encode}
+use Rattle.history.specs.Encoding.{Placed, rule-end, between, placed-load, placed-mute, placed, encode}
 
 -- Which call of a checklist, by its kind less 3.
 abbrev pub checklistCall : ℕ → ℕ → list.Call
@@ -42,6 +42,7 @@ callOf ws files (next.Add head from middle to) =
     some (record { call = change (add (rule-between ws head from middle to)); behind = to })
 callOf ws files (next.Replace slot head from middle to) =
     some (record { call = change (replace slot (rule-between ws head from middle to)); behind = to })
+callOf ws files (next.Mute slot muted behind) = some (record { call = change (mute slot muted); behind = behind })
 callOf ws files (next.Load from to behind) = some (record { call = load (between files from to); behind = behind })
 callOf ws files (next.Checklist which number behind) =
     some (record { call = checklist (checklistCall which number); behind = behind })
@@ -55,6 +56,7 @@ InOrder words bytes next.End = Unit {0}
 InOrder words bytes (next.Remove s behind) = behind ≤ words
 InOrder words bytes (next.Add head from middle to) = Parts words from middle to
 InOrder words bytes (next.Replace slot head from middle to) = Parts words from middle to
+InOrder words bytes (next.Mute slot muted behind) = behind ≤ words
 InOrder words bytes (next.Load from to behind) = (from ≤ to) × (to ≤ bytes)
 InOrder words bytes (next.Checklist which number behind) = behind ≤ words
 
@@ -63,9 +65,12 @@ pub record ReadAs (ws files : List ℕ) (call : Option Placed) (r : Next) : Type
   pub read : callOf ws files r ≡ call
   pub order : InOrder (length ws) (length files) r
 
--- The load at a place whose kind says so, and the call at any place.
+-- The load or the muting at a place whose kind says so, and the call at any place. No file plays a part in a muting.
 abbrev pub NextLoad : List ℕ → List ℕ → ℕ → Next → Type 0
 NextLoad ws files at r = ReadAs ws files (placed-load ws files at) r
+
+abbrev pub NextMute : List ℕ → ℕ → Next → Type 0
+NextMute ws at r = (files : List ℕ) → ReadAs ws files (placed-mute ws at) r
 
 abbrev pub NextOf : List ℕ → List ℕ → ℕ → Next → Type 0
 NextOf ws files at r = ReadAs ws files (placed ws files at) r

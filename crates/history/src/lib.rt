@@ -10,6 +10,7 @@ use checklist::file_skipped;
 use checklist::open;
 use checklist::skip_withdrawn;
 use files::load;
+use muting::mute;
 use replacing::replace;
 use table::Table;
 ghost use mathlib.Core.Path.{_≡_};
@@ -18,7 +19,7 @@ ghost use Prim.Native.Nat.{_+_};
 ghost use Rattle.calls.specs.Answers.{bookAdd, bookChange};
 ghost use Rattle.history.specs.Encoding.{encode};
 ghost use Rattle.history.specs.Replays.{Replays};
-ghost use Rattle.history.specs.Steps.{FindRule, NextLoad, NextChecklist, NextOf, StepOf};
+ghost use Rattle.history.specs.Steps.{FindRule, NextLoad, NextMute, NextChecklist, NextOf, StepOf};
 ghost use Rattle.history.specs.Steps.{checklistCall, ChecklistEnds};
 
 // How many calls were made, and the table that the last handed back.
@@ -30,7 +31,8 @@ pub struct Replayed {
 
 // The call at a place: none, a removal and the place behind it, an addition with the ends of its two lists, a load with
 // the ends of its file and the place behind it, a call of a checklist: which (its kind less 3), its number and the
-// place behind it; or a replacement of a slot's rule, with the ends of the new one's lists.
+// place behind it; a replacement of a slot's rule, with the ends of the new one's lists; or a muting of a slot, on or
+// off, and the place behind it.
 enum Next {
     End,
     Remove(u32, usize),
@@ -38,6 +40,7 @@ enum Next {
     Load(usize, usize, usize),
     Checklist(u32, u32, usize),
     Replace(u32, u32, usize, usize, usize),
+    Mute(u32, bool, usize),
 }
 
 // The rule at a place: cut short, or its head, where its positives begin, where its negatives do, and where these end.
@@ -115,6 +118,21 @@ fn next_load(words: &[u32], files: &[u8], at: usize) -> Next
     Next::Load(from, to, at + 3)
 }
 
+// Reads the muting at a place of the list whose kind says that one stands there.
+fn next_mute(words: &[u32], at: usize) -> Next
+    ensures { λ r. ⌜ NextMute (now (words .entry)) at r ⌝ }
+{
+    let n = words.len();
+    if at > n {
+        return Next::End;
+    }
+    if n - at < 3 {
+        return Next::End;
+    }
+    let mark = words[at + 2];
+    Next::Mute(words[at + 1], mark != 0, at + 3)
+}
+
 // The call of a checklist that a kind says, if it says one.
 fn next_checklist(kind: u32, number: u32, behind: usize) -> Next
     ensures { λ r. ⌜ NextChecklist kind number behind r ⌝ }
@@ -185,6 +203,9 @@ fn next_call(words: &[u32], files: &[u8], at: usize) -> Next
             RuleFound::At(head, from, middle, to) => Next::Replace(number, head, from, middle, to),
         };
     }
+    if kind == 8 {
+        return next_mute(words, at);
+    }
     next_checklist(kind, number, at + 2)
 }
 
@@ -236,6 +257,7 @@ fn step(words: &[u32], files: &[u8], at: usize, table: Table) -> Stepped
             let done = replace(table, slot, head, &words[from..middle], &words[middle..to]);
             step_changed(done, to)
         },
+        Next::Mute(slot, muted, behind) => step_changed(mute(table, slot, muted), behind),
     }
 }
 

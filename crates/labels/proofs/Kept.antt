@@ -7,7 +7,7 @@ use mathlib.Core.Bool.{Bool, true, false, true≢false}
 use mathlib.Core.List.{List}
 use lib.ListN.{length, getD, set}
 use lib.Seq.{getD-set-same, getD-set-other}
-use Rattle.theory.specs.Rules.{Program, Bounded, Occurs}
+use Rattle.theory.specs.Rules.{Pages, all, active, Bounded, Occurs}
 use Rattle.theory.specs.Models.{AtomSet, Admissible}
 use Rattle.theory.specs.Dependencies.{NegativeCycle}
 use Rattle.theory.specs.Labels.{Labelled, is-absent, is-out, is-in}
@@ -59,41 +59,43 @@ one-more f labels a h below l e k j = ⊎-elim
     (le-or-lt a k)
 
 -- The labels put together from what was found of the program are the defined ones.
-module _ (P : Program) (bounded : Bounded P (document .atoms)) (M O : AtomSet) (d s : ℕ → ℕ)
-    (admissible : Admissible P M) (deep : DepthsOf P M d) (supports : SupportsOf P M s) (occurs : OccurringIn P O)
+module _ (B : Pages) (bounded : Bounded (all B) (document .atoms)) (M O : AtomSet) (d s : ℕ → ℕ)
+    (admissible : Admissible (active B) M) (deep : DepthsOf (active B) M d) (supports : SupportsOf (active B) M s)
+    (occurs : OccurringIn (all B) O)
   where
     -- an atom that is in, or occurs, or neither
-    labelled-for : (a : ℕ) → Labelled P M a (labelOf (labelFor (M a) (O a) (d a) (s a)))
+    labelled-for : (a : ℕ) → Labelled B M a (labelOf (labelFor (M a) (O a) (d a) (s a)))
     labelled-for a = go (M a) refl (O a) refl
       where
-        go : (i : Bool) → M a ≡ i → (o : Bool) → O a ≡ o → Labelled P M a (labelOf (labelFor i o (d a) (s a)))
+        go : (i : Bool) → M a ≡ i → (o : Bool) → O a ≡ o → Labelled B M a (labelOf (labelFor i o (d a) (s a)))
         go true t o u = is-in t (deep .deep a t) (supports .supporting a t)
         go false t true u = is-out (occurs a .0 u) t
         go false t false u = is-absent (λ w. clash (occurs a .1 w) u)
 
     -- no atom past the limit occurs
-    not-past : (a : ℕ) → document .atoms ≤ a → Occurs P a → ⊥
+    not-past : (a : ℕ) → document .atoms ≤ a → Occurs (all B) a → ⊥
     not-past a l w = omega (arith, bounded (w .slot) (w .rule) (w .held) a (w .there))
 
-    pub labels-are : (labels : List Label) → Assembled M O d s labels → Labels P M labels
+    pub labels-are : (labels : List Label) → Assembled M O d s labels → Labels B M labels
     labels-are labels A = record {
       admissible = admissible;
       labelled = λ a. ⊎-elim
-          (λ (l : document .atoms ≤ a). subst (λ (x : Label). Labelled P M a (labelOf x))
+          (λ (l : document .atoms ≤ a). subst (λ (x : Label). Labelled B M a (labelOf x))
           (past labels a absentLabel (omega (arith, A .long)))
           (is-absent (not-past a l)))
           (λ (l : a < document .atoms).
-          subst (λ (x : Label). Labelled P M a (labelOf x)) (sym (A .each a l)) (labelled-for a))
+          subst (λ (x : Label). Labelled B M a (labelOf x)) (sym (A .each a l)) (labelled-for a))
           (le-or-lt (document .atoms) a);
       clean = λ a l. subst CleanLabel (sym (A .each a l)) (clean-for (M a) (O a) (d a) (s a));
     }
 
 -- The two answers.
 pub told-labels :
-    (P : Program) (M : AtomSet) (labels : List Label) → (NegativeCycle P → ⊥) → Labels P M labels
-    → LabellingOf P (record { acyclic = true; labels = labels })
-told-labels P M labels free L = record { acyclic = λ t. (free, (M, L)); cyclic = λ t. absurd (true≢false t) }
+    (B : Pages) (M : AtomSet) (labels : List Label) → (NegativeCycle (all B) → ⊥) → Labels B M labels
+    → LabellingOf B (record { acyclic = true; labels = labels })
+told-labels B M labels free L = record { acyclic = λ t. (free, (M, L)); cyclic = λ t. absurd (true≢false t) }
 
 pub told-cycle :
-    (P : Program) (labels : List Label) → NegativeCycle P → LabellingOf P (record { acyclic = false; labels = labels })
-told-cycle P labels c = record { acyclic = λ t. absurd (true≢false (sym t)); cyclic = λ t. c }
+    (B : Pages) (labels : List Label) → NegativeCycle (all B)
+    → LabellingOf B (record { acyclic = false; labels = labels })
+told-cycle B labels c = record { acyclic = λ t. absurd (true≢false (sym t)); cyclic = λ t. c }

@@ -16,7 +16,7 @@ ghost use mathlib.Core.Path.{_≡_};
 ghost use Prim.Native.Nat.{ℕ, _<_};
 ghost use Rattle.theory.specs.Rules.{Bounded};
 ghost use Rattle.theory.specs.Limits.{document};
-ghost use Rattle.table.specs.Rules.{programOf};
+ghost use Rattle.table.specs.Rules.{bookOf, programOf};
 ghost use Rattle.table.specs.Labels.{absentLabel};
 ghost use Rattle.table.specs.Sets.{member, number};
 ghost use Rattle.labels.specs.Labelling.{LabellingOf};
@@ -74,10 +74,10 @@ fn assemble(
     labels
 }
 
-// The labels of all atoms by the rules.
+// The labels of all atoms: strata and occurrence by all rules held, the rest by the unmuted ones.
 pub fn labels_of(rules: [Rule; Table::SLOTS]) -> Labelling
     requires { ⌜ Bounded (programOf rules) (document .atoms) ⌝ }
-    ensures { λ r. ⌜ LabellingOf (programOf rules) r ⌝ }
+    ensures { λ r. ⌜ LabellingOf (bookOf rules) r ⌝ }
 {
     let s = strata(rules);
     let of = s.of;

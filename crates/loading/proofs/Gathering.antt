@@ -12,7 +12,7 @@ use lib.ListN.{length, getD, take, drop, set, replicate, length-set, length-drop
 use lib.ListN.{getD-replicate, List·getD-map, List·getD-eq-default}
 use lib.Seq.{getD-drop, drop-cons, getD-set-same, getD-set-other}
 use Rattle.theory.specs.Lists.{_∈_, every}
-use Rattle.theory.specs.Rules.{Program, Ascending}
+use Rattle.theory.specs.Rules.{Ascending, Pages, rule-on}
 use Rattle.theory.specs.Rules as theory
 use Rattle.theory.specs.Questions.{first-no, rule-questions, is-some}
 use Rattle.theory.specs.Limits.{document}
@@ -21,19 +21,19 @@ use Rattle.theory.proofs.Lists.{leb-le, le-leb, ltb-lt, lt-ltb, le-or-lt, entry
 use Rattle.table.specs.declared.Atom.{Atom}
 use Rattle.table.specs.declared.Rule.{Rule}
 use Rattle.table.specs.declared.Table.{Table}
-use Rattle.table.specs.Rules.{numbers, ruleOf, slotOf, programOf, noAtom, pastRule}
+use Rattle.table.specs.Rules.{bookOf, noAtom, numbers, page-in, pageOf, pastRule, ruleOf, slotOf}
 use Rattle.table.specs.Clean.{freeRule, emptyTable, WellFormed}
 use Rattle.table.proofs.Entries.{numbers-take, numbers-drop}
-use Rattle.table.proofs.Programs.{program-set, slot-state}
-use Rattle.table.proofs.Empty.{free-clean, free-program}
+use Rattle.table.proofs.Programs.{book-set, slot-state}
+use Rattle.table.proofs.Empty.{free-clean, free-book}
 use Rattle.blocks.specs.Words.{wordAt}
-use Rattle.blocks.specs.Places.{Place, placeAt, ruleIn}
+use Rattle.blocks.specs.Places.{pageIn, Place, placeAt, ruleIn}
 use Rattle.blocks.specs.Questions.{blocks, blockCount, placesOf, whole, numbered, ascends, right, recordedOn}
 use Rattle.blocks.specs.Questions.{pagesWith}
 use Rattle.blocks.proofs.Reading.{place-at, word-drop}
 use Rattle.blocks.proofs.Records.{ascends-sorted}
 use Rattle.loading.specs.declared.Records.{Records}
-use Rattle.loading.specs.Reading.{atom, slotFrom, Stands, allRight, ReadFrom}
+use Rattle.loading.specs.Reading.{atom, stateOf, slotFrom, Stands, allRight, ReadFrom}
 
 -- Atoms made of numbers have these numbers.
 numbers-atoms : (xs : List ℕ) → numbers (map atom xs) ≡ xs
@@ -41,7 +41,7 @@ numbers-atoms [] = refl
 numbers-atoms (x ∷ xs) = ap (λ (ys : List ℕ). x ∷ ys) (numbers-atoms xs)
 
 -- The slot of a place holds the place's rule.
-pub rule-from : (p : Place) → ruleOf (slotFrom p) ≡ ruleIn p
+rule-from : (p : Place) → ruleOf (slotFrom p) ≡ ruleIn p
 rule-from p = λ i. record {
   head = p .head;
   positives = (sym (numbers-take (p .positives) (map atom (p .entries)))
@@ -51,8 +51,18 @@ rule-from p = λ i. record {
       ∙ ap (drop (p .positives)) (numbers-atoms (p .entries)))) i;
 }
 
-pub slot-from : (p : Place) → slotOf (slotFrom p) ≡ some (ruleIn p)
-slot-from p = ap some (rule-from p)
+-- And its mark: the page of the slot is the place's.
+pub page-from : (p : Place) → pageOf (slotFrom p) ≡ some (pageIn p)
+page-from p =
+    marked (ruleOf (slotFrom p)) (p .muted)
+    ∙ ap (λ (r : theory.Rule). some (record { rule = r; muted = p .muted })) (rule-from p)
+  where
+    marked : (r : theory.Rule) (m : Bool) → page-in (stateOf m) r ≡ some (record { rule = r; muted = m })
+    marked r true = refl
+    marked r false = refl
+
+slot-from : (p : Place) → slotOf (slotFrom p) ≡ some (ruleIn p)
+slot-from p = ap rule-on (page-from p)
 
 -- What stands in a list stands at a place of it.
 in-getD : (xs : List ℕ) (x : ℕ) → x ∈ xs → (i : ℕ) × (i < length xs) × (getD xs i 0 ≡ x)
@@ -96,6 +106,15 @@ module _ (p : Place) where
       ∙ ap (λ (a : Atom). a .0) (sym (List·getD-map atom (p .entries) (lists + w .0) 0)
       ∙ f (lists + w .0) (omega arith))))))
 
+  -- the slot is not free, and its state is one of the two of rules
+  known : (m : Bool) → stateOf m ≤ 2
+  known true = omega arith
+  known false = omega arith
+
+  there : (m : Bool) → stateOf m ≡ 0 → ⊥
+  there true e = omega arith
+  there false e = omega arith
+
   pub right-well : right document p ≡ true → WellFormed (slotFrom p)
   unfolding right
   right-well t =
@@ -109,8 +128,8 @@ module _ (p : Place) where
       λ q h. Option·some-injective (ruleIn p) q (sym (slot-from p) ∙ h) in
       record {
         clean = record {
-          known = omega arith;
-          free = λ e. absurd (omega arith);
+          known = known (p .muted);
+          free = λ e. absurd (there (p .muted) e);
           fits = leb-le lists (document .entries) fits;
           filler = zero-filler zeros;
         };
@@ -180,7 +199,7 @@ module _ (least : ℕ) (p : Place) (ps : List Place) where
 pub record Going (ps : List Place) (rules : List Rule) (least k : ℕ) : Type 0 where
   pub low : k ≤ length ps
   pub asked : allRight 0 ps ≡ allRight least (drop k ps)
-  pub pages : pagesWith document ps ≡ recordedOn document (programOf rules) (drop k ps)
+  pub pages : pagesWith document ps ≡ recordedOn document (bookOf rules) (drop k ps)
   pub well : (s : ℕ) → s < document .slots → WellFormed (getD rules s pastRule)
   pub long : length rules ≡ document .slots
 
@@ -195,7 +214,7 @@ going-start : (ps : List Place) → Going ps (replicate (document .slots) freeRu
 going-start ps = record {
   low = omega arith;
   asked = refl;
-  pages = ap (λ (P : Program). recordedOn document P ps) (sym (free-program (document .slots)));
+  pages = ap (λ (B : Pages). recordedOn document B ps) (sym (free-book (document .slots)));
   well = λ s l. subst WellFormed (sym (getD-replicate (document .slots) s freeRule pastRule l)) free-well;
   long = length-replicate (document .slots) freeRule;
 }
@@ -221,9 +240,9 @@ module _ (ps : List Place) (rules : List Rule) (least k : ℕ) (G : Going ps rul
     low = omega arith;
     asked = G .asked ∙ ap (allRight least) here ∙ all-right-next least p (drop (k + 1) ps) S;
     pages =
-        G .pages ∙ ap (recordedOn document (programOf rules)) here
-        ∙ ap (λ (P : Program). recordedOn document P (drop (k + 1) ps))
-        (ap (set (programOf rules) (p .slot)) (sym (slot-from p)) ∙ sym (program-set rules (p .slot) (slotFrom p)));
+        G .pages ∙ ap (recordedOn document (bookOf rules)) here
+        ∙ ap (λ (B : Pages). recordedOn document B (drop (k + 1) ps))
+        (ap (set (bookOf rules) (p .slot)) (sym (page-from p)) ∙ sym (book-set rules (p .slot) (slotFrom p)));
     well = λ s i. ⊎-elim
         (λ (u : eqb s (p .slot) ≡ true). (
         let e = eqb-eq s (p .slot) u in
@@ -245,7 +264,7 @@ going-all ps rules least k G l =
     record {
       long = G .long;
       told = sym (G .asked ∙ ap (allRight least) over);
-      pages = λ e. sym (G .pages ∙ ap (recordedOn document (programOf rules)) over);
+      pages = λ e. sym (G .pages ∙ ap (recordedOn document (bookOf rules)) over);
       well = λ e. G .well;
     }
 

@@ -1,13 +1,15 @@
 -- The slot that a record is read into. Assumes nothing.
-use Prim.Native.Nat.{ℕ, zero, suc, _+_, _*_, _≤_, _<_}
+use Prim.Native.Nat.{ℕ, zero, suc, _+_, _*_, _%_, _≤_, _<_}
 use native.Mathlib.Omega.{arith}
 use mathlib.Core.Path.{_≡_, refl, sym, _∙_, ap, ap₂}
 use mathlib.Core.Bool.{Bool, true, false}
 use mathlib.Core.Logic.{_↔_}
 use mathlib.Core.List.{List, map}
+use lib.Dec.{leb}
 use lib.ListN.{length, getD, drop}
 use lib.Seq.{getD-drop, drop-drop}
 use Rattle.theory.specs.Limits.{document}
+use Rattle.theory.proofs.Lists.{le-leb, leb-le, unless}
 use Rattle.table.specs.declared.Atom.{Atom}
 use Rattle.table.specs.declared.Rule.{Rule}
 use Rattle.table.specs.Clean.{WellFormed}
@@ -15,7 +17,7 @@ use Rattle.questions.proofs.Cleanness.{is-not}
 use Rattle.blocks.specs.Words.{wordAt, wordsIn}
 use Rattle.blocks.specs.Places.{placeAt}
 use Rattle.blocks.proofs.Reading.{word-drop}
-use Rattle.loading.specs.Reading.{Stands, atom, slotFrom}
+use Rattle.loading.specs.Reading.{Stands, atom, stateOf, slotFrom}
 
 module _ (slot least : ℕ) (rule : Rule) where
   pub stands-behind : slot < least → (false ≡ true) ↔ Stands slot least rule
@@ -53,23 +55,30 @@ pub word-in :
     → atom x ≡ atom (getD (wordsIn 8 (drop (at + 6) bs)) j 0)
 word-in bs at j l x e = ap atom (e ∙ sym (word-here 8 j (drop (at + 6) bs) l ∙ word-drop (at + 6) (2 * j) bs))
 
+-- The state by the byte of the positive count: without the mark, and with it.
+pub state-plain : (count : ℕ) → count < 128 → 1 ≡ stateOf (leb 128 count)
+state-plain count l = sym (ap stateOf (unless (leb 128 count) (λ t. (let m = leb-le 128 count t in omega arith))))
+
+pub state-marked : (count : ℕ) → 128 ≤ count → 2 ≡ stateOf (leb 128 count)
+state-marked count l = sym (ap stateOf (le-leb 128 count l))
+
 -- The slot read from a place of some bytes is that of the place.
 pub fields-at :
-    (bs : List ℕ) (at head : ℕ) (entries : List Atom) → head ≡ wordAt bs (at + 2)
-    → entries ≡ map atom (wordsIn 8 (drop (at + 6) bs))
+    (bs : List ℕ) (at head state : ℕ) (entries : List Atom) → head ≡ wordAt bs (at + 2)
+    → state ≡ stateOf (leb 128 (getD bs (at + 4) 0)) → entries ≡ map atom (wordsIn 8 (drop (at + 6) bs))
     → _≡_ {A = Rule}
     (record {
-      state = 1;
+      state = state;
       head = atom head;
-      positives = getD bs (at + 4) 0;
+      positives = getD bs (at + 4) 0 % 128;
       negatives = getD bs (at + 5) 0;
       entries = entries;
     })
     (slotFrom (placeAt (drop at bs)))
-fields-at bs at head entries h e = λ i. record {
-  state = 1;
+fields-at bs at head state entries h s e = λ i. record {
+  state = (s ∙ ap (λ (b : ℕ). stateOf (leb 128 b)) (sym (getD-drop at bs 4 0))) i;
   head = atom ((h ∙ sym (word-drop at 2 bs)) i);
-  positives = sym (getD-drop at bs 4 0) i;
+  positives = sym (getD-drop at bs 4 0) i % 128;
   negatives = sym (getD-drop at bs 5 0) i;
   entries = (e ∙ ap (λ (cs : List ℕ). map atom (wordsIn 8 cs)) (sym (drop-drop 6 at bs))) i;
 }

@@ -2,7 +2,7 @@
 -- nothing.
 use Prim.Native.Nat.{ℕ, _<_, _≤_}
 use mathlib.Core.Path.{_≡_}
-use mathlib.Core.Bool.{Bool, true, _&&_}
+use mathlib.Core.Bool.{Bool, true, cond, _&&_}
 use mathlib.Core.List.{List, map}
 use lib.Dec.{eqb, ltb}
 use lib.ListN.{length, getD}
@@ -10,7 +10,7 @@ use Rattle.theory.specs.Lists.{every}
 use Rattle.theory.specs.Limits.{document}
 use Rattle.table.specs.declared.Atom.{Atom}
 use Rattle.table.specs.declared.Rule.{Rule}
-use Rattle.table.specs.Rules.{programOf, pastRule}
+use Rattle.table.specs.Rules.{bookOf, pastRule}
 use Rattle.table.specs.Clean.{WellFormed}
 use Rattle.blocks.specs.Words.{wordAt}
 use Rattle.blocks.specs.Places.{Place}
@@ -34,14 +34,17 @@ pub record CheckedOf (bs : List ℕ) (r : Checked) : Type 0 where
   pub numbered : r .numbered ≡ numbered (blockCount bs) 0 (blocks bs)
   pub filled : r .filled ≡ every filled (blocks bs)
 
--- An atom by its number; the slot that a place records.
+-- An atom by its number; the state of a slot by the mark; the slot that a place records.
 abbrev pub atom : ℕ → Atom
 atom x = record { 0 = x }
+
+abbrev pub stateOf : Bool → ℕ
+stateOf muted = cond muted 2 1
 
 abbrev pub slotFrom : Place → Rule
 slotFrom p =
     record {
-      state = 1;
+      state = stateOf (p .muted);
       head = atom (p .head);
       positives = p .positives;
       negatives = p .negatives;
@@ -61,9 +64,9 @@ allRight least ps =
     ascends least (map (λ p. p .slot) ps)
     && (every (λ p. ltb (p .slot) (document .slots)) ps && every (right document) ps)
 
--- The rules of these records, if all are right.
+-- The rules of these records with their marks, if all are right.
 pub record ReadFrom (ps : List Place) (r : Records) : Type 0 where
   pub long : length (r .rules) ≡ document .slots
   pub told : r .right ≡ allRight 0 ps
-  pub pages : r .right ≡ true → programOf (r .rules) ≡ pagesWith document ps
+  pub pages : r .right ≡ true → bookOf (r .rules) ≡ pagesWith document ps
   pub well : r .right ≡ true → (s : ℕ) → s < document .slots → WellFormed (getD (r .rules) s pastRule)

@@ -1,8 +1,10 @@
-// The rules that a file records, read from its bytes, and the questions that are asked of its blocks and records.
+// The rules that a file records with their marks, read from its bytes, and the questions that are asked of its blocks
+// and records.
 use blocks::BLOCK;
 use blocks::BODY;
 use blocks::HEADER;
 use blocks::LONGEST;
+use blocks::MARK;
 use blocks::PLACE;
 use blocks::PLACES;
 use blocks::sums;
@@ -16,11 +18,14 @@ ghost use mathlib.Core.Bool.{true};
 ghost use mathlib.Core.List.{map};
 ghost use mathlib.Core.Logic.{_↔_};
 ghost use Prim.Native.Nat.{_+_, _-_, _*_, _/_, _%_, _≤_};
+ghost use lib.Dec.{leb};
 ghost use lib.ListN.{length, drop};
 ghost use Rattle.blocks.specs.Words.{wordAt, wordsIn};
 ghost use Rattle.blocks.specs.Places.{placeAt, ENTRIES};
+ghost use Rattle.blocks.specs.Places as format;
 ghost use Rattle.blocks.specs.Questions.{blocks, blockCount, placesOf, whole, summed, counted, numbered, filled};
-ghost use Rattle.loading.specs.Reading.{blockNumbered, CheckedNext, CheckedOf, atom, slotFrom, Stands, ReadFrom};
+ghost use Rattle.loading.specs.Reading.{blockNumbered, CheckedNext, CheckedOf, atom, stateOf, slotFrom};
+ghost use Rattle.loading.specs.Reading.{Stands, ReadFrom};
 
 // What the questions of blocks are answered: sums (17), index and numbers (18), filler (19).
 pub struct Checked {
@@ -29,7 +34,7 @@ pub struct Checked {
     pub filled: bool,
 }
 
-// The rules of the records, if the slots ascend and each record is one that a sound table can hold.
+// The rules of the records with their marks, if the slots ascend and each record is one that a sound table can hold.
 pub struct Records {
     pub right: bool,
     pub rules: [Rule; Table::SLOTS],
@@ -181,18 +186,28 @@ fn entries_at(bytes: &[u8], at: usize) -> [Atom; Table::ENTRIES]
     entries
 }
 
-// The slot with the rule that begins at a place.
+// The state of the slot by the byte of the positive count: with the mark in it the rule is muted.
+fn state_of(count: u8) -> u16
+    ensures { λ r. ⌜ r ≡ stateOf (leb format.MARK count) ⌝ }
+{
+    if count < MARK { 1 } else { 2 }
+}
+
+// The slot with the rule and the mark that begin at a place.
 fn rule_at(bytes: &[u8], at: usize) -> Rule
     requires { ⌜ at + 22 ≤ length (now bytes) ⌝ }
     ensures { λ r. ⌜ r ≡ slotFrom (placeAt (drop at (now (bytes .entry)))) ⌝ }
 {
     let head = word_at(bytes, at + 2);
+    let count = bytes[at + 4];
+    let negatives = bytes[at + 5];
+    let state = state_of(count);
     let entries = entries_at(bytes, at);
     Rule {
-        state: 1,
+        state: state,
         head: Atom(head),
-        positives: bytes[at + 4],
-        negatives: bytes[at + 5],
+        positives: count % MARK,
+        negatives: negatives,
         entries: entries,
     }
 }
@@ -211,7 +226,7 @@ fn stands(slot: usize, least: usize, rule: Rule) -> bool
     well_formed(rule)
 }
 
-// The rules of all records, each in its slot, of a file whose length and numbers are right.
+// The rules of all records with their marks, each in its slot, of a file whose length and numbers are right.
 pub fn read_records(bytes: &[u8]) -> Records
     requires { ⌜ (whole (now bytes) ≡ true) × (numbered (blockCount (now bytes)) 0 (blocks (now bytes)) ≡ true) ⌝ }
     ensures { λ r. ⌜ ReadFrom (placesOf (blocks (now (bytes .entry)))) r ⌝ }

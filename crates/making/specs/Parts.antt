@@ -2,6 +2,7 @@
 use Prim.Native.Nat.{ℕ, _+_, _≤_, _<_}
 use mathlib.Core.Path.{_≡_}
 use mathlib.Core.Logic.{_⊎_}
+use mathlib.Core.Bool.{false}
 use mathlib.Core.List.{List}
 use mathlib.Core.Option.{none, some}
 use lib.ListN.{length, getD}
@@ -13,7 +14,7 @@ use Rattle.theory.specs.Questions.{lowest-free}
 use Rattle.theory.specs.Limits.{document}
 use Rattle.table.specs.declared.Atom.{Atom}
 use Rattle.table.specs.declared.Rule.{Rule}
-use Rattle.table.specs.Rules.{slotOf, numbers, noAtom}
+use Rattle.table.specs.Rules.{pageOf, numbers, noAtom}
 use Rattle.table.specs.Clean.{CleanRule}
 use Rattle.making.specs.declared.FreeSlot.{FreeSlot}
 use Rattle.making.specs.declared.FreeSlot.the-variants.{At, Nowhere}
@@ -28,9 +29,9 @@ pub record Placed (before : List Atom) (from : ℕ) (list : List ℕ) (after : L
   pub inside : numbers (slice from (from + length list) after) ≡ list
   pub outside : (i : ℕ) → (i < from) ⊎ (from + length list ≤ i) → getD after i noAtom ≡ getD before i noAtom
 
--- A slot that holds the rule, with nothing past its lists.
+-- A slot that holds the rule, unmuted, with nothing past its lists.
 pub record SlotWith (q : theory.Rule) (r : Rule) : Type 0 where
-  pub held : slotOf r ≡ some q
+  pub held : pageOf r ≡ some (record { rule = q; muted = false })
   pub clean : CleanRule r
 
 -- The lowest free slot, or that none is free.

@@ -9,7 +9,7 @@ use mathlib.Core.Bool.{Bool, true, false}
 use mathlib.Core.List.{List, [], _∷_, List·Memᴰ·head}
 use mathlib.Core.Option.{none, some}
 use lib.ListN.{length, getD, set, replicate, length-replicate, length-set}
-use Rattle.theory.specs.Rules.{Program, Bounded}
+use Rattle.theory.specs.Rules.{all, Bounded, Pages, Program}
 use Rattle.theory.specs.Models.{AtomSet}
 use Rattle.theory.specs.Dependencies.{NegativeCycle, Stratum}
 use Rattle.theory.specs.Questions as questions
@@ -18,15 +18,16 @@ use Rattle.theory.specs.Rounds.{adds, again, final, next-stratum, nothing, Roun
 use Rattle.theory.specs.Rounds.{no-stratum, of-stratum, sweep}
 use Rattle.theory.proofs.Lists.{count-length, le-or-lt}
 use Rattle.theory.proofs.Strata.{exact-strata, few-negatives, Strata, strata-acyclic, stratum-below, stratum-unique}
+use Rattle.theory.proofs.Pages.{active-bounded, strata-active}
 use Rattle.theory.proofs.Fill.{Filled}
 use Rattle.theory.proofs.Rounds.{adds-none, sweep-stays}
 use Rattle.theory.proofs.Found.{heads-in, grows}
 use Rattle.theory.proofs.Models.{found-model}
 use Rattle.table.specs.declared.Rule.{Rule}
-use Rattle.table.specs.Rules.{slotOf, programOf, pastRule}
+use Rattle.table.specs.Rules.{activeIn, activeOf, bookOf, pastRule}
 use Rattle.table.specs.Sets.{member, number}
 use Rattle.table.proofs.Members.{all-alike, number-same, number-other}
-use Rattle.table.proofs.Programs.{program-at, program-length}
+use Rattle.table.proofs.Programs.{active-length, active-place, program-length}
 use Rattle.model.specs.Model.{Stratified, Searched}
 use Rattle.model.specs.Rounds.{Ready, Filling, Greatest}
 use Rattle.model.proofs.Visits.{HeadBelow, Round}
@@ -72,22 +73,26 @@ module _ (P : Program) (ℓ : ℕ → ℕ) (k : ℕ) (M₀ : AtomSet) where
 
 -- The same of a table's slots and of arrays of flags.
 
-pub room-of : (rules : List Rule) (n : ℕ) → length rules ≡ n → length (questions.rules (programOf rules)) < suc n
-room-of rules n e = omega (arith, few-rules (programOf rules), program-length rules)
+pub room-of : (rules : List Rule) (n : ℕ) → length rules ≡ n → length (questions.rules (activeOf rules)) < suc n
+room-of rules n e = omega (arith, few-rules (activeOf rules), active-length rules)
+
+-- The strata of all rules held are strata of the unmuted ones.
+pub strata-given : (rules : List Rule) (ℓ : ℕ → ℕ) → Stratified (bookOf rules) ℓ → Strata (activeOf rules) ℓ
+strata-given rules ℓ S = strata-active (bookOf rules) ℓ (exact-strata (all (bookOf rules)) ℓ (S .exact))
 
 -- The head of a slot's rule is below the limit n, where all atoms of the program are.
-pub head-below : (rules : List Rule) (n i : ℕ) → Bounded (programOf rules) n
-    → HeadBelow (slotOf (getD rules i pastRule)) n
-head-below rules n i B r e =
-    B i r (program-at rules i ∙ e) (r .head) (List·Memᴰ·head refl)
+pub head-below : (rules : List Rule) (n i : ℕ) → Bounded (all (bookOf rules)) n
+    → HeadBelow (activeIn (getD rules i pastRule)) n
+head-below rules n i b r e =
+    active-bounded (bookOf rules) n b i r (active-place rules i ∙ e) (r .head) (List·Memᴰ·head refl)
 
 module _ (rules : List Rule) (ℓ : ℕ → ℕ) (k : ℕ) (M₀ : AtomSet) (found after : List Bool) (made : ℕ) (t : Bool)
-    (G : Going (programOf rules) ℓ k M₀ (member found) made) (R : Round ℓ k rules found after t) where
-  pub stratum-next : Strata (programOf rules) ℓ → t ≡ true → Going (programOf rules) ℓ k M₀ (member after) (made + 1)
-  stratum-next L e = rw (R .whole) (going-next (programOf rules) ℓ k M₀ (member found) made G L (sym (R .more) ∙ e))
+    (G : Going (activeOf rules) ℓ k M₀ (member found) made) (R : Round ℓ k rules found after t) where
+  pub stratum-next : Strata (activeOf rules) ℓ → t ≡ true → Going (activeOf rules) ℓ k M₀ (member after) (made + 1)
+  stratum-next L e = rw (R .whole) (going-next (activeOf rules) ℓ k M₀ (member found) made G L (sym (R .more) ∙ e))
 
-  pub stratum-end : t ≡ false → Rounds (programOf rules) ℓ k M₀ (made + 1) (member after)
-  stratum-end e = rw (R .whole) (going-end (programOf rules) ℓ k M₀ (member found) made G (sym (R .more) ∙ e))
+  pub stratum-end : t ≡ false → Rounds (activeOf rules) ℓ k M₀ (made + 1) (member after)
+  stratum-end e = rw (R .whole) (going-end (activeOf rules) ℓ k M₀ (member found) made G (sym (R .more) ∙ e))
 
 -- The layers, one after another.
 
@@ -96,59 +101,60 @@ none-found : (n : ℕ) → member (replicate n false) ≡ (λ a. false)
 none-found n = fun-ext (λ a. all-alike n a false)
 
 -- Of each layer below k it is kept how many rounds it has; nothing is kept of the others.
-pub record RoundsKept (P : Program) (k : ℕ) (rounds : List ℕ) : Type 0 where
-  pub below : (j : ℕ) → j < k → RoundsOf P j (number rounds j)
+pub record RoundsKept (B : Pages) (k : ℕ) (rounds : List ℕ) : Type 0 where
+  pub below : (j : ℕ) → j < k → RoundsOf B j (number rounds j)
   pub others : (j : ℕ) → k ≤ j → number rounds j ≡ 0
 
-pub kept-start : (P : Program) (n : ℕ) → RoundsKept P 0 (replicate n 0)
-kept-start P n = record { below = λ j l. absurd (omega arith); others = λ j l. all-alike n j 0 }
+pub kept-start : (B : Pages) (n : ℕ) → RoundsKept B 0 (replicate n 0)
+kept-start B n = record { below = λ j l. absurd (omega arith); others = λ j l. all-alike n j 0 }
 
-pub kept-next : (P : Program) (k n : ℕ) (rounds : List ℕ) → k < length rounds → RoundsOf P k n → RoundsKept P k rounds
-    → RoundsKept P (k + 1) (set rounds k n)
-kept-next P k n rounds l R C = record {
+pub kept-next : (B : Pages) (k n : ℕ) (rounds : List ℕ) → k < length rounds → RoundsOf B k n → RoundsKept B k rounds
+    → RoundsKept B (k + 1) (set rounds k n)
+kept-next B k n rounds l R C = record {
   below = λ j m. ⊎-elim
       (λ (e : suc j ≡ k + 1). (let j-is : j ≡ k = omega arith in
-      subst (λ (z : ℕ). RoundsOf P z (number (set rounds k n) z)) (sym j-is) (rw (number-same rounds k n l) R)))
+      subst (λ (z : ℕ). RoundsOf B z (number (set rounds k n) z)) (sym j-is) (rw (number-same rounds k n l) R)))
       (λ (e : suc j < k + 1). rw (number-other rounds k n j (λ q. omega arith)) (C .below j (omega arith)))
       (eq-or-lt-of-le m);
   others = λ j m. number-other rounds k n j (λ q. omega arith) ∙ C .others j (omega arith);
 }
 
 -- The highest layer, and that there is room for it.
-module _ (P : Program) (ℓ : ℕ → ℕ) (exact : (a : ℕ) → Stratum P a (ℓ a)) (top : ℕ) (T : Greatest ℓ top) where
-  acyclic : NegativeCycle P → ⊥
-  acyclic = strata-acyclic P ℓ (exact-strata P ℓ exact)
+module _ (B : Pages) (ℓ : ℕ → ℕ) (exact : (a : ℕ) → Stratum (all B) a (ℓ a)) (top : ℕ) (T : Greatest ℓ top) where
+  acyclic : NegativeCycle (all B) → ⊥
+  acyclic = strata-acyclic (all B) ℓ (exact-strata (all B) ℓ exact)
 
-  pub few-strata : top ≤ length (questions.rules P)
-  few-strata = omega (arith, few-negatives P acyclic (exact (T .atom) .path), T .there)
+  pub few-strata : top ≤ length (questions.rules (all B))
+  few-strata = omega (arith, few-negatives (all B) acyclic (exact (T .atom) .path), T .there)
 
-  pub kept-told : (rounds : List ℕ) → RoundsKept P (top + 1) rounds → (k : ℕ) → RoundsTold P k (number rounds k)
+  pub kept-told : (rounds : List ℕ) → RoundsKept B (top + 1) rounds → (k : ℕ) → RoundsTold B k (number rounds k)
   kept-told rounds C k = ⊎-elim
-      (λ (l : k ≤ top). (let b = stratum-below P acyclic (T .atom) _ k (exact (T .atom)) (omega (arith, T .there)) in
+      (λ (l : k ≤ top). (
+      let b = stratum-below (all B) acyclic (T .atom) _ k (exact (T .atom)) (omega (arith, T .there)) in
       of-stratum (b .0) (b .1) (C .below k (omega arith))))
       (λ (l : top < k). rw (C .others k (omega arith))
-      (no-stratum (λ a S. omega (arith, T .above a, stratum-unique P a (ℓ a) k (exact a) S))))
+      (no-stratum (λ a S. omega (arith, T .above a, stratum-unique (all B) a (ℓ a) k (exact a) S))))
       (le-or-lt k top)
 
 -- Before layer k, where top is the highest: those below it have ended, their rounds are kept, and there is room for
 -- those of all layers.
-pub record Between (P : Program) (ℓ : ℕ → ℕ) (top k : ℕ) (found : List Bool) (rounds : List ℕ) : Type 0 where
-  pub ready : Ready P ℓ k found
-  pub kept : RoundsKept P k rounds
+pub record Between (B : Pages) (ℓ : ℕ → ℕ) (top k : ℕ) (found : List Bool) (rounds : List ℕ) : Type 0 where
+  pub ready : Ready B ℓ k found
+  pub kept : RoundsKept B k rounds
   pub long : length rounds ≡ suc (document .slots)
   pub high : k ≤ top
 
-module _ (rules : List Rule) (ℓ : ℕ → ℕ) (S : Stratified (programOf rules) ℓ) (top : ℕ) (T : Greatest ℓ top) where
+module _ (rules : List Rule) (ℓ : ℕ → ℕ) (S : Stratified (bookOf rules) ℓ) (top : ℕ) (T : Greatest ℓ top) where
   pub between-start :
       (n m : ℕ) → n ≡ document .atoms → m ≡ suc (document .slots)
-      → Between (programOf rules) ℓ top 0 (replicate n false) (replicate m 0)
+      → Between (bookOf rules) ℓ top 0 (replicate n false) (replicate m 0)
   between-start n m e f = record {
     ready = record {
       stratified = S;
       below = rw (none-found n) nothing;
       size = length-replicate n false ∙ e;
     };
-    kept = kept-start (programOf rules) m;
+    kept = kept-start (bookOf rules) m;
     long = length-replicate m 0 ∙ f;
     high = omega arith;
   }
@@ -156,19 +162,19 @@ module _ (rules : List Rule) (ℓ : ℕ → ℕ) (S : Stratified (programOf rule
   -- no layer has a number above that of the slots
   pub stratum-room : length rules ≡ document .slots → top < suc (document .slots)
   stratum-room full = omega
-      (arith, few-strata (programOf rules) ℓ (S .exact) top T, few-rules (programOf rules), program-length rules)
+      (arith, few-strata (bookOf rules) ℓ (S .exact) top T, few-rules (all (bookOf rules)), program-length rules)
 
   module _ (full : length rules ≡ document .slots) (k : ℕ) (before after : List Bool) (rounds : List ℕ) (n : ℕ)
-      (Y : Between (programOf rules) ℓ top k before rounds) (F : Filling (programOf rules) ℓ k before after n) where
-    ready-next : Ready (programOf rules) ℓ (k + 1) after
+      (Y : Between (bookOf rules) ℓ top k before rounds) (F : Filling (activeOf rules) ℓ k before after n) where
+    ready-next : Ready (bookOf rules) ℓ (k + 1) after
     ready-next = record {
       stratified = S;
       below = rw add-one (next-stratum (Y .ready .below) (F .rounds));
       size = F .size ∙ Y .ready .size;
     }
 
-    kept-then : RoundsKept (programOf rules) (k + 1) (set rounds k n)
-    kept-then = kept-next (programOf rules) k n rounds (omega (arith, stratum-room full, Y .long, Y .high))
+    kept-then : RoundsKept (bookOf rules) (k + 1) (set rounds k n)
+    kept-then = kept-next (bookOf rules) k n rounds (omega (arith, stratum-room full, Y .long, Y .high))
         (record {
           stratum = ℓ;
           exact = S .exact;
@@ -180,7 +186,7 @@ module _ (rules : List Rule) (ℓ : ℕ → ℕ) (S : Stratified (programOf rule
         (Y .kept)
 
     -- below the highest layer there is a next one
-    pub between-next : k < top → Between (programOf rules) ℓ top (k + 1) after (set rounds k n)
+    pub between-next : k < top → Between (bookOf rules) ℓ top (k + 1) after (set rounds k n)
     between-next l = record {
       ready = ready-next;
       kept = kept-then;
@@ -189,12 +195,12 @@ module _ (rules : List Rule) (ℓ : ℕ → ℕ) (S : Stratified (programOf rule
     }
 
     -- after the highest all is found and told
-    pub between-end : top ≤ k → Searched (programOf rules) (record { found = after; rounds = set rounds k n })
+    pub between-end : top ≤ k → Searched (bookOf rules) (record { found = after; rounds = set rounds k n })
     between-end l =
         let e : k ≡ top = omega (arith, Y .high) in
-        let L = exact-strata (programOf rules) ℓ (S .exact) in
+        let L = strata-given rules ℓ S in
         record {
-          model = found-model (programOf rules) ℓ L (ready-next .below) (λ s r h. omega (arith, T .above (r .head)));
-          rounds = kept-told (programOf rules) ℓ (S .exact) top T (set rounds k n)
-              (subst (λ (z : ℕ). RoundsKept (programOf rules) (z + 1) (set rounds k n)) e kept-then);
+          model = found-model (activeOf rules) ℓ L (ready-next .below) (λ s r h. omega (arith, T .above (r .head)));
+          rounds = kept-told (bookOf rules) ℓ (S .exact) top T (set rounds k n)
+              (subst (λ (z : ℕ). RoundsKept (bookOf rules) (z + 1) (set rounds k n)) e kept-then);
         }

@@ -8,20 +8,20 @@ use mathlib.Core.Bool.{Bool, true, false, not, _&&_, _||_, true≢false}
 use mathlib.Core.Bool.{and-false, and-assoc, or-assoc, or-false, or-true}
 use mathlib.Core.List.{List}
 use mathlib.Core.Logic.{⊎-elim}
-use mathlib.Core.Option.{Option, some}
+use mathlib.Core.Option.{Option, none, some}
 use lib.Dec.{eqb}
 use lib.ListN.{length, getD, set, drop, length-set, drop-of-length-le, List·getD-eq-default}
 use lib.Seq.{drop-cons, getD-set-same, getD-set-other}
-use Rattle.theory.specs.Rules.{passes}
+use Rattle.theory.specs.Rules.{active-on, passes}
 use Rattle.theory.specs.Rules as theory
 use Rattle.theory.specs.Models.{AtomSet, valid}
 use Rattle.theory.proofs.Lists.{clash, eqb-of, eqb-not, le-or-lt}
 use Rattle.theory.specs.Rounds.{fires, put, visit, sweep, adds}
 use Rattle.table.specs.declared.Rule.{Rule}
-use Rattle.table.specs.Rules.{ruleOf, held-in, slotOf, programOf, pastRule}
+use Rattle.table.specs.Rules.{activeIn, activeOf, page-in, pastRule, ruleOf}
 use Rattle.table.specs.Sets.{member}
 use Rattle.table.proofs.Members.{mark-is}
-use Rattle.table.proofs.Programs.{slot-free, slot-held}
+use Rattle.table.proofs.Programs.{active-none, active-some, active-state}
 use Rattle.model.specs.Rounds.{missing, waits}
 
 -- An atom of another stratum is not missing; of one of the stratum k the set decides.
@@ -32,31 +32,36 @@ module _ (stratum k : ℕ) (t : Bool) where
   pub missing-here : stratum ≡ k → t ≡ (eqb stratum k && t)
   missing-here e = sym (ap (λ b. b && t) (eqb-of stratum k e))
 
--- A free slot does not wait; of one that holds a rule the head decides.
+-- A slot without an unmuted rule does not wait; of one with such a rule the head decides.
 module _ (ℓ : ℕ → ℕ) (k : ℕ) (M : AtomSet) where
-  pub waits-free : (n a : ℕ) → n ≡ 0 → false ≡ waits ℓ k M n a
-  waits-free zero a e = refl
-  waits-free (suc n) a e = absurd (omega arith)
+  pub waits-idle : (n a : ℕ) → (n ≡ 1 → ⊥) → false ≡ waits ℓ k M n a
+  waits-idle zero a f = refl
+  waits-idle (suc zero) a f = absurd (f refl)
+  waits-idle (suc (suc n)) a f = refl
 
-  pub waits-held : (n a : ℕ) → (n ≡ 0 → ⊥) → missing ℓ k M a ≡ waits ℓ k M n a
-  waits-held zero a f = absurd (f refl)
-  waits-held (suc n) a f = refl
+  pub waits-unmuted : (n a : ℕ) → n ≡ 1 → missing ℓ k M a ≡ waits ℓ k M n a
+  waits-unmuted n a e = ap (λ m. waits ℓ k M m a) (sym e)
 
   pub waits-missing : (n a : ℕ) → waits ℓ k M n a ≡ true → missing ℓ k M a ≡ true
   waits-missing zero a e = absurd (true≢false (sym e))
-  waits-missing (suc n) a e = e
+  waits-missing (suc zero) a e = e
+  waits-missing (suc (suc n)) a e = absurd (true≢false (sym e))
 
--- A slot that holds a rule holds a valid one if that is valid.
-pub rule-decides : (M : AtomSet) (rule : Rule) → (rule .state ≡ 0 → ⊥)
-    → valid M (ruleOf rule) ≡ passes (valid M) (slotOf rule)
-rule-decides M rule held = sym (ap (passes (valid M)) (slot-held rule held))
+-- A slot with an unmuted rule holds a valid one if that is valid; any other slot does not.
+pub rule-decides : (M : AtomSet) (rule : Rule) → rule .state ≡ 1
+    → valid M (ruleOf rule) ≡ passes (valid M) (activeIn rule)
+rule-decides M rule e = sym (ap (passes (valid M)) (active-some rule e))
+
+pub none-valid : (M : AtomSet) (rule : Rule) → (rule .state ≡ 1 → ⊥) → false ≡ passes (valid M) (activeIn rule)
+none-valid M rule f = sym (ap (passes (valid M)) (active-none rule f))
 
 -- A slot fires if its head is missing and it holds a valid rule.
 fires-is : (ℓ : ℕ → ℕ) (k : ℕ) (M : AtomSet) (n : ℕ) (r : theory.Rule)
-    → fires ℓ k M (held-in n r) ≡ (missing ℓ k M (r .head) && passes (valid M) (held-in n r))
+    → fires ℓ k M (active-on (page-in n r)) ≡ (missing ℓ k M (r .head) && passes (valid M) (active-on (page-in n r)))
 unfolding fires
 fires-is ℓ k M zero r = sym (and-false (missing ℓ k M (r .head)))
-fires-is ℓ k M (suc n) r = sym (and-assoc (eqb (ℓ (r .head)) k) (not (M (r .head))) (valid M r))
+fires-is ℓ k M (suc zero) r = sym (and-assoc (eqb (ℓ (r .head)) k) (not (M (r .head))) (valid M r))
+fires-is ℓ k M (suc (suc n)) r = sym (and-false (missing ℓ k M (r .head)))
 
 -- The head of the slot's rule, if it holds one, is below n.
 abbrev pub HeadBelow : Option theory.Rule → ℕ → Type 0
@@ -67,8 +72,8 @@ HeadBelow o n = (r : theory.Rule) → o ≡ some r → r .head < n
 pub record Left (ℓ : ℕ → ℕ) (k : ℕ) (rules : List Rule) (before : List Bool) (i : ℕ) (found : List Bool) (added : Bool)
     : Type 0 where
   pub place : i ≤ length rules
-  pub whole : sweep ℓ k (member found) (programOf (drop i rules)) ≡ sweep ℓ k (member before) (programOf rules)
-  pub more : (added || adds ℓ k (member found) (programOf (drop i rules))) ≡ adds ℓ k (member before) (programOf rules)
+  pub whole : sweep ℓ k (member found) (activeOf (drop i rules)) ≡ sweep ℓ k (member before) (activeOf rules)
+  pub more : (added || adds ℓ k (member found) (activeOf (drop i rules))) ≡ adds ℓ k (member before) (activeOf rules)
   pub size : length found ≡ length before
 
 -- Does slot s wait?
@@ -83,21 +88,21 @@ NoneFrom ℓ k rules found e =
 
 -- A round made.
 pub record Round (ℓ : ℕ → ℕ) (k : ℕ) (rules : List Rule) (before found : List Bool) (added : Bool) : Type 0 where
-  pub whole : member found ≡ sweep ℓ k (member before) (programOf rules)
-  pub more : added ≡ adds ℓ k (member before) (programOf rules)
+  pub whole : member found ≡ sweep ℓ k (member before) (activeOf rules)
+  pub more : added ≡ adds ℓ k (member before) (activeOf rules)
   pub size : length found ≡ length before
 
 module _ (ℓ : ℕ → ℕ) (k : ℕ) (rules : List Rule) where
   sweep-next : (M : AtomSet) (i : ℕ) → i < length rules
-      → sweep ℓ k M (programOf (drop i rules))
-      ≡ sweep ℓ k (visit ℓ k M (slotOf (getD rules i pastRule))) (programOf (drop (i + 1) rules))
+      → sweep ℓ k M (activeOf (drop i rules))
+      ≡ sweep ℓ k (visit ℓ k M (activeIn (getD rules i pastRule))) (activeOf (drop (i + 1) rules))
   unfolding sweep
   sweep-next M i l = rw (add-one, drop-cons rules i pastRule)
 
   adds-next : (M : AtomSet) (i : ℕ) → i < length rules
-      → adds ℓ k M (programOf (drop i rules))
-      ≡ (fires ℓ k M (slotOf (getD rules i pastRule))
-      || adds ℓ k (visit ℓ k M (slotOf (getD rules i pastRule))) (programOf (drop (i + 1) rules)))
+      → adds ℓ k M (activeOf (drop i rules))
+      ≡ (fires ℓ k M (activeIn (getD rules i pastRule))
+      || adds ℓ k (visit ℓ k M (activeIn (getD rules i pastRule))) (activeOf (drop (i + 1) rules)))
   unfolding adds
   adds-next M i l = rw (add-one, drop-cons rules i pastRule)
 
@@ -113,23 +118,23 @@ module _ (ℓ : ℕ → ℕ) (k : ℕ) (rules : List Rule) where
       new = missing ℓ k (member found) (here .head .0)
 
       abbrev good : Bool
-      good = passes (valid (member found)) (slotOf here)
+      good = passes (valid (member found)) (activeIn here)
 
       step : (after : List Bool) (t : Bool) → (new && good) ≡ t
-          → member after ≡ put t (slotOf here) (member found) → length after ≡ length found
+          → member after ≡ put t (activeIn here) (member found) → length after ≡ length found
           → Left ℓ k rules before (i + 1) after (u || t)
       unfolding visit
       step after t e is same =
-          let told : t ≡ fires ℓ k (member found) (slotOf here) =
+          let told : t ≡ fires ℓ k (member found) (activeIn here) =
           sym (fires-is ℓ k (member found) (here .state) (ruleOf here) ∙ e) in
-          let go : member after ≡ visit ℓ k (member found) (slotOf here) =
-          is ∙ ap (λ b. put b (slotOf here) (member found)) told in
+          let go : member after ≡ visit ℓ k (member found) (activeIn here) =
+          is ∙ ap (λ b. put b (activeIn here) (member found)) told in
           record {
             place = omega arith;
-            whole = ap (λ (M : AtomSet). sweep ℓ k M (programOf (drop (i + 1) rules))) go
+            whole = ap (λ (M : AtomSet). sweep ℓ k M (activeOf (drop (i + 1) rules))) go
                 ∙ (sym (sweep-next (member found) i l) ∙ L .whole);
             more = or-assoc u t _ ∙ (ap (λ b. u || b)
-                (ap₂ (λ (b : Bool) (M : AtomSet). b || adds ℓ k M (programOf (drop (i + 1) rules))) told go
+                (ap₂ (λ (b : Bool) (M : AtomSet). b || adds ℓ k M (activeOf (drop (i + 1) rules))) told go
                 ∙ sym (adds-next (member found) i l)) ∙ L .more);
             size = same ∙ L .size;
           }
@@ -148,23 +153,26 @@ module _ (ℓ : ℕ → ℕ) (k : ℕ) (rules : List Rule) where
       -- So a slot that does not wait adds none.
       pub left-idle :
           waits ℓ k (member found) (here .state) (here .head .0) ≡ false → Left ℓ k rules before (i + 1) found u
-      left-idle = go (here .state) refl
-        where
-          go : (n : ℕ) → here .state ≡ n → waits ℓ k (member found) n (here .head .0) ≡ false
-              → Left ℓ k rules before (i + 1) found u
-          go zero q e = left-stop (ap (passes (valid (member found))) (slot-free here q))
-          go (suc n) q e = left-over e
+      left-idle e = elim (ℕ-discrete (here .state) 1) [
+        | yes q ↦ left-over (waits-unmuted ℓ k (member found) (here .state) (here .head .0) q ∙ e)
+        | no q ↦ left-stop (sym (none-valid (member found) here q))
+      ]
 
       -- Else its head comes in.
-      pub left-add : HeadBelow (slotOf here) (length found) → new ≡ true → good ≡ true
+      pub left-add : HeadBelow (activeIn here) (length found) → new ≡ true → good ≡ true
           → (after : List Bool) → after ≡ set found (here .head .0) true → Left ℓ k rules before (i + 1) after true
       left-add low e v after is =
-          let held : slotOf here ≡ some (ruleOf here) =
-          slot-held here (λ z. clash v (ap (passes (valid (member found))) (slot-free here z))) in
+          let w = passing (activeIn here) v in
+          let held : activeIn here ≡ some (ruleOf here) =
+          active-some here (active-state here (w .0) (w .1)) in
           rw (sym (or-true u)) (step after true (ap₂ (λ b t. b && t) e v)
           (ap member is ∙ (fun-ext (mark-is found (here .head .0) (low (ruleOf here) held))
           ∙ sym (ap (λ (o : Option theory.Rule). put true o (member found)) held)))
           (ap length is ∙ length-set found (here .head .0) true))
+        where
+          passing : (o : Option theory.Rule) → passes (valid (member found)) o ≡ true → (q : theory.Rule) × (o ≡ some q)
+          passing none t = absurd (true≢false (sym t))
+          passing (some q) t = (q, refl)
 
     pub left-end : (i : ℕ) (found : List Bool) (u : Bool) → length rules ≤ i → Left ℓ k rules before i found u
         → Round ℓ k rules before found u
@@ -172,9 +180,9 @@ module _ (ℓ : ℕ → ℕ) (k : ℕ) (rules : List Rule) where
     left-end i found u l L =
         let e = drop-of-length-le rules l in
         record {
-          whole = ap (λ (rs : List Rule). sweep ℓ k (member found) (programOf rs)) (sym e) ∙ L .whole;
+          whole = ap (λ (rs : List Rule). sweep ℓ k (member found) (activeOf rs)) (sym e) ∙ L .whole;
           more = sym (or-false u)
-              ∙ (ap (λ (rs : List Rule). u || adds ℓ k (member found) (programOf rs)) (sym e) ∙ L .more);
+              ∙ (ap (λ (rs : List Rule). u || adds ℓ k (member found) (activeOf rs)) (sym e) ∙ L .more);
           size = L .size;
         }
 
@@ -249,4 +257,5 @@ module _ (ℓ : ℕ → ℕ) (k : ℕ) (rules : List Rule) where
 
       gone : (n x : ℕ) → waits ℓ k (member found) n x ≡ false → waits ℓ k (member (set found a true)) n x ≡ false
       gone zero x e = refl
-      gone (suc n) x e = go (eqb (ℓ x) k) (member found x) (member (set found a true) x) e (keeps x)
+      gone (suc zero) x e = go (eqb (ℓ x) k) (member found x) (member (set found a true) x) e (keeps x)
+      gone (suc (suc n)) x e = refl

@@ -6,7 +6,7 @@ use mathlib.Core.Bool.{Bool, false, not, _&&_}
 use mathlib.Core.List.{List}
 use lib.Dec.{eqb}
 use lib.ListN.{length}
-use Rattle.theory.specs.Rules.{Program}
+use Rattle.theory.specs.Rules.{Pages, Program, active}
 use Rattle.theory.specs.Models.{AtomSet}
 use Rattle.theory.specs.Limits.{document}
 use Rattle.theory.specs.Rounds.{FoundBelow, Rounds}
@@ -17,15 +17,16 @@ use Rattle.model.specs.Model.{Stratified}
 abbrev pub missing : (ℕ → ℕ) → ℕ → AtomSet → ℕ → Bool
 missing ℓ k M a = eqb (ℓ a) k && not (M a)
 
--- A slot waits if it holds a rule (its state is not 0) whose head is missing.
+-- A slot waits if it holds an unmuted rule (its state is 1) whose head is missing.
 abbrev pub waits : (ℕ → ℕ) → ℕ → AtomSet → ℕ → ℕ → Bool
 waits ℓ k M zero a = false
-waits ℓ k M (suc n) a = missing ℓ k M a
+waits ℓ k M (suc zero) a = missing ℓ k M a
+waits ℓ k M (suc (suc n)) a = false
 
 -- The layers below k have ended, and there is room for every atom.
-pub record Ready (P : Program) (ℓ : ℕ → ℕ) (k : ℕ) (found : List Bool) : Type 0 where
-  pub stratified : Stratified P ℓ
-  pub below : FoundBelow P ℓ k (member found)
+pub record Ready (B : Pages) (ℓ : ℕ → ℕ) (k : ℕ) (found : List Bool) : Type 0 where
+  pub stratified : Stratified B ℓ
+  pub below : FoundBelow (active B) ℓ k (member found)
   pub size : length found ≡ document .atoms
 
 -- The rounds of layer k, up to the first that adds none, take the atoms found from before to after.

@@ -9,7 +9,7 @@ use table::sets::number_of;
 ghost use mathlib.Core.Path.{_≡_};
 ghost use Rattle.theory.specs.Rules.{passes};
 ghost use Rattle.theory.specs.Models.{valid};
-ghost use Rattle.table.specs.Rules.{slotOf, programOf};
+ghost use Rattle.table.specs.Rules.{activeIn, activeOf, bookOf};
 ghost use Rattle.table.specs.Sets.{member, number};
 ghost use Rattle.model.specs.Model.{Stratified, Searched};
 ghost use Rattle.model.specs.Rounds.{missing, waits, Ready, Filling, Greatest};
@@ -36,7 +36,7 @@ fn missing(a: Atom, strata: &[u16; Table::ATOMS], k: u16, found: &[bool; Table::
     !has(found, a)
 }
 
-// Does a slot of this state and head hold a rule whose head is missing?
+// Does a slot of this state and head hold an unmuted rule whose head is missing?
 fn waits(
     state: u16,
     head: Atom,
@@ -47,17 +47,17 @@ fn waits(
     ensures { λ r. ⌜
         r ≡ waits (number (now (strata .entry))) k (member (now (found .entry))) state (head .0) ⌝ }
 {
-    if state == 0 {
+    if state != 1 {
         return false;
     }
     missing(head, strata, k, found)
 }
 
-// Does the slot hold a rule that is valid in the set?
+// Does the slot hold an unmuted rule that is valid in the set?
 fn holds_valid(rule: Rule, flags: &[bool; Table::ATOMS]) -> bool
-    ensures { λ r. ⌜ r ≡ passes (valid (member (now (flags .entry)))) (slotOf rule) ⌝ }
+    ensures { λ r. ⌜ r ≡ passes (valid (member (now (flags .entry)))) (activeIn rule) ⌝ }
 {
-    if rule.state == 0 {
+    if rule.state != 1 {
         return false;
     }
     valid(rule, flags)
@@ -70,8 +70,8 @@ fn fill_stratum(
     k: u16,
     found: &mut [bool; Table::ATOMS],
 ) -> u16
-    requires { ⌜ Ready (programOf rules) (number (now strata)) k (now found) ⌝ }
-    ensures { λ r. ⌜ Filling (programOf rules) (number (now (strata .entry))) k
+    requires { ⌜ Ready (bookOf rules) (number (now strata)) k (now found) ⌝ }
+    ensures { λ r. ⌜ Filling (activeOf rules) (number (now (strata .entry))) k
         (now (found .entry)) (now (found .exit)) r ⌝ }
 {
     let mut rounds: u16 = 0;
@@ -120,10 +120,10 @@ fn highest(strata: &[u16; Table::ATOMS]) -> u16
     top
 }
 
-// The admissible model of the rules, given the strata of their atoms, and the rounds of each stratum.
+// The admissible model of the unmuted rules, given the strata of the atoms, and the rounds of each stratum.
 pub fn in_atoms(rules: [Rule; Table::SLOTS], strata: &[u16; Table::ATOMS]) -> Search
-    requires { ⌜ Stratified (programOf rules) (number (now strata)) ⌝ }
-    ensures { λ r. ⌜ Searched (programOf rules) r ⌝ }
+    requires { ⌜ Stratified (bookOf rules) (number (now strata)) ⌝ }
+    ensures { λ r. ⌜ Searched (bookOf rules) r ⌝ }
 {
     let top = highest(strata);
     let mut found: [bool; Table::ATOMS] = [false; Table::ATOMS];

@@ -8,7 +8,7 @@ use Rattle.theory.specs.Dependencies.{NegativeCycle}
 use Rattle.theory.specs.Limits.{document}
 use Rattle.theory.specs.Rounds.{RoundsTold}
 use Rattle.table.specs.declared.Table.{Table}
-use Rattle.table.specs.Rules.{programOf, pastRule}
+use Rattle.table.specs.Rules.{bookOf, programOf, pastRule}
 use Rattle.table.specs.Clean.{WellFormed}
 use Rattle.table.specs.Sets.{number}
 use Rattle.table.specs.Sound.{Sound}
@@ -32,7 +32,7 @@ pub data LabelsProbe (t : Table) : Relabelled → Type 0 where
   unfit : (RulesFit t → ⊥) → LabelsProbe t (record { refused = 15; table = t })
   cyclic : RulesFit t → NegativeCycle (programOf (t .rules)) → LabelsProbe t (record { refused = 7; table = t })
   labelled :
-      (M : AtomSet) (u : Table) → RulesFit t → u .rules ≡ t .rules → Labels (programOf (u .rules)) M (u .labels)
+      (M : AtomSet) (u : Table) → RulesFit t → u .rules ≡ t .rules → Labels (bookOf (u .rules)) M (u .labels)
       → LabelsProbe t (record { refused = 0; table = u })
 
 -- No rounds of any layer.
@@ -46,5 +46,5 @@ pub data RoundsProbe (t : Table) : RoundsCounted → Type 0 where
       RulesFit t → NegativeCycle (programOf (t .rules)) → RoundsProbe t (record { refused = 7; rounds = no-rounds })
   counted :
       (rounds : List ℕ) → RulesFit t → (NegativeCycle (programOf (t .rules)) → ⊥)
-      → ((k : ℕ) → RoundsTold (programOf (t .rules)) k (number rounds k))
+      → ((k : ℕ) → RoundsTold (bookOf (t .rules)) k (number rounds k))
       → RoundsProbe t (record { refused = 0; rounds = rounds })

@@ -4,11 +4,12 @@ use Prim.Native.Nat.{ℕ}
 use mathlib.Core.Path.{_≡_, sym, _∙_, ap, subst}
 use mathlib.Core.Bool.{Bool, true, false, true≢false}
 use mathlib.Core.List.{List}
+use mathlib.Core.Option.{some}
 use lib.ListN.{length, getD}
 use Rattle.theory.specs.Lists.{Lists}
-use Rattle.theory.specs.Rules.{Bounded}
+use Rattle.theory.specs.Rules.{Page, all, active, Bounded}
 use Rattle.theory.specs.Models.{AtomSet, Admissible}
-use Rattle.theory.specs.Labels.{absent, out, in-at, Labelled, is-in, Supporting, spoiler}
+use Rattle.theory.specs.Labels.{absent, out, in-at, Labelled, is-in, Supporting}
 use Rattle.theory.specs.Labels as theory-labels
 use Rattle.theory.specs.Questions.{atom-questions, is-in-label}
 use Rattle.theory.specs.Limits.{document}
@@ -20,13 +21,14 @@ use Rattle.table.specs.declared.Rule.{Rule}
 use Rattle.table.specs.declared.Slot.{Slot}
 use Rattle.table.specs.declared.Table.{Table}
 use Rattle.table.specs.Sets.{member, number, Flags}
-use Rattle.table.specs.Rules.{ruleOf}
+use Rattle.table.specs.Rules.{pageOf, ruleOf}
 use Rattle.table.specs.Clean.{freeRule}
 use Rattle.table.specs.Labels.{labelAt, labelOf, absentLabel}
 use Rattle.table.specs.Sound.{Sound}
 use Rattle.table.specs.declared.kept.Kept.{Kept}
 use Rattle.table.specs.Kept.{KeptOf}
 use Rattle.table.proofs.KeptFields.{flags-are, slots-are}
+use Rattle.theory.proofs.Pages.{active-bounded, page-held}
 use Rattle.theory.proofs.Questions.{passed-bounded}
 use Rattle.sound.proofs.Soundness.{kept-certified, sound-kept, sound-occurrence}
 use Rattle.calls.specs.declared.Refusal.{Refusal}
@@ -37,17 +39,21 @@ use Rattle.calls.specs.declared.ListAnswer.the-variants as listed
 use Rattle.calls.specs.declared.LabelAnswer.{LabelAnswer}
 use Rattle.calls.specs.declared.SpoilerAnswer.{SpoilerAnswer}
 use Rattle.calls.specs.Asking.{AskEnds}
-use Rattle.calls.specs.Answers.{tellLabel, tellSpoiler}
+use Rattle.calls.specs.Answers.{tellLabel, tellPage}
 use Rattle.calls.specs.Contracts.{held, LabelEnds, SpoilerEnds, ListEnds}
 use Rattle.calls.specs.Contracts as contract
-use Rattle.calls.proofs.Asking.{Passes, passes-low, ask-passed, list-refused, PassesSlot, slot-holds}
+use Rattle.calls.proofs.Asking.{Passes, passes-low, ask-passed, list-refused, PassesSlot, page-is, slot-holds}
 use Rattle.listing.specs.Lists.{below}
 use Rattle.listing.specs.Written.{Written, short, fits}
 use Rattle.listing.proofs.Lists.{flags-list}
 
 -- Every atom of a sound table's rules is below the number of atoms.
-pub sound-bounded : (t : Table) → Sound t → Bounded (held t) (document .atoms)
-sound-bounded t S = passed-bounded document (held t) (S .labels .passes)
+pub sound-bounded : (t : Table) → Sound t → Bounded (all (held t)) (document .atoms)
+sound-bounded t S = passed-bounded document (all (held t)) (S .labels .passes)
+
+-- So is every atom of the unmuted ones.
+pub active-low : (t : Table) → Sound t → Bounded (active (held t)) (document .atoms)
+active-low t S = active-bounded (held t) (document .atoms) (sound-bounded t S)
 
 -- What a sound table keeps is what is defined. The in atoms kept are the model.
 module _ (t : Table) (slots : length (t .rules) ≡ document .slots) (atoms : length (t .labels) ≡ document .atoms)
@@ -58,36 +64,38 @@ module _ (t : Table) (slots : length (t .rules) ≡ document .slots) (atoms : le
   certified : Certified (held t) label
   certified = kept-certified (held t) label (sound-kept t slots atoms S) (sound-occurrence t slots atoms S)
 
-  sound-model : Admissible (held t) (kept-in label)
+  sound-model : Admissible (active (held t)) (kept-in label)
   sound-model = certified-admissible (held t) label certified
 
   sound-label : (a : ℕ) → Labelled (held t) (kept-in label) a (label a)
   sound-label = certified-labels (held t) label certified
 
-  sound-supports : (h : ℕ) → kept-in label h ≡ true → Supporting (held t) (kept-in label) h (slot-in (label h))
+  sound-supports : (h : ℕ) → kept-in label h ≡ true → Supporting (active (held t)) (kept-in label) h (slot-in (label h))
   sound-supports h e = go (label h) e (sound-label h)
     where
       go :
           (l : theory-labels.Label) → is-in-label l ≡ true → Labelled (held t) (kept-in label) h l
-          → Supporting (held t) (kept-in label) h (slot-in l)
+          → Supporting (active (held t)) (kept-in label) h (slot-in l)
       go absent q w = absurd (true≢false (sym q))
       go out q w = absurd (true≢false (sym q))
       go (in-at d s) q (is-in i D T) = T
 
   -- the same of the arrays
   module _ (k : Kept) (K : KeptOf (t .labels) k) where
-    pub flags-model : Admissible (held t) (member (k .flags))
+    pub flags-model : Admissible (active (held t)) (member (k .flags))
     flags-model = rw (flags-are (t .labels) k K) sound-model
 
     pub spoiler-ends :
         (s : ℕ) (x : Slot) → PassesSlot t s x → (q : Rule) → q ≡ getD (t .rules) (x .0) freeRule → (r : SpoilerAnswer)
-        → r ≡ tellSpoiler (spoiler (member (k .flags)) (ruleOf q)) → SpoilerEnds t s r
+        → ((p : Page) → pageOf q ≡ some p → r ≡ tellPage (member (k .flags)) p) → SpoilerEnds t s r
     spoiler-ends s x Q q e r u =
         let is : q ≡ getD (t .rules) s freeRule = e ∙ ap (λ (z : ℕ). getD (t .rules) z freeRule) (Q .slot) in
-        rw u (contract.accepted (member (k .flags)) (ruleOf q) S (Q .yes) (slot-holds t s q is (Q .yes)) flags-model)
+        let w = page-held (held t) s (ruleOf q) (slot-holds t s q is (Q .yes)) in
+        rw (u (w .0) (sym (page-is t s q is) ∙ w .1))
+        (contract.accepted (member (k .flags)) (w .0) S (Q .yes) (w .1) flags-model)
 
     pub flags-supports :
-        (h : ℕ) → member (k .flags) h ≡ true → Supporting (held t) (member (k .flags)) h (number (k .slots) h)
+        (h : ℕ) → member (k .flags) h ≡ true → Supporting (active (held t)) (member (k .flags)) h (number (k .slots) h)
     flags-supports h e =
         let q : kept-in label h ≡ true = sym (ap (λ (M : AtomSet). M h) (flags-are (t .labels) k K)) ∙ e in
         let s : number (k .slots) h ≡ slot-in (label h) = ap (λ (f : ℕ → ℕ). f h) (slots-are (t .labels) k K) in
@@ -112,7 +120,7 @@ module _ (t : Table) (a : ℕ) (r : Asked) (E : AskEnds t a r) (Is : AtomSet →
   set-refused f e before = list-refused t a r E f e _ _ before (λ k q. q)
 
   pub set-ends :
-      (x : Atom) → r ≡ Passed x → (M : AtomSet) → Admissible (held t) M → (flags : List Bool)
+      (x : Atom) → r ≡ Passed x → (M : AtomSet) → Admissible (active (held t)) M → (flags : List Bool)
       → Flags flags (Is M (x .0)) → (before : List ℕ) (answer : ListAnswer) (after : List ℕ)
       → Written (below (member flags) (length flags)) before answer after
       → ListEnds (atom-questions document a) (λ N xs. Lists xs (Is N a)) t before answer after

@@ -35,7 +35,7 @@ pub fn label(table: Table, atom: u32) -> LabelAnswer
     }
 }
 
-// The spoiler of the rule in a slot, or that the rule is valid. Asks 15, 8, 9.
+// The spoiler of the rule in a slot, or that the rule is valid, or that it is muted. Asks 15, 8, 9.
 pub fn spoiler(table: Table, slot: u32) -> SpoilerAnswer
     ensures { λ r. ⌜ SpoilerEnds table slot r ⌝ }
 {
@@ -48,12 +48,12 @@ pub fn spoiler(table: Table, slot: u32) -> SpoilerAnswer
             let labels = table.labels;
             let k = keep(labels);
             let flags = k.flags;
-            answers::tell_spoiler(rule, &flags)
+            answers::tell_rule(rule, &flags)
         }
     }
 }
 
-// Justifications of an atom: the slots of the rules with this head, written ascending from the start of the buffer;
+// Justifications of an atom: the slots of the rules with this head, muted or not, ascending from the buffer's start;
 // their count is answered, and later entries stay. Asks 15, 10, 11.
 pub fn justifications(table: Table, atom: u32, buffer: &mut [u32]) -> ListAnswer
     ensures { λ r. ⌜ JustificationsEnd table atom (now (buffer .entry)) r (now (buffer .exit)) ⌝ }
@@ -69,7 +69,8 @@ pub fn justifications(table: Table, atom: u32, buffer: &mut [u32]) -> ListAnswer
     }
 }
 
-// Consequences of an atom: the heads of the rules with this entry, written and counted likewise. Asks 15, 10, 11.
+// Consequences of an atom: the heads of the rules, muted or not, with this entry, written and counted likewise. Asks
+// 15, 10, 11.
 pub fn consequences(table: Table, atom: u32, buffer: &mut [u32]) -> ListAnswer
     ensures { λ r. ⌜ ConsequencesEnd table atom (now (buffer .entry)) r (now (buffer .exit)) ⌝ }
 {

@@ -1,15 +1,15 @@
 -- Laws of slots and labels that stand as in the empty table, by what is tested of them. Assumes nothing.
 use Prim.Native.Nat.{ℕ, _+_, _≤_, _<_}
 use native.Mathlib.Omega.{arith}
-use mathlib.Core.Path.{_≡_, refl, sym, _∙_, ap}
+use mathlib.Core.Path.{_≡_, sym, _∙_, ap}
 use mathlib.Core.Logic.{_↔_, ⊎-elim}
 use mathlib.Core.Bool.{Bool, true, false, not, true≢false}
 use mathlib.Core.List.{List}
-use lib.Dec.{eqb}
+use lib.Dec.{eqb, leb}
 use lib.ListN.{length, getD, length-replicate, getD-replicate}
 use lib.Seq.{ext-getD}
 use Rattle.theory.specs.Limits.{document}
-use Rattle.theory.proofs.Lists.{le-or-lt, not-true, not-false, clash, eqb-eq, eqb-of}
+use Rattle.theory.proofs.Lists.{le-or-lt, not-true, not-false, clash, eqb-eq, eqb-of, le-leb, leb-le}
 use Rattle.table.specs.declared.Atom.{Atom}
 use Rattle.table.specs.declared.Rule.{Rule}
 use Rattle.table.specs.declared.Label.{Label}
@@ -91,14 +91,17 @@ module _ (r : Rule) (long : length (r .entries) ≡ document .entries) where
       filler : Filler
       filler = told .0 (not-false t u)
 
-      pub held-clean : r .state ≡ 1 → (true ≡ true) ↔ CleanRule r
-      held-clean e = (
-        λ v. record { known = omega arith; free = λ z. absurd (omega arith); fits = fits; filler = filler },
-        λ w. refl,
+      -- A slot that is not free holds a rule with one of the two marks.
+      pub held-clean : (r .state ≡ 0 → ⊥) → (leb (r .state) 2 ≡ true) ↔ CleanRule r
+      held-clean h = (
+        λ k. record {
+          known = leb-le (r .state) 2 k;
+          free = λ e. absurd (h e);
+          fits = fits;
+          filler = told .0 (not-false t u);
+        },
+        λ w. le-leb (r .state) 2 (w .known),
       )
-
-      pub unknown : (r .state ≡ 1 → ⊥) → (r .state ≡ 0 → ⊥) → (false ≡ true) ↔ CleanRule r
-      unknown h k = is-not (λ w. omega (arith, w .known))
 
       pub free-counts : r .state ≡ 0 → (r .positives + r .negatives ≡ 0 → ⊥) → (false ≡ true) ↔ CleanRule r
       free-counts e h = is-not (λ w.

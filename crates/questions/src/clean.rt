@@ -41,11 +41,8 @@ pub fn clean_rule(rule: Rule) -> bool
     if !empty_from(rule, n) {
         return false;
     }
-    if rule.state == 1 {
-        return true;
-    }
     if rule.state != 0 {
-        return false;
+        return rule.state <= 2;
     }
     if n != 0 {
         return false;

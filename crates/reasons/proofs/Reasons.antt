@@ -9,7 +9,7 @@ use mathlib.Core.List.{List, [], _∷_, map, List·Memᴰ·head, List·Memᴰ·t
 use mathlib.Core.Option.{none, some}
 use lib.ListN.{length, getD, drop, replicate, length-map, length-replicate}
 use Rattle.theory.specs.Lists.{_∈_}
-use Rattle.theory.specs.Rules.{Program, Held}
+use Rattle.theory.specs.Rules.{Pages, Program, all, active, Held}
 use Rattle.theory.specs.Rules as theory
 use Rattle.theory.specs.Models.{AtomSet, Founded, valid}
 use Rattle.theory.specs.Derivations.{Depth}
@@ -22,20 +22,20 @@ use Rattle.theory.proofs.Lists.{clash, le-or-lt, lt-ltb}
 use Rattle.theory.proofs.Rules.{held-unique, valid-positive}
 use Rattle.theory.proofs.Derivations.{last}
 use Rattle.theory.proofs.Depths.{depth-unique}
-use Rattle.theory.proofs.Labels.{supporting-unique, in-occurs}
+use Rattle.theory.proofs.Labels.{supporting-unique, in-occurs-held}
 use Rattle.theory.proofs.Questions.{held-below, first-no-yes, first-no-here, passed-bounded}
 use Rattle.table.specs.declared.Atom.{Atom}
 use Rattle.table.specs.declared.Label.{Label}
 use Rattle.table.specs.declared.Table.{Table}
 use Rattle.table.specs.Sets.{member, number}
-use Rattle.table.specs.Rules.{programOf, pastRule}
+use Rattle.table.specs.Rules.{bookOf, pastRule}
 use Rattle.table.specs.Labels.{label-in, labelAt, absentLabel}
 use Rattle.table.specs.Sound.{Sound}
 use Rattle.table.specs.declared.kept.Kept.{Kept}
 use Rattle.table.specs.Kept.{KeptOf}
 use Rattle.table.proofs.KeptFields.{depths-are, slots-are}
 use Rattle.table.proofs.Members.{all-alike}
-use Rattle.table.proofs.Programs.{held-rule, label-kept}
+use Rattle.table.proofs.Programs.{active-length, book-length, unmuted-rule, label-kept}
 use Rattle.calls.specs.declared.ListAnswer.{ListAnswer}
 use Rattle.calls.specs.declared.ListAnswer.the-variants as listed
 use Rattle.calls.specs.declared.Refusal.the-variants.{Buffer}
@@ -106,21 +106,26 @@ module _ (t : Table) (a : ℕ) (x : Atom) (Q : Passes t a x) where
   ends-asked before r after E = subst (λ (k : ℕ). ReasonEnds t k before r after) (Q .atom) E
 
 -- What a label's state says of an atom with that label.
-module _ (P : Program) (M : AtomSet) (F : Founded P M) (x : ℕ) where
+module _ (B : Pages) (M : AtomSet) (F : Founded (active B) M) (x : ℕ) where
   state-in :
-      (n d s : ℕ) → Labelled P M x (label-in n d s) → M x ≡ true → (2 ≤ n) × Depth P M x d × Supporting P M x s
-  state-in zero d s (is-absent f) t = absurd (f (in-occurs P M F x t))
+      (n d s : ℕ) → Labelled B M x (label-in n d s) → M x ≡ true
+      → (2 ≤ n) × Depth (active B) M x d × Supporting (active B) M x s
+  state-in zero d s (is-absent f) t = absurd (f (in-occurs-held B M F x t))
   state-in (suc zero) d s (is-out o f) t = absurd (clash t f)
   state-in (suc (suc n)) d s (is-in u D S) t = (omega arith, D, S)
 
-  in-state : (n d s : ℕ) → 2 ≤ n → Labelled P M x (label-in n d s) → M x ≡ true
+  in-state : (n d s : ℕ) → 2 ≤ n → Labelled B M x (label-in n d s) → M x ≡ true
   in-state zero d s l w = absurd (omega arith)
   in-state (suc zero) d s l w = absurd (omega arith)
   in-state (suc (suc n)) d s l (is-in u D S) = u
 
 module _ (t : Table) (long : length (t .labels) ≡ document .atoms) (sound : Sound t) where
+  abbrev B : Pages
+  B = bookOf (t .rules)
+
+  -- a reason is one of the unmuted rules
   abbrev P : Program
-  P = programOf (t .rules)
+  P = active B
 
   abbrev M : AtomSet
   M = sound .labels .model
@@ -135,8 +140,8 @@ module _ (t : Table) (long : length (t .labels) ≡ document .atoms) (sound : So
   -- An in atom is below the limit; so is an atom whose label says that it is in.
   in-below : (x : ℕ) → M x ≡ true → x < document .atoms
   in-below x u =
-      let w = in-occurs P M founded x u in
-      passed-bounded document P (sound .labels .passes) (w .slot) (w .rule) (w .held) x (w .there)
+      let w = in-occurs-held B M founded x u in
+      passed-bounded document (all B) (sound .labels .passes) (w .slot) (w .rule) (w .held) x (w .there)
 
   state-below : (x : ℕ) → 2 ≤ at x .state → x < document .atoms
   state-below x l = ⊎-elim
@@ -146,19 +151,25 @@ module _ (t : Table) (long : length (t .labels) ≡ document .atoms) (sound : So
       (le-or-lt (document .atoms) x)
 
   pub in-model : (x : ℕ) → 2 ≤ at x .state → M x ≡ true
-  in-model x l = in-state P M founded x _ _ _ l (sound .labels .labels x (state-below x l))
+  in-model x l = in-state B M founded x _ _ _ l (sound .labels .labels x (state-below x l))
 
   -- Its kept depth and slot are the defined ones.
   kept : (x : ℕ) → M x ≡ true
       → (2 ≤ at x .state) × Depth P M x (at x .depth) × Supporting P M x (slotAt (t .labels) x)
-  kept x u = state-in P M founded x _ _ _ (sound .labels .labels x (in-below x u)) u
+  kept x u = state-in B M founded x _ _ _ (sound .labels .labels x (in-below x u)) u
 
   -- Every kept slot is a slot of the table.
   pub slotted : Slotted (t .labels)
   slotted x = ⊎-elim
       (λ (l : 2 ≤ at x .state). (
       let w = kept x (in-model x l) .2 .supports in
-      omega (arith, held-below P _ _ (w .held), sound .labels .slots)))
+      omega (
+        arith,
+        held-below P _ _ (w .held),
+        active-length (t .rules),
+        book-length (t .rules),
+        sound .labels .slots,
+      )))
       (λ (l : at x .state < 2). ⊎-elim
       (λ (b : document .atoms ≤ x). omega (arith, past-slot (t .labels) _ long x b))
       (λ (b : x < document .atoms). omega (arith, sound .clean .labels x b .slot l))
@@ -172,7 +183,7 @@ module _ (t : Table) (long : length (t .labels) ≡ document .atoms) (sound : So
         let w = kept x u in
         let e : s ≡ slotAt (t .labels) x = supporting-unique P M x _ _ S (w .2) in
         positives-in (at x) (getD (t .rules) (slotAt (t .labels) x) pastRule) (w .0)
-        ∙ ap (λ q. q .positives) (held-rule (t .rules) _ r (subst (λ k. Held P k r) e h))
+        ∙ ap (λ q. q .positives) (unmuted-rule (t .rules) _ r (subst (λ k. Held P k r) e h))
 
     positive-in : (y : ℕ) → y ∈ r .positives → M y ≡ true
     positive-in y m =
@@ -270,8 +281,8 @@ module _ (t : Table) (long : length (t .labels) ≡ document .atoms) (sound : So
           u : M a ≡ true
           u = in-model a q
 
-          all : {x : ℕ} → Gathered P M a x → member seen x ≡ true
-          all = gathered-seen u seen
+          all-seen : {x : ℕ} → Gathered P M a x → member seen x ≡ true
+          all-seen = gathered-seen u seen
               (G .here (omega (arith, length-replicate (document .atoms) false, in-below a u)))
               (λ x y s k l. G .closed is-depth falling x y s (all-alike (document .atoms) x false) k
               (omega (arith, length-replicate (document .atoms) false)))
@@ -316,7 +327,7 @@ module _ (t : Table) (long : length (t .labels) ≡ document .atoms) (sound : So
 
           gathered-atom : (x : ℕ) → Gathered P M a x → x ∈ atoms
           gathered-atom x g =
-              let s = all g in
+              let s = all-seen g in
               let w = seen-depth x s in
               by-depth-of (member seen) (number depths) (document .atoms) depth x (in-below x (seen-in x s)) s
               (w .0) (w .1)

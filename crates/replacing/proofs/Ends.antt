@@ -7,7 +7,7 @@ use mathlib.Core.List.{List, [], _∷_}
 use mathlib.Core.Option.{none}
 use lib.ListN.{length, set}
 use lib.Seq.{set-set}
-use Rattle.theory.specs.Rules.{Program, Held, Ascending, Bounded, any-rule, same, kept}
+use Rattle.theory.specs.Rules.{Program, all, Held, Ascending, Bounded, any-rule, same, kept}
 use Rattle.theory.specs.Rules as theory
 use Rattle.theory.specs.Questions.{asks, first-no, rule-questions, slot-questions, replace-questions, stratified}
 use Rattle.theory.specs.Questions.{with-replaced}
@@ -20,7 +20,7 @@ use Rattle.theory.proofs.Replacing.{old-rule}
 use Rattle.theory.proofs.Sameness.{same-kept}
 use Rattle.table.specs.declared.Rule.{Rule}
 use Rattle.table.specs.declared.Table.{Table}
-use Rattle.table.specs.Rules.{programOf, ruleOf}
+use Rattle.table.specs.Rules.{bookOf, programOf, ruleOf}
 use Rattle.table.specs.Questions.{refusalNumber}
 use Rattle.table.specs.Clean.{freeRule}
 use Rattle.table.specs.Sound.{Sound}
@@ -36,7 +36,7 @@ use Rattle.calls.proofs.Asking.{slot-low}
 use Rattle.labels.specs.declared.Labelling.{Labelling}
 use Rattle.labels.specs.Labelling.{LabellingOf}
 use Rattle.making.specs.Parts.{SlotWith}
-use Rattle.changes.proofs.Putting.{same-told, rule-refused, program-put, bounded-put, put-cyclic, put-stratified}
+use Rattle.changes.proofs.Putting.{same-told, rule-refused, book-put, bounded-put, put-cyclic, put-stratified}
 use Rattle.changes.proofs.Putting.{put-sized, put-sound}
 
 -- A refusal that hands the table back as it came.
@@ -48,7 +48,7 @@ handed-back t s q f r e E = subst (λ (x : Changed). ReplaceEnds t s q (x .answe
 
 -- The rule q is to replace the one in slot s of the table t, which passed questions 8 and 9.
 module _
-    (t : Table) (S : Sound t) (s : ℕ) (asked : first-no (slot-questions document (held t) s) ≡ none)
+    (t : Table) (S : Sound t) (s : ℕ) (asked : first-no (slot-questions document (all (held t)) s) ≡ none)
     (q : theory.Rule)
   where
     inside : s < document .slots
@@ -58,35 +58,35 @@ module _
         (k : ℕ) → k ≡ refusalNumber (first-no (rule-questions document q)) → (k ≡ 0 → ⊥) → (f : Refusal)
         → (0 < k → k ≤ 4 → numberOf f ≡ k) → ReplaceEnds t s q (changed.Refused f) t
     refused-early k told n f number =
-        contract.refused f S (first-no-past (slot-questions document (held t) s) _ asked
+        contract.refused f S (first-no-past (slot-questions document (all (held t)) s) _ asked
         ∙ first-no-before (rule-questions document q) _ _ (rule-refused q k told n f number))
 
     module _ (pass : first-no (rule-questions document q) ≡ none) where
-      four : first-no (replace-questions document (held t) s q)
+      four : first-no (replace-questions document (all (held t)) s q)
           ≡ first-no
-          (asks 5 (not (any-rule (same q) (set (held t) s none)))
-          ∷ asks 7 (stratified (with-replaced (held t) s q))
+          (asks 5 (not (any-rule (same q) (set (all (held t)) s none)))
+          ∷ asks 7 (stratified (with-replaced (all (held t)) s q))
           ∷ [])
       four =
-          first-no-past (slot-questions document (held t) s) _ asked
+          first-no-past (slot-questions document (all (held t)) s) _ asked
           ∙ first-no-past (rule-questions document q) _ pass
 
       -- the slots without the old rule
       module _ (f : Rule) (is-free : f ≡ freeRule) (rest : List Rule) (left : rest ≡ set (t .rules) s f) where
-        rest-program : programOf rest ≡ set (held t) s none
+        rest-program : programOf rest ≡ set (all (held t)) s none
         rest-program =
             ap programOf (left ∙ ap (set (t .rules) s) is-free) ∙ program-set (t .rules) s freeRule
 
         rest-ascending : (k : ℕ) (p : theory.Rule) → Held (programOf rest) k p → Ascending p
         rest-ascending k p h =
-            let w = old-rule document (held t) s asked in
-            S .labels .ascending k p (freed (held t) s k p (held-below (held t) s (w .0) (w .1))
+            let w = old-rule document (all (held t)) s asked in
+            S .labels .ascending k p (freed (all (held t)) s k p (held-below (all (held t)) s (w .0) (w .1))
             (subst (λ (P : Program). Held P k p) rest-program h) .1)
 
         pub rest-told :
             (r : Rule) → SlotWith (kept q) r → (b v : Bool)
             → (b ≡ true) ↔ ((k : ℕ) × Held (programOf rest) k (ruleOf r)) → b ≡ v
-            → any-rule (same q) (set (held t) s none) ≡ v
+            → any-rule (same q) (set (all (held t)) s none) ≡ v
         rest-told r R b v e u =
             ap (any-rule (same q)) (sym rest-program)
             ∙ same-told (programOf rest) rest-ascending q pass r R b v e u
@@ -95,27 +95,27 @@ module _
         put-behind r slots put = put ∙ ap (λ (rs : List Rule). set rs s r) left ∙ set-set (t .rules) s f r
 
       pub refused-same :
-          any-rule (same q) (set (held t) s none) ≡ true → ReplaceEnds t s q (changed.Refused refusal.Same) t
+          any-rule (same q) (set (all (held t)) s none) ≡ true → ReplaceEnds t s q (changed.Refused refusal.Same) t
       refused-same u = contract.refused refusal.Same S (four ∙ first-no-here _ _ (ap not u))
 
       -- the rule is put into the slot
       module _
-          (other : any-rule (same q) (set (held t) s none) ≡ false) (r : Rule) (R : SlotWith (kept q) r)
+          (other : any-rule (same q) (set (all (held t)) s none) ≡ false) (r : Rule) (R : SlotWith (kept q) r)
           (slots : List Rule) (put : slots ≡ set (t .rules) s r)
         where
-          alone : (k : ℕ) → (k ≡ s → ⊥) → Held (held t) k (kept q) → ⊥
+          alone : (k : ℕ) → (k ≡ s → ⊥) → Held (all (held t)) k (kept q) → ⊥
           alone k n h =
-              clash (any-rule-of (same q) (set (held t) s none) k (kept q)
-              (set-other (held t) s k none (kept q) n h) (same-kept q)) other
+              clash (any-rule-of (same q) (set (all (held t)) s none) k (kept q)
+              (set-other (all (held t)) s k none (kept q) n h) (same-kept q)) other
 
-          five : first-no (replace-questions document (held t) s q)
-              ≡ first-no (asks 7 (stratified (with-replaced (held t) s q)) ∷ [])
+          five : first-no (replace-questions document (all (held t)) s q)
+              ≡ first-no (asks 7 (stratified (with-replaced (all (held t)) s q)) ∷ [])
           five = four ∙ first-no-yes _ _ (ap not other)
 
           pub bounded-changed : Bounded (programOf slots) (document .atoms)
           bounded-changed = bounded-put t S q pass s inside alone r R slots put
 
-          module _ (l : Labelling) (L : LabellingOf (programOf slots) l) where
+          module _ (l : Labelling) (L : LabellingOf (bookOf slots) l) where
             pub refused-cycle :
                 l .acyclic ≡ false → ReplaceEnds t s q (changed.Refused refusal.NegativeCycle) t
             refused-cycle e =
@@ -131,5 +131,5 @@ module _
                 (five ∙ first-no-yes _ _ (put-stratified t S q pass s inside alone r R slots put l L e)
                 ∙ (unfold first-no in refl))
                 (put-sized t S q pass s inside alone r R slots put l L Z n m)
-                (program-put t S q pass s inside alone r R slots put)
+                (book-put t S q pass s inside alone r R slots put)
                 (put-sound t S q pass s inside alone r R slots put l L e)

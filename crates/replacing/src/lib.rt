@@ -15,6 +15,7 @@ use table::Table;
 use table::parts::with_rule;
 ghost use mathlib.Core.Path.{_≡_};
 ghost use mathlib.Core.Option.{none};
+ghost use Rattle.theory.specs.Rules.{all};
 ghost use Rattle.theory.specs.Questions.{first-no, slot-questions};
 ghost use Rattle.theory.specs.Limits.{document};
 ghost use Rattle.table.specs.Questions.{ruleFrom};
@@ -41,7 +42,7 @@ fn replace_held(
     negatives: &[u32],
 ) -> Changed
     requires { ⌜ Sound table ⌝ }
-    requires { ⌜ first-no (slot-questions document (held table) (slot .0)) ≡ none ⌝ }
+    requires { ⌜ first-no (slot-questions document (all (held table)) (slot .0)) ≡ none ⌝ }
     ensures { λ r. ⌜ ReplaceEnds table (slot .0)
         (ruleFrom head (now (positives .entry)) (now (negatives .entry))) (r .answer) (r .table) ⌝ }
 {
@@ -72,8 +73,8 @@ fn replace_held(
     }
 }
 
-// Puts the rule that the arguments name, in whatever order, into the slot in place of the rule there, or refuses by the
-// first question answered no. A table refused is handed back as it came, the old rule in its slot.
+// Puts the rule that the arguments name, in whatever order, into the slot in place of the rule there, unmuted; or
+// refuses by the first question answered no. A table refused is handed back as it came, the old rule in its slot.
 pub fn replace(table: Table, slot: u32, head: u32, positives: &[u32], negatives: &[u32]) -> Changed
     ensures { λ r. ⌜ ReplaceEnds table slot (ruleFrom head (now (positives .entry)) (now (negatives .entry)))
         (r .answer) (r .table) ⌝ }

@@ -9,7 +9,7 @@ use lib.ListN.{length, take, drop, replicate, length-take, length-drop}
 use lib.Seq.{take-all, drop-drop}
 use Rattle.theory.proofs.Lists.{le-or-lt}
 use Rattle.table.specs.declared.Rule.{Rule}
-use Rattle.table.specs.Rules.{programOf}
+use Rattle.table.specs.Rules.{bookOf}
 use Rattle.fields.specs.Written.{Wrote}
 use Rattle.fields.proofs.Wrote.{wrote-nothing, wrote-then, wrote-to, wrote-there}
 use Rattle.blocks.specs.Words.{word}
@@ -58,7 +58,7 @@ wrote-sums {out} {after = after} at a b is-a is-b first second =
 -- The body and its sums are the block. It has the first 22 of the records that are left, or all of them.
 pub wrote-block :
     {before one two three after : List ℕ} {at : ℕ} (rules : List Rule) (index blocks n : ℕ)
-    → n ≡ min PLACES (length (records (programOf rules)) - PLACES * index)
+    → n ≡ min PLACES (length (records (bookOf rules)) - PLACES * index)
     → Wrote (headerBytes index blocks n) before at one (at + HEADER)
     → Wrote (recordsBytes rules (PLACES * index) n) one (at + HEADER) two (at + HEADER + PLACE * n)
     → Wrote (replicate (at + BODY - (at + HEADER + PLACE * n)) 0) two (at + HEADER + PLACE * n) three (at + BODY)
@@ -66,8 +66,8 @@ pub wrote-block :
     → Wrote (blockBytes index blocks rules) before at after (at + BLOCK)
 unfolding headerBytes recordsBytes sumsBytes blockBytes
 wrote-block rules index blocks n e head places zeros sums =
-    let ps = drop (PLACES * index) (records (programOf rules)) in
-    let left = length-drop (PLACES * index) (records (programOf rules)) in
+    let ps = drop (PLACES * index) (records (bookOf rules)) in
+    let left = length-drop (PLACES * index) (records (bookOf rules)) in
     let size : n ≡ length (take PLACES ps) = omega (arith, left, length-take PLACES ps) in
     let all : take n ps ≡ take PLACES ps = take-there PLACES n ps (omega (arith, left)) in
     let body = wrote-body index blocks n (take PLACES ps) size head (rw all at places) zeros in
@@ -100,7 +100,7 @@ blocks-next (suc k) index blocks ps =
 -- The first blocks of the file: none, one more, as many as the records take.
 module _ (rules : List Rule) (blocks : ℕ) where
   unfoldable pub firstBlocks : ℕ → List ℕ
-  firstBlocks i = blocksFrom i 0 blocks (records (programOf rules))
+  firstBlocks i = blocksFrom i 0 blocks (records (bookOf rules))
 
   pub wrote-no-block : (before : List ℕ) → Wrote (firstBlocks 0) before 0 before (BLOCK * 0)
   unfolding firstBlocks blocksFrom
@@ -112,7 +112,7 @@ module _ (rules : List Rule) (blocks : ℕ) where
       → Wrote (firstBlocks (i + 1)) before 0 after (BLOCK * (i + 1))
   unfolding firstBlocks blockBytes
   wrote-next-block i v w =
-      let R = records (programOf rules) in
+      let R = records (bookOf rules) in
       let none : 0 + i ≡ i = omega arith in
       let more : firstBlocks (i + 1) ≡ firstBlocks i ++ blockBytes i blocks rules =
       rw (add-one i)
@@ -121,11 +121,11 @@ module _ (rules : List Rule) (blocks : ℕ) where
       rw more (wrote-then v w)
 
   pub wrote-file :
-      {before after : List ℕ} (h : HeldSlots) (i : ℕ) → HeldIn (programOf rules) h → blocks ≡ blocksFor (h .count)
+      {before after : List ℕ} (h : HeldSlots) (i : ℕ) → HeldIn (bookOf rules) h → blocks ≡ blocksFor (h .count)
       → i ≡ blocks → Wrote (firstBlocks i) before 0 after (BLOCK * i)
-      → Wrote (fileOf (programOf rules)) before 0 after (BLOCK * blocks)
+      → Wrote (fileOf (bookOf rules)) before 0 after (BLOCK * blocks)
   unfolding firstBlocks fileOf
   wrote-file {before} {after} h i H enough over w =
-      let R = records (programOf rules) in
+      let R = records (bookOf rules) in
       let e : blocks ≡ blocksFor (length R) = enough ∙ ap blocksFor (H .count) in
       subst (λ (n : ℕ). Wrote (blocksFrom n 0 n R) before 0 after (BLOCK * blocks)) e (rw over at w)

@@ -3,27 +3,30 @@ use Prim.Native.Nat.{ℕ, _+_, _-_, _*_, _≤_, _<_}
 use native.Mathlib.Omega.{arith}
 use native.Mathlib.Numerals.{add-one}
 use mathlib.Core.Path.{_≡_, refl, sym, _∙_, ap, ap₂, subst}
+use mathlib.Core.Bool.{Bool}
 use mathlib.Core.List.{List, [], _∷_, _++_, map-append, append-assoc, append-nil}
+use lib.Dec.{leb}
 use lib.ListN.{length, getD, take, drop, set, replicate}
 use lib.ListN.{length-append, length-set, length-map, length-take, length-drop, length-replicate}
 use lib.ListN.{take-append-drop, List·getD-map}
 use lib.Seq.{take-suc, getD-drop, ext-getD}
 use Rattle.theory.specs.Limits.{document}
 use Rattle.theory.specs.Rules.{entries}
+use Rattle.theory.proofs.Lists.{le-leb, leb-le, unless}
 use Rattle.table.specs.declared.Atom.{Atom}
 use Rattle.table.specs.declared.Rule.{Rule}
-use Rattle.table.specs.Rules.{numbers, ruleOf, programOf, noAtom, pastRule}
+use Rattle.table.specs.Rules.{numbers, ruleOf, bookOf, noAtom, pastRule}
 use Rattle.table.specs.Clean.{CleanRule}
 use Rattle.table.proofs.Members.{all-alike}
 use Rattle.table.proofs.Entries.{entries-are}
 use Rattle.fields.specs.Written.{Wrote}
 use Rattle.fields.proofs.Wrote.{wrote-nothing, wrote-then, wrote-length, wrote-to, wrote-byte}
 use Rattle.blocks.specs.Words.{word, words, padded}
-use Rattle.blocks.specs.Places.{Place, placeBytes, recorded, records, ENTRIES}
+use Rattle.blocks.specs.Places.{countByte, Place, placeBytes, recorded, records, ENTRIES}
 use Rattle.blocks.specs.Files.{placesBytes, PLACE}
 use Rattle.saving.specs.declared.HeldSlots.{HeldSlots}
 use Rattle.saving.specs.Held.{HeldIn}
-use Rattle.saving.specs.Bytes.{recordBytes, recordsBytes}
+use Rattle.saving.specs.Bytes.{heldPage, recordBytes, recordsBytes}
 use Rattle.saving.proofs.Held.{noPlace, record-at}
 
 -- Words of two lists, and of one entry more.
@@ -47,10 +50,23 @@ wrote-next-entry {at = at} xs j l v w =
     ∙ words-append (numbers (take j xs)) (x ∷ [])) in
     rw more (wrote-then v (wrote-to (at + 2 * (j + 1)) (omega (arith, w .place)) w))
 
+-- The byte of a positive count by the state: without the mark, and with it.
+module _ (state n : ℕ) where
+  pub count-plain : state < 2 → n ≡ countByte (leb 2 state) n
+  count-plain l =
+      sym (ap (λ (m : Bool). countByte m n) (unless (leb 2 state) (λ t. (let m = leb-le 2 state t in omega arith)))
+      ∙ omega arith)
+
+  pub count-marked : 2 ≤ state → 128 + n ≡ countByte (leb 2 state) n
+  count-marked l = sym (ap (λ (m : Bool). countByte m n) (le-leb 2 state l))
+
 -- A clean slot's fields are those of its rule, and its entries are the rule's with zeros behind them.
 module _ (r : Rule) (long : length (r .entries) ≡ document .entries) (clean : CleanRule r) where
   abbrev used : ℕ
   used = r .positives + r .negatives
+
+  abbrev muted : Bool
+  muted = leb 2 (r .state)
 
   positives-many : length (ruleOf r .positives) ≡ r .positives
   positives-many =
@@ -93,29 +109,33 @@ module _ (r : Rule) (long : length (r .entries) ≡ document .entries) (clean : 
 
   record-bytes :
       (s : ℕ)
-      → word s ++ (word (r .head .0) ++ (r .positives ∷ r .negatives ∷ words (numbers (r .entries))))
-      ≡ placeBytes (recorded s (ruleOf r))
+      → word s
+      ++ (word (r .head .0) ++ (countByte muted (r .positives) ∷ r .negatives ∷ words (numbers (r .entries))))
+      ≡ placeBytes (recorded s (heldPage r))
   record-bytes s =
       sym (ap (λ (xs : List ℕ). word s ++ (word (r .head .0) ++ xs))
-      (ap₂ (λ (m : ℕ) (xs : List ℕ). m ∷ xs) positives-many
+      (ap₂ (λ (m : ℕ) (xs : List ℕ). countByte muted m ∷ xs) positives-many
       (ap₂ (λ (m : ℕ) (xs : List ℕ). m ∷ xs) negatives-many (ap words entries-padded))))
 
-  -- Slot, head, counts and entries written one behind the other are the record.
+  -- Slot, head, counts with the mark and entries written one behind the other are the record.
   pub wrote-record :
-      {before one two after : List ℕ} (at s : ℕ) → at + PLACE ≤ length before
+      {before one two after : List ℕ} (at s c : ℕ) → at + PLACE ≤ length before → c ≡ countByte muted (r .positives)
       → Wrote (word s) before at one (at + 2) → Wrote (word (r .head .0)) one (at + 2) two (at + 4)
-      → Wrote (words (numbers (r .entries))) (set (set two (at + 4) (r .positives)) (at + 5) (r .negatives))
+      → Wrote (words (numbers (r .entries))) (set (set two (at + 4) c) (at + 5) (r .negatives))
       (at + 6) after (at + PLACE)
       → Wrote (recordBytes s r) before at after (at + PLACE)
   unfolding recordBytes
-  wrote-record {before} {one} {two} {after} at s room slot head rest =
+  wrote-record {before} {one} {two} {after} at s c room count slot head rest =
       let same : length two ≡ length before = wrote-length head ∙ wrote-length slot in
-      let stored = length-set two (at + 4) (r .positives) in
-      let p = wrote-to (at + 5) (omega arith) (wrote-byte two (at + 4) (r .positives) (omega arith)) in
+      let stored = length-set two (at + 4) c in
+      let p = wrote-to (at + 5) (omega arith) (wrote-byte two (at + 4) c (omega arith)) in
       let n = wrote-to (at + 6) (omega arith)
-      (wrote-byte (set two (at + 4) (r .positives)) (at + 5) (r .negatives) (omega arith)) in
+      (wrote-byte (set two (at + 4) c) (at + 5) (r .negatives) (omega arith)) in
       let all = wrote-then slot (wrote-then head (wrote-then p (wrote-then n rest))) in
-      subst (λ (bs : List ℕ). Wrote bs before at after (at + PLACE)) (record-bytes s) all
+      subst (λ (bs : List ℕ). Wrote bs before at after (at + PLACE))
+      (ap (λ (x : ℕ). word s ++ (word (r .head .0) ++ (x ∷ r .negatives ∷ words (numbers (r .entries))))) count
+      ∙ record-bytes s)
+      all
 
 -- The places of two lists, and one place more.
 places-append : (ps qs : List Place) → placesBytes (ps ++ qs) ≡ placesBytes ps ++ placesBytes qs
@@ -146,14 +166,14 @@ module _ (rules : List Rule) (from : ℕ) where
   wrote-no-record at room = wrote-to (at + 0) (omega arith) (wrote-nothing room)
 
   pub wrote-next-record :
-      {before out after : List ℕ} {at : ℕ} (h : HeldSlots) (H : HeldIn (programOf rules) h) (k : ℕ)
+      {before out after : List ℕ} {at : ℕ} (h : HeldSlots) (H : HeldIn (bookOf rules) h) (k : ℕ)
       → from + k < h .count → Wrote (recordsBytes rules from k) before at out (at + PLACE * k)
       → (let s = getD (h .slots) (from + k) 0 in
       Wrote (recordBytes s (getD rules s pastRule)) out (at + PLACE * k) after (at + PLACE * k + PLACE))
       → Wrote (recordsBytes rules from (k + 1)) before at after (at + PLACE * (k + 1))
   unfolding recordsBytes recordBytes
   wrote-next-record {at = at} h H k l v w =
-      let R = records (programOf rules) in
+      let R = records (bookOf rules) in
       let more = places-next R from k noPlace (omega (arith, H .count))
       ∙ ap (λ (p : Place). placesBytes (take k (drop from R)) ++ placeBytes p) (record-at rules h H (from + k) l) in
       rw more (wrote-then v (wrote-to (at + PLACE * (k + 1)) (omega arith) w))

@@ -4,7 +4,7 @@ use mathlib.Core.Path.{_≡_}
 use mathlib.Core.List.{List, map}
 use lib.ListN.{length, getD, take}
 use Rattle.theory.specs.Limits.{document}
-use Rattle.theory.specs.Rules.{Program}
+use Rattle.theory.specs.Rules.{Pages}
 use Rattle.table.specs.declared.Rule.{Rule}
 use Rattle.table.specs.Rules.{pastRule}
 use Rattle.table.specs.Clean.{CleanRule}
@@ -12,10 +12,10 @@ use Rattle.blocks.specs.Places.{records}
 use Rattle.saving.specs.declared.HeldSlots.{HeldSlots}
 
 -- As many slots hold rules as there are records, and their numbers are those of the records, in this order.
-pub record HeldIn (P : Program) (h : HeldSlots) : Type 0 where
+pub record HeldIn (B : Pages) (h : HeldSlots) : Type 0 where
   pub few : h .count ≤ document .slots
-  pub count : h .count ≡ length (records P)
-  pub slots : take (h .count) (h .slots) ≡ map (λ p. p .slot) (records P)
+  pub count : h .count ≡ length (records B)
+  pub slots : take (h .count) (h .slots) ≡ map (λ p. p .slot) (records B)
 
 -- Every slot is clean, as in a sound table.
 abbrev pub CleanSlots : List Rule → Type 0

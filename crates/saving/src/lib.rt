@@ -1,7 +1,8 @@
-// The file of a table's rules, written into a lent buffer.
+// The file of a table's rules and marks, written into a lent buffer.
 use blocks::BLOCK;
 use blocks::BODY;
 use blocks::HEADER;
+use blocks::MARK;
 use blocks::PLACE;
 use blocks::PLACES;
 use blocks::sums;
@@ -11,17 +12,19 @@ use table::Rule;
 use table::Table;
 ghost use mathlib.Core.Path.{_≡_};
 ghost use Prim.Native.Nat.{min, _+_, _-_, _*_, _≤_, _<_};
+ghost use lib.Dec.{leb};
 ghost use lib.ListN.{length, take, drop, replicate};
 ghost use Rattle.theory.specs.Limits.{document};
-ghost use Rattle.table.specs.Rules.{numbers, programOf};
+ghost use Rattle.table.specs.Rules.{numbers, bookOf};
 ghost use Rattle.table.specs.Clean.{CleanRule};
 ghost use Rattle.fields.specs.Written.{Wrote};
 ghost use Rattle.blocks.specs.Words.{words};
+ghost use Rattle.blocks.specs.Places.{countByte};
 ghost use Rattle.blocks.specs.Files as format;
 ghost use Rattle.saving.specs.Held.{HeldIn, CleanSlots};
 ghost use Rattle.saving.specs.Bytes.{recordBytes, recordsBytes, headerBytes, sumsBytes, blockBytes};
 
-// The slots that hold rules, ascending: how many, and their numbers.
+// The slots that hold rules, muted or not, ascending: how many, and their numbers.
 pub struct HeldSlots {
     pub count: usize,
     pub slots: [u16; Table::SLOTS],
@@ -36,7 +39,7 @@ fn one_if_held(state: u16) -> usize
 
 // The slots that hold rules. Each slot's number is noted behind the others; that of a free one is written over.
 pub fn held_slots(rules: [Rule; Table::SLOTS]) -> HeldSlots
-    ensures { λ r. ⌜ HeldIn (programOf rules) r ⌝ }
+    ensures { λ r. ⌜ HeldIn (bookOf rules) r ⌝ }
 {
     let mut slots: [u16; Table::SLOTS] = [0; Table::SLOTS];
     let mut count: usize = 0;
@@ -78,7 +81,19 @@ fn write_entries(out: &mut [u8], at: usize, entries: [Atom; Table::ENTRIES])
     }
 }
 
-// Writes the record of a rule in a slot: slot, head, counts, entries.
+// The byte of the positive count: a muted rule has the mark in it.
+fn count_byte(state: u16, positives: u8) -> u8
+    requires { ⌜ positives ≤ document .entries ⌝ }
+    ensures { λ r. ⌜ r ≡ countByte (leb 2 state) positives ⌝ }
+{
+    if state < 2 {
+        positives
+    } else {
+        MARK + positives
+    }
+}
+
+// Writes the record of a rule in a slot: slot, head, counts with the mark, entries.
 fn write_record(out: &mut [u8], at: usize, slot: u16, rule: Rule)
     requires { ⌜ CleanRule rule ⌝ }
     requires { ⌜ at + format.PLACE ≤ length (now out) ⌝ }
@@ -87,7 +102,7 @@ fn write_record(out: &mut [u8], at: usize, slot: u16, rule: Rule)
 {
     write_word(out, at, slot);
     write_word(out, at + 2, rule.head.0);
-    out[at + 4] = rule.positives;
+    out[at + 4] = count_byte(rule.state, rule.positives);
     out[at + 5] = rule.negatives;
     let entries = rule.entries;
     write_entries(out, at + 6, entries);
@@ -103,7 +118,7 @@ fn write_records(
     count: usize,
 )
     requires { ⌜ CleanSlots rules ⌝ }
-    requires { ⌜ HeldIn (programOf rules) held ⌝ }
+    requires { ⌜ HeldIn (bookOf rules) held ⌝ }
     requires { ⌜ (from + count ≤ held .count) × (at + format.PLACE * count ≤ length (now out)) ⌝ }
     ensures { λ _. ⌜ Wrote (recordsBytes rules from count)
         (now (out .entry)) at (now (out .exit)) (at + format.PLACE * count) ⌝ }
@@ -169,7 +184,7 @@ fn write_block(
     blocks: usize,
 )
     requires { ⌜ CleanSlots rules ⌝ }
-    requires { ⌜ HeldIn (programOf rules) held ⌝ }
+    requires { ⌜ HeldIn (bookOf rules) held ⌝ }
     requires { ⌜ (blocks ≡ format.blocksFor (held .count)) × (index < blocks)
         × (format.BLOCK * blocks ≤ length (now out)) ⌝ }
     ensures { λ _. ⌜ Wrote (blockBytes index blocks rules)
@@ -184,12 +199,12 @@ fn write_block(
     write_sums(out, at);
 }
 
-// Writes the file of the rules from the start of the buffer, which has room for it.
+// Writes the file of the rules and their marks from the start of the buffer, which has room for it.
 pub fn write_file(out: &mut [u8], rules: [Rule; Table::SLOTS], held: HeldSlots, blocks: usize)
     requires { ⌜ CleanSlots rules ⌝ }
-    requires { ⌜ HeldIn (programOf rules) held ⌝ }
+    requires { ⌜ HeldIn (bookOf rules) held ⌝ }
     requires { ⌜ (blocks ≡ format.blocksFor (held .count)) × (format.BLOCK * blocks ≤ length (now out)) ⌝ }
-    ensures { λ _. ⌜ Wrote (format.fileOf (programOf rules))
+    ensures { λ _. ⌜ Wrote (format.fileOf (bookOf rules))
         (now (out .entry)) 0 (now (out .exit)) (format.BLOCK * blocks) ⌝ }
 {
     let mut i: usize = 0;

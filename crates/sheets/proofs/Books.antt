@@ -5,7 +5,7 @@ use native.Mathlib.Omega.{arith}
 use mathlib.Core.Path.{_≡_, refl, sym, _∙_, ap, subst}
 use mathlib.Core.List.{List, [], _∷_, _++_, append-assoc, append-nil}
 use lib.ListN.{length}
-use Rattle.theory.specs.Rules.{Program}
+use Rattle.theory.specs.Rules.{Pages}
 use Rattle.theory.specs.Limits.{document}
 use Rattle.theory.specs.Book.{Answer}
 use Rattle.theory.proofs.Lists.{eqb-not}
@@ -57,11 +57,11 @@ traces-join stop r = r
 traces-join (call s q) r = call s (traces-join q r)
 
 after-join :
-    (P : Program) (cs ds : List Call)
-    → callsAfter document P (cs ++ ds) ≡ callsAfter document (callsAfter document P cs) ds
+    (B : Pages) (cs ds : List Call)
+    → callsAfter document B (cs ++ ds) ≡ callsAfter document (callsAfter document B cs) ds
 unfolding callsAfter
-after-join P [] ds = refl
-after-join P (c ∷ cs) ds = after-join _ cs ds
+after-join B [] ds = refl
+after-join B (c ∷ cs) ds = after-join _ cs ds
 
 calls-join : (ls ms : List (List ℕ)) → linesCalls (ls ++ ms) ≡ linesCalls ls ++ linesCalls ms
 unfolding linesCalls
@@ -71,19 +71,19 @@ calls-join (l ∷ ls) ms =
     ∙ sym (append-assoc (lineCalls (reading l)) (linesCalls ls) (linesCalls ms))
 
 lines-join :
-    {P : Program} {n : ℕ} {ls ms : List (List ℕ)} {out more : List ℕ} → LinesPrint P n ls out
-    → LinesPrint (callsAfter document P (linesCalls ls)) (n + length ls) ms more
-    → LinesPrint P n (ls ++ ms) (out ++ more)
+    {B : Pages} {n : ℕ} {ls ms : List (List ℕ)} {out more : List ℕ} → LinesPrint B n ls out
+    → LinesPrint (callsAfter document B (linesCalls ls)) (n + length ls) ms more
+    → LinesPrint B n (ls ++ ms) (out ++ more)
 unfolding linesCalls callsAfter
-lines-join {P} {n} {ms = ms} {more = more} no-line q =
+lines-join {B} {n} {ms = ms} {more = more} no-line q =
     let e : n + 0 ≡ n = omega arith in
-    subst (λ (k : ℕ). LinesPrint P k ms more) e q
-lines-join {P} {n} {ms = ms} {more = more} (one-line {line = l} {lines = ls} printed seen rest) q =
+    subst (λ (k : ℕ). LinesPrint B k ms more) e q
+lines-join {B} {n} {ms = ms} {more = more} (one-line {line = l} {lines = ls} printed seen rest) q =
     let e : n + suc (length ls) ≡ suc n + length ls = omega arith in
     rw append-assoc (one-line printed seen (lines-join rest
-    (subst (λ (Q : Program). LinesPrint Q (suc n + length ls) ms more)
-    (after-join P (lineCalls (reading l)) (linesCalls ls))
-    (subst (λ (k : ℕ). LinesPrint (callsAfter document P (lineCalls (reading l) ++ linesCalls ls)) k ms more) e q))))
+    (subst (λ (Q : Pages). LinesPrint Q (suc n + length ls) ms more)
+    (after-join B (lineCalls (reading l)) (linesCalls ls))
+    (subst (λ (k : ℕ). LinesPrint (callsAfter document B (lineCalls (reading l) ++ linesCalls ls)) k ms more) e q))))
 
 -- From a sound table, some bytes of a sheet: the lines that they end were met one after another.
 record SoFar (s v : State) (lines : List (List ℕ)) (behind out : List ℕ) : Type 0 where
@@ -107,7 +107,7 @@ line-then {s} {lines = lines} {printed = printed} {out = out} d e w = record {
   told = d .told ++ w .told;
   trace = traces-join (d .trace) (w .trace);
   seen = one-line printed (d .seen)
-      (subst (λ (Q : Program). LinesPrint Q (suc (s .number)) lines out) e (w .seen));
+      (subst (λ (Q : Pages). LinesPrint Q (suc (s .number)) lines out) e (w .seen));
   at-hand = w .at-hand;
   number = omega (arith, w .number);
 }
@@ -142,11 +142,11 @@ last-calls [] = ap lineCalls empty-blank
 last-calls (b ∷ z) = sym (append-nil (lineCalls (reading (b ∷ z))))
 
 last-seen :
-    {P : Program} {n : ℕ} {out : List ℕ} (z : List ℕ) → Seen P n (reading z) out → LinesPrint P n (lastLine z) out
-last-seen {P} {n} {out} [] f =
-    let e : out ≡ [] = subst (λ (l : Line). Seen P n l out) empty-blank f in
-    subst (LinesPrint P n []) (sym e) no-line
-last-seen {P} {n} {out} (b ∷ z) f = subst (LinesPrint P n ((b ∷ z) ∷ [])) (append-nil out) (one-line out f no-line)
+    {B : Pages} {n : ℕ} {out : List ℕ} (z : List ℕ) → Seen B n (reading z) out → LinesPrint B n (lastLine z) out
+last-seen {B} {n} {out} [] f =
+    let e : out ≡ [] = subst (λ (l : Line). Seen B n l out) empty-blank f in
+    subst (LinesPrint B n []) (sym e) no-line
+last-seen {B} {n} {out} (b ∷ z) f = subst (LinesPrint B n ((b ∷ z) ∷ [])) (append-nil out) (one-line out f no-line)
 
 -- Every line of a sheet meets a sound table: so none, `L` and `W` among them, meets question 15.
 pub never-15 : {v : State} {bs out : List ℕ} → Reads start bs out v → Sound (v .table)
@@ -203,9 +203,9 @@ module _ {input out : List ℕ} (p : SheetPrints input out) where
       (subst (λ (n : ℕ).
       Seen (callsAfter document (held emptyTable) (linesCalls ls)) n (reading (last-state .line)) (p .last))
       (before .number)
-      (subst (λ (Q : Program). Seen Q (last-state .number) (reading (last-state .line)) (p .last)) kept
+      (subst (λ (Q : Pages). Seen Q (last-state .number) (reading (last-state .line)) (p .last)) kept
       (last .seen))) in
-      subst (λ (Q : Program). LinesPrint Q 1 (linesOf input) out) empty-held
+      subst (λ (Q : Pages). LinesPrint Q 1 (linesOf input) out) empty-held
       (subst (LinesPrint (held emptyTable) 1 (linesOf input)) (sym (p .whole))
       (lines-join (before .seen) (last-seen z seen)))
 

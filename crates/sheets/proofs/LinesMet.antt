@@ -9,6 +9,7 @@ use mathlib.Core.Option.{Option, none, some}
 use lib.Dec.{ltb}
 use lib.ListN.{length, drop, length-replicate}
 use lib.Seq.{take-append-seam}
+use Rattle.theory.specs.Rules.{active}
 use Rattle.theory.specs.Models.{AtomSet, Admissible, OnlyModel}
 use Rattle.theory.specs.Labels.{Label, Labelled}
 use Rattle.theory.specs.Explanations.{Reason}
@@ -17,7 +18,7 @@ use Rattle.theory.specs.Limits.{document}
 use Rattle.theory.specs.Book.{Answer}
 use Rattle.theory.proofs.Lists.{le-or-lt, ltb-lt, unless}
 use Rattle.theory.proofs.Questions.{first-no-here, first-no-none}
-use Rattle.theory.proofs.Labels.{label-exists}
+use Rattle.theory.proofs.Labels.{label-exists, label-in}
 use Rattle.theory.proofs.Explanations.{reason-short}
 use Rattle.table.specs.declared.Table.{Table}
 use Rattle.table.specs.Labels.{labelAt}
@@ -34,7 +35,6 @@ use Rattle.calls.proofs.Determined.{same-model}
 use Rattle.history.specs.Calls.{Call}
 use Rattle.history.specs.Claim.{adds, removes, replaces, Trace, stop, call}
 use Rattle.history.proofs.Sequence.{step-follows, sound-model, sound-below}
-use Rattle.history.proofs.Demands.{label-in-model}
 use Rattle.lines.specs.Commands as sheet
 use Rattle.lines.specs.Readings.{Line, is-blank, too-long, no-command, is, reading, blank}
 use Rattle.fields.specs.Texts.{bytes}
@@ -45,9 +45,10 @@ use Rattle.sheets.specs.Calls.{lineCalls}
 use Rattle.sheets.specs.Seen.{addLine, changeLine, ReasonLine, SeesReason, Seen}
 
 -- Any admissible model of a sound table's rules is the one.
-only-of : {t : Table} {M : AtomSet} → Sound t → Admissible (held t) M → OnlyModel (held t) M
+only-of : {t : Table} {M : AtomSet} → Sound t → Admissible (active (held t)) M → OnlyModel (active (held t)) M
 only-of {t} {M} S A =
-    subst (OnlyModel (held t)) (same-model t S (S .labels .model) M (S .labels .admissible) A) (sound-model t S)
+    subst (OnlyModel (active (held t))) (same-model t S (S .labels .model) M (S .labels .admissible) A)
+    (sound-model t S)
 
 -- What the calls' answers print is what the book's answers print.
 
@@ -66,7 +67,7 @@ module _ (t : Table) (S : Sound t) (n a : ℕ) where
 
   seen-with :
       (l : Label) → Labelled (held t) (S .labels .model) a l → {out : List ℕ}
-      → ReasonLine (held t) (S .labels .model) n a (first-no (reason-questions document a l)) out
+      → ReasonLine (active (held t)) (S .labels .model) n a (first-no (reason-questions document a l)) out
       → SeesReason (held t) n a out
   seen-with l L told =
       record { model = S .labels .model; only = sound-model t S; label = l; labelled = L; told = told }
@@ -80,10 +81,11 @@ module _ (t : Table) (S : Sound t) (n a : ℕ) where
   refused-seen k e = ⊎-elim
       (λ (over : document .atoms ≤ a). (
       let w = label-exists (held t) (S .labels .model) (S .labels .admissible .founded) a in
-      seen-with (w .0) (w .1) (subst (λ (o : Option ℕ). ReasonLine (held t) (S .labels .model) n a o (refusalLine n k))
+      seen-with (w .0) (w .1)
+      (subst (λ (o : Option ℕ). ReasonLine (active (held t)) (S .labels .model) n a o (refusalLine n k))
       (sym e ∙ past over kept ∙ sym (past over (w .0))) refl)))
       (λ (below : a < document .atoms). seen-with kept (S .labels .labels a below)
-      (subst (λ (o : Option ℕ). ReasonLine (held t) (S .labels .model) n a o (refusalLine n k)) (sym e) refl))
+      (subst (λ (o : Option ℕ). ReasonLine (active (held t)) (S .labels .model) n a o (refusalLine n k)) (sym e) refl))
       (le-or-lt (document .atoms) a)
 
   -- the asked atom is in, where both questions are answered yes
@@ -91,23 +93,25 @@ module _ (t : Table) (S : Sound t) (n a : ℕ) where
   asked-in e =
       let ten = first-no-none (asks 10 (ltb a (document .atoms))) (asks 12 (is-in-label kept) ∷ []) e in
       let twelve = first-no-none (asks 12 (is-in-label kept)) [] (ten .1) in
-      sym (label-in-model (held t) (S .labels .model) (S .labels .admissible) a kept
+      sym (label-in (held t) (S .labels .model) (S .labels .admissible) a kept
       (S .labels .labels a (ltb-lt a (document .atoms) (ten .0))))
       ∙ twelve .0
 
-  moved : (N : AtomSet) (xs : List ℕ) → Admissible (held t) N → Reason (held t) N a xs
-      → Reason (held t) (S .labels .model) a xs
+  moved : (N : AtomSet) (xs : List ℕ) → Admissible (active (held t)) N → Reason (active (held t)) N a xs
+      → Reason (active (held t)) (S .labels .model) a xs
   moved N xs A R =
-      subst (λ (X : AtomSet). Reason (held t) X a xs)
+      subst (λ (X : AtomSet). Reason (active (held t)) X a xs)
       (same-model t S N (S .labels .model) A (S .labels .admissible)) R
 
   given-seen :
-      (xs : List ℕ) → first-no (reason-questions document a kept) ≡ none → Reason (held t) (S .labels .model) a xs
+      (xs : List ℕ) → first-no (reason-questions document a kept) ≡ none
+      → Reason (active (held t)) (S .labels .model) a xs
       → SeesReason (held t) n a (whyLine xs)
   given-seen xs e R =
       let ten = first-no-none (asks 10 (ltb a (document .atoms))) (asks 12 (is-in-label kept) ∷ []) e in
       seen-with kept (S .labels .labels a (ltb-lt a (document .atoms) (ten .0)))
-      (subst (λ (o : Option ℕ). ReasonLine (held t) (S .labels .model) n a o (whyLine xs)) (sym e) (xs, R, refl))
+      (subst (λ (o : Option ℕ). ReasonLine (active (held t)) (S .labels .model) n a o (whyLine xs)) (sym e)
+      (xs, R, refl))
 
   reason-seen :
       {x : ListAnswer} {buffer : List ℕ} → ReasonEnds t a lent x buffer
@@ -119,7 +123,8 @@ module _ (t : Table) (S : Sound t) (n a : ℕ) where
         arith,
         l,
         length-replicate {A = ℕ} (document .atoms) 0,
-        reason-short (held t) (S .labels .model) (document .atoms) (sound-below t S) a xs (asked-in e) (moved N xs A R),
+        reason-short (active (held t)) (S .labels .model) (document .atoms) (sound-below t S) a xs (asked-in e)
+            (moved N xs A R),
       ))
   reason-seen (contract.accepted N xs T e A R l) =
       subst (λ (ys : List ℕ). SeesReason (held t) n a (whyLine ys))

@@ -5,6 +5,7 @@ use native.Mathlib.Omega.{arith}
 use mathlib.Core.Path.{_≡_, refl, sym, _∙_, ap, ap₂, subst}
 use mathlib.Core.Logic.{_⊎_, inl, inr}
 use mathlib.Core.List.{List, [], _∷_, _++_}
+use Rattle.theory.specs.Rules.{active}
 use Rattle.theory.specs.Models.{AtomSet, Admissible}
 use Rattle.theory.specs.Labels.{Label, Labelled}
 use Rattle.theory.specs.Limits.{document}
@@ -33,7 +34,7 @@ record LabelsListed (t : Table) (bs : List ℕ) : Type 0 where
   model : AtomSet
   label : ℕ → Label
   sound : Sound t
-  admissible : Admissible (held t) model
+  admissible : Admissible (active (held t)) model
   labelled : (a : ℕ) → a < document .atoms → Labelled (held t) model a (label a)
   lines : bs ≡ labelLines label (document .atoms)
 

@@ -3,6 +3,7 @@ use Prim.Native.Nat.{ℕ, _<_}
 use mathlib.Core.Path.{_≡_}
 use mathlib.Core.List.{List, []}
 use lib.ListN.{take, replicate}
+use Rattle.theory.specs.Rules.{active}
 use Rattle.theory.specs.Models.{AtomSet, Admissible}
 use Rattle.theory.specs.Labels.{Label, Labelled}
 use Rattle.theory.specs.Limits.{document}
@@ -64,6 +65,6 @@ pub data Prints (t : Table) (n : ℕ) (line : List ℕ) : List ℕ → Table →
       → ReasonEnds t atom lent answer buffer → Prints t n line (tellReason n answer buffer) t
   unsound : reading line ≡ is sheet.labels → (Sound t → ⊥) → Prints t n line (refusalLine n (numberOf Unsound)) t
   labels :
-      (M : AtomSet) (label : ℕ → Label) → reading line ≡ is sheet.labels → Sound t → Admissible (held t) M
+      (M : AtomSet) (label : ℕ → Label) → reading line ≡ is sheet.labels → Sound t → Admissible (active (held t)) M
       → ((a : ℕ) → a < document .atoms → Labelled (held t) M a (label a))
       → Prints t n line (labelLines label (document .atoms)) t

@@ -4,7 +4,7 @@ use Prim.Native.Nat.{ℕ, suc, _<_}
 use mathlib.Core.Path.{_≡_}
 use mathlib.Core.List.{List, [], _∷_, _++_}
 use mathlib.Core.Option.{Option, none, some}
-use Rattle.theory.specs.Rules.{Program}
+use Rattle.theory.specs.Rules.{Program, Pages, active}
 use Rattle.theory.specs.Models.{AtomSet, OnlyModel}
 use Rattle.theory.specs.Labels.{Label, Labelled}
 use Rattle.theory.specs.Explanations.{Reason}
@@ -34,50 +34,50 @@ changeLine word n s (refused k) = refusalLine n k
 changeLine word n s (slot t) = []
 
 -- `W` and an atom: of 10 (its number) and 12 (its label) the first answered no is the refusal; else the slots of its
--- reason. Label and reason are those defined for the book's rules, in their one admissible model. 11 cannot be met:
--- there is room for a slot of every atom.
+-- reason. Label and reason are those defined for the book's pages, in the one admissible model of the unmuted rules. 11
+-- cannot be met: there is room for a slot of every atom.
 abbrev pub ReasonLine : Program → AtomSet → ℕ → ℕ → Option ℕ → List ℕ → Type 0
 ReasonLine P M n a (some k) out = out ≡ refusalLine n k
 ReasonLine P M n a none out = (slots : List ℕ) × Reason P M a slots × (out ≡ whyLine slots)
 
-pub record SeesReason (P : Program) (n a : ℕ) (out : List ℕ) : Type 0 where
+pub record SeesReason (B : Pages) (n a : ℕ) (out : List ℕ) : Type 0 where
   pub model : AtomSet
-  pub only : OnlyModel P model
+  pub only : OnlyModel (active B) model
   pub label : Label
-  pub labelled : Labelled P model a label
-  pub told : ReasonLine P model n a (first-no (reason-questions document a label)) out
+  pub labelled : Labelled B model a label
+  pub told : ReasonLine (active B) model n a (first-no (reason-questions document a label)) out
 
--- `L`: a line for each atom that occurs, ascending, with the label defined for the book's rules.
-pub record SeesLabels (P : Program) (out : List ℕ) : Type 0 where
+-- `L`: a line for each atom that occurs, ascending, with the label defined for the book's pages.
+pub record SeesLabels (B : Pages) (out : List ℕ) : Type 0 where
   pub model : AtomSet
-  pub only : OnlyModel P model
+  pub only : OnlyModel (active B) model
   pub label : ℕ → Label
-  pub labelled : (a : ℕ) → a < document .atoms → Labelled P model a (label a)
+  pub labelled : (a : ℕ) → a < document .atoms → Labelled B model a (label a)
   pub told : out ≡ labelLines label (document .atoms)
 
--- What line n prints, by what it is, with the book's pages P before it.
-abbrev pub Seen : Program → ℕ → Line → List ℕ → Type 0
-Seen P n is-blank out = out ≡ []
-Seen P n too-long out = out ≡ refusalLine n 14
-Seen P n no-command out = out ≡ refusalLine n 13
-Seen P n (is (sheet.add head ps ns)) out = out ≡ addLine n (answer document P (add (ruleFrom head ps ns)))
-Seen P n (is (sheet.remove s)) out = out ≡ changeLine (bytes "removed") n s (answer document P (remove s))
-Seen P n (is (sheet.replace s head ps ns)) out =
-    out ≡ changeLine (bytes "replaced") n s (answer document P (replace s (ruleFrom head ps ns)))
-Seen P n (is (sheet.why atom)) out = SeesReason P n atom out
-Seen P n (is sheet.labels) out = SeesLabels P out
+-- What line n prints, by what it is, with the book's pages B before it.
+abbrev pub Seen : Pages → ℕ → Line → List ℕ → Type 0
+Seen B n is-blank out = out ≡ []
+Seen B n too-long out = out ≡ refusalLine n 14
+Seen B n no-command out = out ≡ refusalLine n 13
+Seen B n (is (sheet.add head ps ns)) out = out ≡ addLine n (answer document B (add (ruleFrom head ps ns)))
+Seen B n (is (sheet.remove s)) out = out ≡ changeLine (bytes "removed") n s (answer document B (remove s))
+Seen B n (is (sheet.replace s head ps ns)) out =
+    out ≡ changeLine (bytes "replaced") n s (answer document B (replace s (ruleFrom head ps ns)))
+Seen B n (is (sheet.why atom)) out = SeesReason B n atom out
+Seen B n (is sheet.labels) out = SeesLabels B out
 
 -- The book's pages after a line.
-abbrev pub pagesAfter : Program → Line → Program
-pagesAfter P line = callsAfter document P (lineCalls line)
+abbrev pub pagesAfter : Pages → Line → Pages
+pagesAfter B line = callsAfter document B (lineCalls line)
 
--- What lines print, one after another: the first is line n and meets the pages P, the next meets the pages after it.
-pub data LinesPrint : Program → ℕ → List (List ℕ) → List ℕ → Type 0 where
-  no-line : {P : Program} {n : ℕ} → LinesPrint P n [] []
+-- What lines print, one after another: the first is line n and meets the pages B, the next meets the pages after it.
+pub data LinesPrint : Pages → ℕ → List (List ℕ) → List ℕ → Type 0 where
+  no-line : {B : Pages} {n : ℕ} → LinesPrint B n [] []
   one-line :
-      {P : Program} {n : ℕ} {line : List ℕ} {lines : List (List ℕ)} {out : List ℕ} (printed : List ℕ)
-      → Seen P n (reading line) printed → LinesPrint (pagesAfter P (reading line)) (suc n) lines out
-      → LinesPrint P n (line ∷ lines) (printed ++ out)
+      {B : Pages} {n : ℕ} {line : List ℕ} {lines : List (List ℕ)} {out : List ℕ} (printed : List ℕ)
+      → Seen B n (reading line) printed → LinesPrint (pagesAfter B (reading line)) (suc n) lines out
+      → LinesPrint B n (line ∷ lines) (printed ++ out)
 
 -- All that a sheet prints, by the plain book. All pages are free at first; lines count from 1.
 abbrev pub BookPrints : List ℕ → List ℕ → Type 0

@@ -7,7 +7,7 @@ use mathlib.Core.Bool.{true}
 use mathlib.Core.List.{List·Memᴰ·head}
 use mathlib.Core.Option.{none, some, Option·none-ne-some}
 use lib.ListN.{length, getD, length-map, List·getD-eq-default}
-use Rattle.theory.specs.Rules.{Rule, Program, Held, Occurs, Bounded, Ascending, same}
+use Rattle.theory.specs.Rules.{Rule, Program, Pages, all, active, Held, Occurs, Bounded, Ascending, same}
 use Rattle.theory.specs.Models.{AtomSet, Admissible}
 use Rattle.theory.specs.Dependencies.{NegativeCycle}
 use Rattle.theory.specs.Labels.{Label, absent, out, in-at, Labelled, is-absent}
@@ -15,11 +15,12 @@ use Rattle.theory.specs.Questions.{first-no, rule-questions, is-in-label}
 use Rattle.theory.specs.Limits.{document}
 use Rattle.theory.specs.Certificate.{kept-in, kept-depth, kept-slot, depth-in, slot-in}
 use Rattle.theory.proofs.Lists.{le-or-lt}
+use Rattle.theory.proofs.Pages.{active-held}
 use Rattle.theory.proofs.Questions.{passed-bounded}
 use Rattle.theory.proofs.Sameness.{ascending-same}
 use Rattle.theory.proofs.Certificate.{Certified, certified-admissible, certified-labels, labels-certified}
 use Rattle.table.specs.declared.Table.{Table}
-use Rattle.table.specs.Rules.{programOf, pastRule}
+use Rattle.table.specs.Rules.{bookOf, pastRule}
 use Rattle.table.specs.Labels.{labelAt, labelOf, absentLabel}
 use Rattle.table.specs.Clean.{WellFormed, CleanLabel}
 use Rattle.table.specs.Sound.{Sound}
@@ -29,9 +30,9 @@ use Rattle.sound.specs.Occurrence.{OccurrenceKept}
 use Rattle.table.proofs.Programs.{program-at}
 
 -- The local conditions, slot by slot and atom by atom.
-module _ (P : Program) (label : ℕ → Label) where
+module _ (B : Pages) (label : ℕ → Label) where
   abbrev pub KeptConfirmed : Type 0
-  KeptConfirmed = Confirmed P (kept-in label) (kept-depth label) (kept-slot label)
+  KeptConfirmed = Confirmed (active B) (kept-in label) (kept-depth label) (kept-slot label)
 
   in-is : (l : Label) → is-in-label l ≡ true → l ≡ in-at (depth-in l) (slot-in l)
   in-is absent t = absurd (let y : _≡_ {A = ℕ} 0 1 = cc in omega arith)
@@ -39,7 +40,7 @@ module _ (P : Program) (label : ℕ → Label) where
   in-is (in-at d s) t = refl
 
   -- Certified labels agree with every slot, and each in atom is backed.
-  pub certified-kept : Certified P label → KeptConfirmed
+  pub certified-kept : Certified B label → KeptConfirmed
   certified-kept C = record {
     agrees = λ i. record {
       closed = C .closed i;
@@ -55,24 +56,25 @@ module _ (P : Program) (label : ℕ → Label) where
         record { rule = w .0; held = w .1; heads = w .2; good = w .3; deep = w .4 });
   }
 
-  pub certified-occurrence : Certified P label → OccurrenceKept P label
+  pub certified-occurrence : Certified B label → OccurrenceKept (all B) label
   certified-occurrence C a = ((λ o e. C .absent-missing a e o), go (label a) refl)
     where
-      go : (l : Label) → label a ≡ l → (label a ≡ absent → ⊥) → Occurs P a
+      go : (l : Label) → label a ≡ l → (label a ≡ absent → ⊥) → Occurs (all B) a
       go absent e f = absurd (f e)
       go out e f = C .out-occurs a e
       go (in-at d s) e f =
           let w = C .supported a d s e in
-          record { slot = s; rule = w .0; held = w .1; there = List·Memᴰ·head (sym (w .2)) }
+          record { slot = s; rule = w .0; held = active-held B s (w .0) (w .1); there = List·Memᴰ·head (sym (w .2)) }
 
   -- And back.
-  pub kept-certified : KeptConfirmed → OccurrenceKept P label → Certified P label
+  pub kept-certified : KeptConfirmed → OccurrenceKept (all B) label → Certified B label
   kept-certified K O = record {
     closed = λ s. K .agrees s .closed;
     least = λ s. K .agrees s .least;
     supported = λ a d s e. (
         let w = K .backed a (ap is-in-label e) in
-        let held : Held P s (w .rule) = subst (λ (t : ℕ). Held P t (w .rule)) (ap slot-in e) (w .held) in
+        let held : Held (active B) s (w .rule) =
+        subst (λ (t : ℕ). Held (active B) t (w .rule)) (ap slot-in e) (w .held) in
         (w .rule, held, w .heads, w .good, w .deep ∙ ap depth-in e));
     lowest = λ a d s e t l r h q v z. (
         let k : depth-in (label (r .head)) ≡ d = ap (λ x. depth-in (label x)) q ∙ ap depth-in e in
@@ -85,8 +87,11 @@ module _ (P : Program) (label : ℕ → Label) where
 
 -- A table of the document's size.
 module _ (t : Table) (slots : length (t .rules) ≡ document .slots) (atoms : length (t .labels) ≡ document .atoms) where
+  abbrev B : Pages
+  B = bookOf (t .rules)
+
   abbrev P : Program
-  P = programOf (t .rules)
+  P = all B
 
   abbrev label : ℕ → Label
   label = labelAt (t .labels)
@@ -137,30 +142,30 @@ module _ (t : Table) (slots : length (t .rules) ≡ document .slots) (atoms : le
         S .labels .single s u r r h g (ascending-same r r a a .1 refl)
 
     -- every label is the defined one: past the end it is absent, and no atom there occurs
-    all-labelled : (a : ℕ) → Labelled P (S .labels .model) a (label a)
+    all-labelled : (a : ℕ) → Labelled B (S .labels .model) a (label a)
     all-labelled a = ⊎-elim
         (λ (l : document .atoms ≤ a). (
         let e : label a ≡ absent = ap labelOf (List·getD-eq-default (t .labels) absentLabel (omega arith)) in
-        subst (λ (z : Label). Labelled P (S .labels .model) a z) (sym e)
+        subst (λ (z : Label). Labelled B (S .labels .model) a z) (sym e)
         (is-absent (λ o. (
         let k = passed-bounded document P (S .labels .passes) (o .slot) (o .rule) (o .held) a (o .there) in
         omega arith)))))
         (λ (l : a < document .atoms). S .labels .labels a l)
         (le-or-lt (document .atoms) a)
 
-    sound-certified : Certified P label
-    sound-certified = labels-certified P (S .labels .model) label (S .labels .admissible) all-labelled
+    sound-certified : Certified B label
+    sound-certified = labels-certified B (S .labels .model) label (S .labels .admissible) all-labelled
 
-    pub sound-kept : KeptConfirmed P label
-    sound-kept = certified-kept P label sound-certified
+    pub sound-kept : KeptConfirmed B label
+    sound-kept = certified-kept B label sound-certified
 
     pub sound-occurrence : OccurrenceKept P label
-    sound-occurrence = certified-occurrence P label sound-certified
+    sound-occurrence = certified-occurrence B label sound-certified
 
   -- And what makes a table sound: well-formed slots, no rule twice, no negative cycle, and the labels defined.
   pub sound-labelled :
-      WellFormedSlots → CleanLabels → Single P → (NegativeCycle P → ⊥) → (M : AtomSet) → Admissible P M
-      → ((a : ℕ) → a < document .atoms → Labelled P M a (label a)) → Sound t
+      WellFormedSlots → CleanLabels → Single P → (NegativeCycle P → ⊥) → (M : AtomSet) → Admissible (active B) M
+      → ((a : ℕ) → a < document .atoms → Labelled B M a (label a)) → Sound t
   sound-labelled W L U A M G K =
       record {
         labels = record {
@@ -177,8 +182,8 @@ module _ (t : Table) (slots : length (t .rules) ≡ document .slots) (atoms : le
       }
 
   pub sound-of :
-      WellFormedSlots → CleanLabels → KeptConfirmed P label → OccurrenceKept P label → Single P
+      WellFormedSlots → CleanLabels → KeptConfirmed B label → OccurrenceKept P label → Single P
       → (NegativeCycle P → ⊥) → Sound t
   sound-of W L K O U A =
-      let C = kept-certified P label K O in
-      sound-labelled W L U A (kept-in label) (certified-admissible P label C) (λ a l. certified-labels P label C a)
+      let C = kept-certified B label K O in
+      sound-labelled W L U A (kept-in label) (certified-admissible B label C) (λ a l. certified-labels B label C a)

@@ -10,9 +10,9 @@ use Rattle.theory.specs.Rules.{Rule, passes}
 use Rattle.theory.specs.Models.{AtomSet, valid}
 use Rattle.theory.proofs.Lists.{and-l, and-r, and-of, every-at, every-of, lt-ltb}
 use Rattle.table.specs.declared.Rule as table
-use Rattle.table.specs.Rules.{slotOf, ruleOf}
+use Rattle.table.specs.Rules.{activeIn, ruleOf}
 use Rattle.table.specs.Sets.{member}
-use Rattle.table.proofs.Programs.{slot-free, slot-held}
+use Rattle.table.proofs.Programs.{active-none, active-some}
 use Rattle.depths.specs.Numbers.{within}
 use Rattle.depths.proofs.Slots.{within-at}
 use Rattle.supports.specs.Claims.{ready, put-if, claims, Claimed}
@@ -50,20 +50,20 @@ module _ (M : AtomSet) (d : ℕ → ℕ) (limit : ℕ) where
 
 -- The tests of a slot, one after another.
 module _ (M : AtomSet) (d : ℕ → ℕ) (limit : ℕ) (r : table.Rule) where
-  pub ready-free : r .state ≡ 0 → false ≡ ready M d limit (slotOf r)
+  pub ready-none : (r .state ≡ 1 → ⊥) → false ≡ ready M d limit (activeIn r)
   unfolding ready
-  ready-free e = rw (slot-free r e)
+  ready-none e = rw (active-none r e)
 
-  module _ (n : r .state ≡ 0 → ⊥) where
-    ready-held : ready M d limit (slotOf r) ≡ (every (within d limit) (ruleOf r .positives) && valid M (ruleOf r))
+  module _ (n : r .state ≡ 1) where
+    ready-held : ready M d limit (activeIn r) ≡ (every (within d limit) (ruleOf r .positives) && valid M (ruleOf r))
     unfolding ready
-    ready-held = ap (passes (test M d limit)) (slot-held r n)
+    ready-held = ap (passes (test M d limit)) (active-some r n)
 
-    pub ready-high : every (within d limit) (ruleOf r .positives) ≡ false → false ≡ ready M d limit (slotOf r)
+    pub ready-high : every (within d limit) (ruleOf r .positives) ≡ false → false ≡ ready M d limit (activeIn r)
     ready-high e = sym (ready-held ∙ ap (λ z. z && valid M (ruleOf r)) e)
 
     pub ready-valid :
-        every (within d limit) (ruleOf r .positives) ≡ true → valid M (ruleOf r) ≡ ready M d limit (slotOf r)
+        every (within d limit) (ruleOf r .positives) ≡ true → valid M (ruleOf r) ≡ ready M d limit (activeIn r)
     ready-valid e = sym (ready-held ∙ ap (λ z. z && valid M (ruleOf r)) e)
 
 -- A slot in the pass for supporting slots.

@@ -14,16 +14,16 @@ ghost use Rattle.theory.specs.Rules.{Bounded};
 ghost use Rattle.theory.specs.Models.{Admissible};
 ghost use Rattle.theory.specs.Limits.{document};
 ghost use Rattle.table.specs.Sets.{member, number};
-ghost use Rattle.table.specs.Rules.{programOf, slotOf};
+ghost use Rattle.table.specs.Rules.{activeOf, activeIn};
 ghost use Rattle.depths.specs.Numbers.{DepthsOf};
 ghost use Rattle.supports.specs.Supports.{SupportsOf};
 ghost use Rattle.supports.specs.Claims.{ready, Claimed};
 
-// Does the slot hold a rule that is valid in the set, with every positive entry of a depth below the limit?
+// Does the slot hold an unmuted rule that is valid in the set, with every positive entry of a depth below the limit?
 fn ready(rule: Rule, model: &[bool; Table::ATOMS], depths: &[u16; Table::ATOMS], limit: u16) -> bool
-    ensures { λ r. ⌜ r ≡ ready (member (now (model .entry))) (number (now (depths .entry))) limit (slotOf rule) ⌝ }
+    ensures { λ r. ⌜ r ≡ ready (member (now (model .entry))) (number (now (depths .entry))) limit (activeIn rule) ⌝ }
 {
-    if rule.state == 0 {
+    if rule.state != 1 {
         return false;
     }
     if !below(rule, depths, limit) {
@@ -33,7 +33,7 @@ fn ready(rule: Rule, model: &[bool; Table::ATOMS], depths: &[u16; Table::ATOMS],
 }
 
 // One slot of the pass for supports: it becomes the supporting slot of its head, if that has none yet and the slot's
-// rule is valid with all positive entries of smaller depth.
+// rule is unmuted and valid, with all positive entries of smaller depth.
 fn claim(
     rule: Rule,
     slot: Slot,
@@ -43,7 +43,7 @@ fn claim(
     slots: &mut [u16; Table::ATOMS],
 )
     ensures { λ _. ⌜
-        Claimed (member (now (model .entry))) (number (now (depths .entry))) (slot .0) (slotOf rule) (rule .head .0)
+        Claimed (member (now (model .entry))) (number (now (depths .entry))) (slot .0) (activeIn rule) (rule .head .0)
         (now (found .entry)) (now (found .exit)) (now (slots .entry)) (now (slots .exit)) ⌝ }
 {
     let head = rule.head;
@@ -64,9 +64,9 @@ pub fn supports(
     depths: &[u16; Table::ATOMS],
 ) -> [u16; Table::ATOMS]
     requires { ⌜
-        Bounded (programOf rules) (document .atoms) × Admissible (programOf rules) (member (now model))
-        × DepthsOf (programOf rules) (member (now model)) (number (now depths)) ⌝ }
-    ensures { λ r. ⌜ SupportsOf (programOf rules) (member (now (model .entry))) (number r) ⌝ }
+        Bounded (activeOf rules) (document .atoms) × Admissible (activeOf rules) (member (now model))
+        × DepthsOf (activeOf rules) (member (now model)) (number (now depths)) ⌝ }
+    ensures { λ r. ⌜ SupportsOf (activeOf rules) (member (now (model .entry))) (number r) ⌝ }
 {
     let mut slots: [u16; Table::ATOMS] = [0; Table::ATOMS];
     let mut found: [bool; Table::ATOMS] = [false; Table::ATOMS];

@@ -2,11 +2,11 @@
 use Prim.Native.Nat.{ℕ, zero, suc}
 use native.Mathlib.Omega.{arith}
 use mathlib.Core.Path.{_≡_, refl, sym, _∙_, ap}
-use mathlib.Core.Bool.{true, false, true≢false}
+use mathlib.Core.Bool.{false, true≢false}
 use mathlib.Core.List.{[], _∷_, List·Memᴰ·not-nil}
 use mathlib.Core.Option.{none}
 use lib.ListN.{getD, replicate, length-replicate, getD-replicate}
-use Rattle.theory.specs.Rules.{Program, Held}
+use Rattle.theory.specs.Rules.{Program, Pages, Held}
 use Rattle.theory.specs.Rules as theory
 use Rattle.theory.specs.Models.{start, Admissible}
 use Rattle.theory.specs.Dependencies.{DependencyPath, here, positive, negative, NegativeCycle}
@@ -14,12 +14,13 @@ use Rattle.theory.specs.Labels.{is-absent, absent}
 use Rattle.theory.specs.Limits.{Limits}
 use Rattle.theory.specs.Sound.{SoundLabels}
 use Rattle.theory.specs.Limits.{document}
-use Rattle.table.specs.Rules.{programOf, noAtom, pastRule}
+use Rattle.table.specs.Rules.{activeOf, bookOf, programOf, noAtom, pastRule}
 use Rattle.table.specs.Labels.{labelOf, labelAt, absentLabel}
 use Rattle.table.specs.Clean.{freeRule, emptyTable, CleanRule, CleanLabel, Clean}
 use Rattle.table.specs.Sound.{Sound}
+use Rattle.theory.proofs.Pages.{active-held}
 use Rattle.table.proofs.Members.{all-alike}
-use Rattle.table.proofs.Programs.{held-state, program-length}
+use Rattle.table.proofs.Programs.{book-length, held-state}
 
 free-state : (n s : ℕ) → getD (replicate n freeRule) s pastRule .state ≡ 0
 free-state zero s = refl
@@ -43,7 +44,7 @@ module _ (n : ℕ) where
   no-cycle l = omega (arith, no-negative (l .cycle))
 
   -- The model in which every atom is out: nothing founds an atom, and no rule asks for one.
-  none-in : Admissible none-held (λ a. false)
+  none-in : Admissible (activeOf (replicate n freeRule)) (λ a. false)
   none-in =
       record {
         founded =
@@ -52,16 +53,16 @@ module _ (n : ℕ) where
               ordered = start;
               exactly = λ a. (λ t. absurd (true≢false (sym t)), λ m. absurd (List·Memᴰ·not-nil m));
             };
-        closed = λ s r h v. absurd (holds-none s r h);
+        closed = λ s r h v. absurd (holds-none s r (active-held (bookOf (replicate n freeRule)) s r h));
       }
 
 -- Free slots and absent labels, as many as the limits say, are sound.
 pub empty-labels :
     (limits : Limits)
-    → SoundLabels limits (none-held (limits .slots)) (labelAt (replicate (limits .atoms) absentLabel))
+    → SoundLabels limits (bookOf (replicate (limits .slots) freeRule)) (labelAt (replicate (limits .atoms) absentLabel))
 empty-labels limits =
     record {
-      slots = program-length (replicate (limits .slots) freeRule) ∙ length-replicate (limits .slots) freeRule;
+      slots = book-length (replicate (limits .slots) freeRule) ∙ length-replicate (limits .slots) freeRule;
       passes = λ s r h. absurd (holds-none (limits .slots) s r h);
       ascending = λ s r h. absurd (holds-none (limits .slots) s r h);
       single = λ s t q r h k e. absurd (holds-none (limits .slots) s q h);
@@ -102,7 +103,7 @@ empty-clean =
 pub empty-sound : Sound emptyTable
 empty-sound = record { labels = empty-labels document; clean = empty-clean }
 
--- The rules of free slots are free pages, and those of the empty table are the empty book.
-pub free-program : (n : ℕ) → programOf (replicate n freeRule) ≡ replicate n none
-free-program zero = refl
-free-program (suc n) = ap (λ (P : Program). none ∷ P) (free-program n)
+-- Free slots are free pages: those of the empty table are the empty book.
+pub free-book : (n : ℕ) → bookOf (replicate n freeRule) ≡ replicate n none
+free-book zero = refl
+free-book (suc n) = ap (λ (B : Pages). none ∷ B) (free-book n)

@@ -24,10 +24,10 @@ emptyTable =
       labels = replicate (document .atoms) absentLabel;
     }
 
--- A slot is free (0) or held (1). A free one is that of the empty table; a rule's lists fit the entries, and the
--- entries past the lists' end are as in the empty table.
+-- A slot is free (0), or holds an unmuted rule (1) or a muted one (2). A free one is that of the empty table; a rule's
+-- lists fit the entries, and the entries past the lists' end are as in the empty table.
 pub record CleanRule (r : Rule) : Type 0 where
-  pub known : r .state ≤ 1
+  pub known : r .state ≤ 2
   pub free : r .state ≡ 0 → r ≡ freeRule
   pub fits : r .positives + r .negatives ≤ document .entries
   pub filler : (i : ℕ) → r .positives + r .negatives ≤ i → getD (r .entries) i noAtom ≡ noAtom

@@ -1,9 +1,10 @@
 -- A slot of the table as the theory's rule, and what the calls on one rule answer. Assumes nothing.
 use Prim.Native.Nat.{ℕ, zero, suc}
+use mathlib.Core.Bool.{true, false}
 use mathlib.Core.List.{List, [], map}
 use mathlib.Core.Option.{Option, none, some}
 use lib.ListN.{take, drop}
-use Rattle.theory.specs.Rules.{Program}
+use Rattle.theory.specs.Rules.{Page, Pages, Program, rule-on, active-on, all, active}
 use Rattle.theory.specs.Rules as theory
 use Rattle.theory.specs.Labels.{positive, negative}
 use Rattle.theory.specs.Labels as labels
@@ -26,17 +27,31 @@ ruleOf r =
       negatives = numbers (take (r .negatives) (drop (r .positives) (r .entries)));
     }
 
--- A slot is free (state 0) or holds one rule.
-abbrev pub held-in : ℕ → theory.Rule → Option theory.Rule
-held-in zero r = none
-held-in (suc n) r = some r
+-- A slot is free (state 0) or holds one rule, unmuted (1) or muted (2; any greater number is unsound).
+abbrev pub page-in : ℕ → theory.Rule → Option Page
+page-in zero r = none
+page-in (suc zero) r = some (record { rule = r; muted = false })
+page-in (suc (suc n)) r = some (record { rule = r; muted = true })
 
+abbrev pub pageOf : Rule → Option Page
+pageOf r = page-in (r .state) (ruleOf r)
+
+-- The rule that a slot holds, muted or not; the rule that it holds unmuted.
 abbrev pub slotOf : Rule → Option theory.Rule
-slotOf r = held-in (r .state) (ruleOf r)
+slotOf r = rule-on (pageOf r)
 
--- The program that the table's slots hold.
+abbrev pub activeIn : Rule → Option theory.Rule
+activeIn r = active-on (pageOf r)
+
+-- The pages of the book that the table's slots are; the program of all their rules, and of the unmuted ones.
+abbrev pub bookOf : List Rule → Pages
+bookOf rules = map pageOf rules
+
 abbrev pub programOf : List Rule → Program
-programOf rules = map slotOf rules
+programOf rules = all (bookOf rules)
+
+abbrev pub activeOf : List Rule → Program
+activeOf rules = active (bookOf rules)
 
 -- The spoiler that an answer names, if it names one.
 abbrev pub spoilerOf : Spoiler → Option labels.Spoiler

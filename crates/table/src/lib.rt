@@ -16,7 +16,8 @@ pub struct Atom(pub u16);
 #[repr(C)]
 pub struct Slot(pub u16);
 
-// A slot: free (state 0) or with one rule (state 1). The entries are the positive list, then the negative list.
+// A slot: free (state 0), or with one rule, unmuted (1) or muted (2). The entries are the positive list, then the
+// negative list.
 // All fields lie side by side with no padding, here and in a label: two tables with equal fields are equal bytes.
 #[repr(C)]
 pub struct Rule {

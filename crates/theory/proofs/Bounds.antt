@@ -7,13 +7,14 @@ use mathlib.Core.Bool.{true, false}
 use mathlib.Core.List.{List, [], _∷_, List·Memᴰ·head, List·Memᴰ·tail, List·Memᴰ·cases-cons, List·Memᴰ·not-nil}
 use lib.Dec.{eqb}
 use Rattle.theory.specs.Lists.{_∈_}
-use Rattle.theory.specs.Rules.{Program}
+use Rattle.theory.specs.Rules.{active, all, Pages, Program}
 use Rattle.theory.specs.Models.{Admissible, AtomSet, Founded}
 use Rattle.theory.specs.Dependencies.{Stratum}
 use Rattle.theory.specs.Derivations.{Depth, Derivation}
 use Rattle.theory.specs.Rounds.{again, deepest, final, FoundBelow, GreatestDepth, none-in, Rounds}
 use Rattle.theory.specs.Rounds.{no-stratum, of-stratum, RoundsOf, RoundsTold, RoundsWithin, sweep}
 use Rattle.theory.proofs.Lists.{clash, eqb-eq, eqb-of, le-or-lt, test, unless}
+use Rattle.theory.proofs.Pages.{strata-active}
 use Rattle.theory.proofs.Strata.{exact-strata, Strata, stratum-unique}
 use Rattle.theory.proofs.Fill.{Filled, inside, meets}
 use Rattle.theory.proofs.Rounds.{Added, adds-some, ends, next-reached, none-reached, Reached, sweep-keeps}
@@ -139,12 +140,12 @@ module _ (P : Program) (M : AtomSet) (F : Founded P M) (ℓ : ℕ → ℕ) (k : 
       joined x (all x (List·Memᴰ·head refl)) xs (among xs (λ y m. all y (List·Memᴰ·tail m)))
 
 -- No in atom of the layer is deeper than the greatest depth.
-pub none-deeper : {P : Program} {M : AtomSet} {k d : ℕ} → GreatestDepth P M k d → (b e : ℕ) → Stratum P b k
-    → M b ≡ true → Depth P M b e → e ≤ d
+pub none-deeper : {B : Pages} {M : AtomSet} {k d : ℕ} → GreatestDepth B M k d → (b e : ℕ) → Stratum (all B) b k
+    → M b ≡ true → Depth (active B) M b e → e ≤ d
 none-deeper (none-in f) b e S t D = absurd (clash t (f b S))
 none-deeper (deepest a S′ t′ D′ most) b e S t D = most b e S t D
 
-pub greatest-unique : {P : Program} {M : AtomSet} {k d e : ℕ} → GreatestDepth P M k d → GreatestDepth P M k e → d ≡ e
+pub greatest-unique : {B : Pages} {M : AtomSet} {k d e : ℕ} → GreatestDepth B M k d → GreatestDepth B M k e → d ≡ e
 greatest-unique (none-in f) (none-in g) = refl
 greatest-unique (none-in f) (deepest b T u E most) = absurd (clash u (f b T))
 greatest-unique (deepest a S t D most) (none-in g) = absurd (clash t (g a S))
@@ -152,32 +153,35 @@ greatest-unique {d = d} {e = e} (deepest a S t D most) (deepest b T u E more) =
     omega (arith, most b e T u E, more a d S t D)
 
 -- To be shown, of every program.
-module _ (P : Program) (M : AtomSet) (A : Admissible P M) where
-  pub greatest-depth : (ℓ : ℕ → ℕ) → ((a : ℕ) → Stratum P a (ℓ a)) → (k : ℕ) → (d : ℕ) × GreatestDepth P M k d
+module _ (B : Pages) (M : AtomSet) (A : Admissible (active B) M) where
+  abbrev P : Program
+  P = active B
+
+  pub greatest-depth : (ℓ : ℕ → ℕ) → ((a : ℕ) → Stratum (all B) a (ℓ a)) → (k : ℕ) → (d : ℕ) × GreatestDepth B M k d
   greatest-depth ℓ exact k = ⊎-elim
       (λ (n : NoneOf P M (A .founded) ℓ k (A .founded .order)).
       (0, none-in (λ a S. unless _ (λ t. n a (A .founded .exactly a .0 t) (here a S)))))
       (λ (w : Deepest P M (A .founded) ℓ k (A .founded .order)). (
         w .depth,
-        deepest (w .atom) (subst (Stratum P (w .atom)) (w .stratum) (exact (w .atom))) (w .found) (w .there)
+        deepest (w .atom) (subst (Stratum (all B) (w .atom)) (w .stratum) (exact (w .atom))) (w .found) (w .there)
             (λ b e S t D. w .most b e (A .founded .exactly b .0 t) (here b S) D),
       ))
       (among P M (A .founded) ℓ k (A .founded .order) (λ x m. A .founded .exactly x .1 m))
     where
-      here : (a : ℕ) → Stratum P a k → ℓ a ≡ k
-      here a S = stratum-unique P a (ℓ a) k (exact a) S
+      here : (a : ℕ) → Stratum (all B) a k → ℓ a ≡ k
+      here a S = stratum-unique (all B) a (ℓ a) k (exact a) S
 
   -- The bounds of request #104.
-  pub rounds-within : (k n : ℕ) → RoundsOf P k n → RoundsWithin P M k n
+  pub rounds-within : (k n : ℕ) → RoundsOf B k n → RoundsWithin B M k n
   rounds-within k n R =
       let ℓ = R .stratum in
-      let L = exact-strata P ℓ (R .exact) in
+      let L = strata-active B ℓ (exact-strata (all B) ℓ (R .exact)) in
       let F = found-filled P ℓ L (R .below) in
       let g = greatest-depth ℓ (R .exact) k in
       record {
         one = least-one P ℓ k (R .rounds);
         two = λ a S t. least-two P ℓ k L M A (R .below) (R .rounds) a
-            (stratum-unique P a (ℓ a) k (R .exact a) S) t;
+            (stratum-unique (all B) a (ℓ a) k (R .exact a) S) t;
         depth = g .0;
         greatest = g .1;
         most = ⊎-elim
@@ -185,23 +189,23 @@ module _ (P : Program) (M : AtomSet) (A : Admissible P M) where
             (λ (w : Late P ℓ k M 0 n (R .after)).
             let t = inside P ℓ L k (R .after) M (rounds-stay P ℓ L k (R .rounds) F) A (w .atom) (w .found) in
             let D = in-depth P M (A .founded) (w .atom) t in
-            let S = subst (Stratum P (w .atom)) (w .stratum) (R .exact (w .atom)) in
+            let S = subst (Stratum (all B) (w .atom)) (w .stratum) (R .exact (w .atom)) in
             omega (arith, w .high (D .0) (D .1 .reached), none-deeper (g .1) (w .atom) (D .0) S t (D .1)))
             (late P ℓ k L M A 0 (R .rounds) F (none-reached P ℓ L k M (R .before)));
       }
 
   -- The same of what is told of a layer.
-  pub told-within : (a k n : ℕ) → Stratum P a k → RoundsTold P k n → RoundsWithin P M k n
+  pub told-within : (a k n : ℕ) → Stratum (all B) a k → RoundsTold B k n → RoundsWithin B M k n
   told-within a k n S (of-stratum b T R) = rounds-within k n R
   told-within a k n S (no-stratum none) = absurd (none a S)
 
 -- A number of rounds is told of the layers and of no other number.
-pub told-stratum : (P : Program) (k n : ℕ) → RoundsTold P k n → (1 ≤ n) ↔ ((a : ℕ) × Stratum P a k)
-told-stratum P k n (of-stratum b T R) = ((λ l. (b, T)), (λ w. least-one P (R .stratum) k (R .rounds)))
-told-stratum P k n (no-stratum none) = ((λ l. absurd (omega arith)), (λ w. absurd (none (w .0) (w .1))))
+pub told-stratum : (B : Pages) (k n : ℕ) → RoundsTold B k n → (1 ≤ n) ↔ ((a : ℕ) × Stratum (all B) a k)
+told-stratum B k n (of-stratum b T R) = ((λ l. (b, T)), (λ w. least-one (active B) (R .stratum) k (R .rounds)))
+told-stratum B k n (no-stratum none) = ((λ l. absurd (omega arith)), (λ w. absurd (none (w .0) (w .1))))
 
-pub told-unique : (P : Program) (k n m : ℕ) → RoundsTold P k n → RoundsTold P k m → n ≡ m
-told-unique P k n m (of-stratum a S R) (of-stratum b T Q) = rounds-unique P k n m R Q
-told-unique P k n m (of-stratum a S R) (no-stratum none) = absurd (none a S)
-told-unique P k n m (no-stratum none) (of-stratum b T Q) = absurd (none b T)
-told-unique P k n m (no-stratum none) (no-stratum none′) = refl
+pub told-unique : (B : Pages) (k n m : ℕ) → RoundsTold B k n → RoundsTold B k m → n ≡ m
+told-unique B k n m (of-stratum a S R) (of-stratum b T Q) = rounds-unique B k n m R Q
+told-unique B k n m (of-stratum a S R) (no-stratum none) = absurd (none a S)
+told-unique B k n m (no-stratum none) (of-stratum b T Q) = absurd (none b T)
+told-unique B k n m (no-stratum none) (no-stratum none′) = refl

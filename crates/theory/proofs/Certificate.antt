@@ -3,16 +3,15 @@
 -- by depth, are founded; the local equation of depths (`DepthEquation`) has only the least heights as its solution;
 -- and among the valid rules of a head those with all positive entries of smaller depth are those whose level is the
 -- head's depth. Assumes nothing.
-use Prim.Native.Nat.{ℕ, zero, suc, _+_, _-_, _≤_, _<_, max}
+use Prim.Native.Nat.{ℕ, zero, suc, _+_, _-_, _≤_, _<_}
 use native.Mathlib.Omega.{arith}
-use native.Mathlib.Nat.{eq-or-lt-of-le}
 use mathlib.Core.Path.{_≡_, refl, sym, _∙_, ap, subst, fun-ext}
-use mathlib.Core.Logic.{_⊎_, inl, inr, ⊎-elim, _↔_}
-use mathlib.Core.Bool.{Bool, true, false, not, true≢false}
+use mathlib.Core.Logic.{_⊎_, ⊎-elim}
+use mathlib.Core.Bool.{true, false, not, true≢false}
 use mathlib.Core.List.{List, [], _∷_, List·Memᴰ, List·Memᴰ·head, List·Memᴰ·tail, List·Memᴰ·cases-cons}
 use mathlib.Core.List.{List·Memᴰ·not-nil, map, Memᴰ·map}
 use Rattle.theory.specs.Lists.{_∈_}
-use Rattle.theory.specs.Rules.{Held, Occurs, Program, Rule}
+use Rattle.theory.specs.Rules.{active, all, Held, Occurs, Pages, Program, Rule}
 use Rattle.theory.specs.Models.{Admissible, AtomSet, Founded, next, Ordered, start, valid}
 use Rattle.theory.specs.Derivations.{also, by, Depth, Derivation, Derivations, leaf}
 use Rattle.theory.specs.Labels.{absent, in-at, is-absent, is-in, is-out, Label, Labelled, out, Supporting}
@@ -200,37 +199,39 @@ module _ (P : Program) (M : AtomSet) (d : ℕ → ℕ) where
         }
 
 -- The conditions, each on one rule or one atom.
-pub record Certified (P : Program) (label : ℕ → Label) : Type 0 where
+pub record Certified (B : Pages) (label : ℕ → Label) : Type 0 where
   -- the head of a rule that is valid by the kept labels is in, and not deeper than the rule's level
-  pub closed : (s : ℕ) (r : Rule) → Held P s r → valid (kept-in label) r ≡ true → kept-in label (r .head) ≡ true
+  pub closed :
+      (s : ℕ) (r : Rule) → Held (active B) s r → valid (kept-in label) r ≡ true → kept-in label (r .head) ≡ true
   pub least :
-      (s : ℕ) (r : Rule) → Held P s r → valid (kept-in label) r ≡ true
+      (s : ℕ) (r : Rule) → Held (active B) s r → valid (kept-in label) r ≡ true
       → kept-depth label (r .head) ≤ level (kept-depth label) r
   -- the kept slot of an in atom is the first that holds a valid rule of it whose level is its depth
   pub supported :
       (a d s : ℕ) → label a ≡ in-at d s
-      → (r : Rule) × Held P s r × (r .head ≡ a) × (valid (kept-in label) r ≡ true) × (level (kept-depth label) r ≡ d)
+      → (r : Rule) × Held (active B) s r × (r .head ≡ a) × (valid (kept-in label) r ≡ true)
+      × (level (kept-depth label) r ≡ d)
   pub lowest :
-      (a d s : ℕ) → label a ≡ in-at d s → (t : ℕ) → t < s → (r : Rule) → Held P t r → r .head ≡ a
+      (a d s : ℕ) → label a ≡ in-at d s → (t : ℕ) → t < s → (r : Rule) → Held (active B) t r → r .head ≡ a
       → valid (kept-in label) r ≡ true → level (kept-depth label) r ≡ d → ⊥
   -- an atom is kept as absent exactly if it does not occur
-  pub out-occurs : (a : ℕ) → label a ≡ out → Occurs P a
-  pub absent-missing : (a : ℕ) → label a ≡ absent → Occurs P a → ⊥
+  pub out-occurs : (a : ℕ) → label a ≡ out → Occurs (all B) a
+  pub absent-missing : (a : ℕ) → label a ≡ absent → Occurs (all B) a → ⊥
 
 in-label : (l : Label) → is-in-label l ≡ true → (d : ℕ) × (s : ℕ) × (l ≡ in-at d s)
 in-label absent t = absurd (true≢false (sym t))
 in-label out t = absurd (true≢false (sym t))
 in-label (in-at d s) t = (d, s, refl)
 
-module _ (P : Program) (label : ℕ → Label) where
+module _ (B : Pages) (label : ℕ → Label) where
   abbrev M : AtomSet
   M = kept-in label
 
   abbrev d : ℕ → ℕ
   d = kept-depth label
 
-  module _ (C : Certified P label) where
-    certified-equation : DepthEquation P M d
+  module _ (C : Certified B label) where
+    certified-equation : DepthEquation (active B) M d
     certified-equation = record {
       least = C .least;
       reached = λ a t. (
@@ -239,13 +240,14 @@ module _ (P : Program) (label : ℕ → Label) where
           (w .1, z .0, z .1, z .2, z .3, z .4 ∙ sym (ap depth-in (w .2))));
     }
 
-    pub certified-admissible : Admissible P M
-    certified-admissible = record { founded = equation-founded P M d certified-equation; closed = C .closed }
+    pub certified-admissible : Admissible (active B) M
+    certified-admissible = record { founded = equation-founded (active B) M d certified-equation; closed = C .closed }
 
-    certified-supporting : (a e s : ℕ) → label a ≡ in-at e s → Depth P M a e → Supporting P M a s
+    certified-supporting : (a e s : ℕ) → label a ≡ in-at e s → Depth (active B) M a e → Supporting (active B) M a s
     certified-supporting a e s q D =
         let w = C .supported a e s q in
-        let depth : (x : ℕ) → M x ≡ true → Depth P M x (d x) = equation-depth P M d certified-equation in
+        let depth : (x : ℕ) → M x ≡ true → Depth (active B) M x (d x) =
+        equation-depth (active B) M d certified-equation in
         record {
           supports = record {
             rule = w .0;
@@ -279,36 +281,36 @@ module _ (P : Program) (label : ℕ → Label) where
             (λ (i : 0 < e). (let j = greatest-le d (e - 1) xs (λ x m. omega (arith, f x m)) in omega arith))
             (le-or-lt e 0)
 
-    pub certified-labels : (a : ℕ) → Labelled P M a (label a)
+    pub certified-labels : (a : ℕ) → Labelled B M a (label a)
     certified-labels a = go (label a) refl
       where
-        go : (l : Label) → label a ≡ l → Labelled P M a l
+        go : (l : Label) → label a ≡ l → Labelled B M a l
         go absent e = is-absent (C .absent-missing a e)
         go out e = is-out (C .out-occurs a e) (ap is-in-label e)
         go (in-at k s) e =
             let t : M a ≡ true = ap is-in-label e in
-            let D : Depth P M a k = subst (λ (z : ℕ). Depth P M a z) (ap depth-in e)
-            (equation-depth P M d certified-equation a t) in
+            let D : Depth (active B) M a k = subst (λ (z : ℕ). Depth (active B) M a z) (ap depth-in e)
+            (equation-depth (active B) M d certified-equation a t) in
             is-in t D (certified-supporting a k s e D)
 
 -- The defined labels of every atom meet the conditions.
-module _ (P : Program) (N : AtomSet) (label : ℕ → Label) (A : Admissible P N)
-    (L : (a : ℕ) → Labelled P N a (label a)) where
+module _ (B : Pages) (N : AtomSet) (label : ℕ → Label) (A : Admissible (active B) N)
+    (L : (a : ℕ) → Labelled B N a (label a)) where
   kept-model : (a : ℕ) → kept-in label a ≡ N a
-  kept-model a = label-in P N A a (label a) (L a)
+  kept-model a = label-in B N A a (label a) (L a)
 
   same-set : kept-in label ≡ N
   same-set = fun-ext kept-model
 
   record InLabel (a k s : ℕ) : Type 0 where
     inside : N a ≡ true
-    depth : Depth P N a k
-    support : Supporting P N a s
+    depth : Depth (active B) N a k
+    support : Supporting (active B) N a s
 
   in-at-label : (a k s : ℕ) → label a ≡ in-at k s → InLabel a k s
   in-at-label a k s e = go (label a) e (L a)
     where
-      go : (l : Label) → l ≡ in-at k s → Labelled P N a l → InLabel a k s
+      go : (l : Label) → l ≡ in-at k s → Labelled B N a l → InLabel a k s
       go absent q w = absurd (let z : _≡_ {A = ℕ} 0 1 = cc in omega arith)
       go out q w = absurd (let z : _≡_ {A = ℕ} 0 1 = cc in omega arith)
       go (in-at j t) q (is-in i D S) =
@@ -316,21 +318,21 @@ module _ (P : Program) (N : AtomSet) (label : ℕ → Label) (A : Admissible P N
           let v : t ≡ s = cc in
           record {
             inside = i;
-            depth = subst (λ (z : ℕ). Depth P N a z) u D;
-            support = subst (λ (z : ℕ). Supporting P N a z) v S;
+            depth = subst (λ (z : ℕ). Depth (active B) N a z) u D;
+            support = subst (λ (z : ℕ). Supporting (active B) N a z) v S;
           }
 
-  depth-kept : (a : ℕ) → N a ≡ true → Depth P N a (kept-depth label a)
+  depth-kept : (a : ℕ) → N a ≡ true → Depth (active B) N a (kept-depth label a)
   depth-kept a t =
       let w = in-label (label a) (kept-model a ∙ t) in
-      subst (λ (z : ℕ). Depth P N a z) (sym (ap depth-in (w .2))) (in-at-label a (w .0) (w .1) (w .2) .depth)
+      subst (λ (z : ℕ). Depth (active B) N a z) (sym (ap depth-in (w .2))) (in-at-label a (w .0) (w .1) (w .2) .depth)
 
-  equation : DepthEquation P N (kept-depth label)
-  equation = depth-equation P N (kept-depth label) A depth-kept
+  equation : DepthEquation (active B) N (kept-depth label)
+  equation = depth-equation (active B) N (kept-depth label) A depth-kept
 
   -- a rule of a, valid, whose level is a's depth, supports a
-  level-supports : (a k t : ℕ) (r : Rule) → Depth P N a k → Held P t r → r .head ≡ a → valid N r ≡ true
-      → level (kept-depth label) r ≡ k → Supports P N a t
+  level-supports : (a k t : ℕ) (r : Rule) → Depth (active B) N a k → Held (active B) t r → r .head ≡ a
+      → valid N r ≡ true → level (kept-depth label) r ≡ k → Supports (active B) N a t
   level-supports a k t r D h e v l = record {
     rule = r;
     held = h;
@@ -346,7 +348,8 @@ module _ (P : Program) (N : AtomSet) (label : ℕ → Label) (A : Admissible P N
   }
 
   -- and a rule that supports a has that level
-  supports-level : (a k t : ℕ) → Depth P N a k → (S : Supports P N a t) → level (kept-depth label) (S .rule) ≡ k
+  supports-level :
+      (a k t : ℕ) → Depth (active B) N a k → (S : Supports (active B) N a t) → level (kept-depth label) (S .rule) ≡ k
   supports-level a k t D S =
       let r = S .rule in
       let e : kept-depth label a ≡ k = depth-unique
@@ -365,7 +368,7 @@ module _ (P : Program) (N : AtomSet) (label : ℕ → Label) (A : Admissible P N
   same-valid : (r : Rule) → valid (kept-in label) r ≡ valid N r
   same-valid r = ap (λ (X : AtomSet). valid X r) same-set
 
-  pub labels-certified : Certified P label
+  pub labels-certified : Certified B label
   labels-certified = record {
     closed = λ s r h v. kept-model (r .head) ∙ A .closed s r h (sym (same-valid r) ∙ v);
     least = λ s r h v. equation .least s r h (sym (same-valid r) ∙ v);
@@ -380,12 +383,12 @@ module _ (P : Program) (N : AtomSet) (label : ℕ → Label) (A : Admissible P N
     absent-missing = λ a e. absent-label a (label a) e (L a);
   }
     where
-      out-label : (a : ℕ) (l : Label) → l ≡ out → Labelled P N a l → Occurs P a
+      out-label : (a : ℕ) (l : Label) → l ≡ out → Labelled B N a l → Occurs (all B) a
       out-label a absent e w = absurd (let z : _≡_ {A = ℕ} 0 1 = cc in omega arith)
       out-label a out e (is-out o t) = o
       out-label a (in-at k s) e w = absurd (let z : _≡_ {A = ℕ} 0 1 = cc in omega arith)
 
-      absent-label : (a : ℕ) (l : Label) → l ≡ absent → Labelled P N a l → Occurs P a → ⊥
+      absent-label : (a : ℕ) (l : Label) → l ≡ absent → Labelled B N a l → Occurs (all B) a → ⊥
       absent-label a absent e (is-absent f) = f
       absent-label a out e w = absurd (let z : _≡_ {A = ℕ} 0 1 = cc in omega arith)
       absent-label a (in-at k s) e w = absurd (let z : _≡_ {A = ℕ} 0 1 = cc in omega arith)

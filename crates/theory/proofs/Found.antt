@@ -8,7 +8,7 @@ use mathlib.Core.Bool.{true, false, true≢false}
 use mathlib.Core.List.{List, [], _∷_, List·Memᴰ, List·Memᴰ·cases-cons, List·Memᴰ·not-nil}
 use lib.ListN.{length}
 use Rattle.theory.specs.Lists.{_∈_}
-use Rattle.theory.specs.Rules.{Program, Rule}
+use Rattle.theory.specs.Rules.{active, all, Pages, Program, Rule}
 use Rattle.theory.specs.Models.{AtomSet, next, Ordered, start, valid}
 use Rattle.theory.specs.Dependencies.{NegativeCycle, Stratum}
 use Rattle.theory.specs.Questions.{rules}
@@ -16,6 +16,7 @@ use Rattle.theory.specs.Rounds.{adds, again, final, FoundBelow, next-str
 use Rattle.theory.proofs.Lists.{clash, count, count-length, count-lt, test}
 use Rattle.theory.proofs.Rules.{rules-of}
 use Rattle.theory.proofs.Strata.{exact-strata, Strata, stratum-exists, stratum-unique}
+use Rattle.theory.proofs.Pages.{strata-active}
 use Rattle.theory.proofs.Fill.{begin, Filled}
 use Rattle.theory.proofs.Rounds.{adds-some, ends, sweep-keeps, sweep-stays}
 
@@ -93,21 +94,25 @@ module _ (P : Program) (ℓ : ℕ → ℕ) where
   found-same (next-stratum {k = k} {n = n} {N = N} B R) (next-stratum C S) =
       rounds-same (subst (λ (Z : AtomSet). Rounds P ℓ k Z n N) (found-same B C) R) S .1
 
-module _ (P : Program) where
-  -- Without a negative cycle each layer has its number of rounds, and only one.
-  pub rounds-exists : (NegativeCycle P → ⊥) → (k : ℕ) → (n : ℕ) × RoundsOf P k n
-  rounds-exists free k =
-      let exact : (a : ℕ) → Stratum P a (stratum-exists P free a .0) = λ a. stratum-exists P free a .1 in
-      let L = exact-strata P _ exact in
-      let B = found-exists P _ L k in
-      let R = rounds-stop P _ L k (B .0) (found-filled P _ L (B .1)) in
-      (R .0, record { stratum = _; exact = exact; before = B .0; after = R .1; below = B .1; rounds = R .2 })
+module _ (B : Pages) where
+  abbrev P : Program
+  P = active B
 
-  pub rounds-unique : (k n m : ℕ) → RoundsOf P k n → RoundsOf P k m → n ≡ m
+  -- Without a negative cycle each layer has its number of rounds, and only one.
+  pub rounds-exists : (NegativeCycle (all B) → ⊥) → (k : ℕ) → (n : ℕ) × RoundsOf B k n
+  rounds-exists free k =
+      let exact : (a : ℕ) → Stratum (all B) a (stratum-exists (all B) free a .0) =
+      λ a. stratum-exists (all B) free a .1 in
+      let L = strata-active B _ (exact-strata (all B) _ exact) in
+      let F = found-exists P _ L k in
+      let R = rounds-stop P _ L k (F .0) (found-filled P _ L (F .1)) in
+      (R .0, record { stratum = _; exact = exact; before = F .0; after = R .1; below = F .1; rounds = R .2 })
+
+  pub rounds-unique : (k n m : ℕ) → RoundsOf B k n → RoundsOf B k m → n ≡ m
   rounds-unique k n m R S =
       let same : R .stratum ≡ S .stratum =
-      fun-ext (λ a. stratum-unique P a (R .stratum a) (S .stratum a) (R .exact a) (S .exact a)) in
-      let B = subst (λ (z : ℕ → ℕ). FoundBelow P z k (R .before)) same (R .below) in
+      fun-ext (λ a. stratum-unique (all B) a (R .stratum a) (S .stratum a) (R .exact a) (S .exact a)) in
+      let F = subst (λ (z : ℕ → ℕ). FoundBelow P z k (R .before)) same (R .below) in
       let W = subst (λ (z : ℕ → ℕ). Rounds P z k (R .before) n (R .after)) same (R .rounds) in
-      let e = found-same P (S .stratum) B (S .below) in
+      let e = found-same P (S .stratum) F (S .below) in
       rounds-same P (S .stratum) (subst (λ (Z : AtomSet). Rounds P (S .stratum) k Z n (R .after)) e W) (S .rounds) .0

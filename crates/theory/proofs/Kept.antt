@@ -4,13 +4,13 @@ use Prim.Native.Nat.{ℕ, zero, suc, _≤_, _<_}
 use native.Mathlib.Omega.{arith}
 use mathlib.Core.Path.{_≡_, refl, sym, _∙_, ap, ap₂, subst}
 use mathlib.Core.Logic.{⊎-elim, _↔_}
-use mathlib.Core.Bool.{true, false, not, _&&_}
+use mathlib.Core.Bool.{Bool, true, false, not, _&&_}
 use mathlib.Core.List.{List, [], _∷_, map, List·Memᴰ·head, List·Memᴰ·tail, List·Memᴰ·cases-cons, List·Memᴰ·not-nil}
-use mathlib.Core.Option.{Option, none, some, Option·none-ne-some, Option·some-injective}
+use mathlib.Core.Option.{Option, none, some, Option·map, Option·none-ne-some, Option·some-injective}
 use lib.Dec.{eqb}
 use lib.ListN.{getD, length, length-set, set, List·getD-map}
 use Rattle.theory.specs.Lists.{_∈_}
-use Rattle.theory.specs.Rules.{entries, Held, kept, Occurs, Program, Rule}
+use Rattle.theory.specs.Rules.{active, all, entries, Held, kept, Occurs, Pages, Program, Rule}
 use Rattle.theory.specs.Models.{Admissible, AtomSet, next, Ordered, start, valid}
 use Rattle.theory.specs.Dependencies.{DependencyPath, Depends, here, negative, NegativeCycle, Negatively, positive}
 use Rattle.theory.specs.Dependencies.{Positively}
@@ -207,16 +207,21 @@ module _ (P Q : Program) (A : Alike P Q) (M : AtomSet) where
             });
       }
 
-label-too : (P Q : Program) → Alike P Q → (M : AtomSet) (a : ℕ) {l : Label} → Labelled P M a l → Labelled Q M a l
-label-too P Q A M a (is-absent n) = is-absent (λ o. n (occurs-too Q P (A .back) a o))
-label-too P Q A M a (is-out o f) = is-out (occurs-too P Q (A .there) a o) f
-label-too P Q A M a (is-in {s = s} t d S) = is-in t (depth-too P Q A M d) (record {
-  supports = supports-too P Q A M a s (S .supports);
-  lowest = λ k l z. S .lowest k l (supports-too Q P (alike-sym P Q A) M a k z);
-})
+module _ (B C : Pages) (H : Alike (all B) (all C)) (A : Alike (active B) (active C)) (M : AtomSet) (a : ℕ) where
+  label-too : {l : Label} → Labelled B M a l → Labelled C M a l
+  label-too (is-absent n) = is-absent (λ o. n (occurs-too (all C) (all B) (H .back) a o))
+  label-too (is-out o f) = is-out (occurs-too (all B) (all C) (H .there) a o) f
+  label-too (is-in {s = s} t d S) = is-in t (depth-too (active B) (active C) A M d) (record {
+    supports = supports-too (active B) (active C) A M a s (S .supports);
+    lowest = λ k l z.
+        S .lowest k l (supports-too (active C) (active B) (alike-sym (active B) (active C) A) M a k z);
+  })
 
-pub alike-labels : (P Q : Program) → Alike P Q → (M : AtomSet) (a : ℕ) (l : Label) → Labelled P M a l ↔ Labelled Q M a l
-alike-labels P Q A M a l = (label-too P Q A M a, label-too Q P (alike-sym P Q A) M a)
+pub alike-labels :
+    (B C : Pages) → Alike (all B) (all C) → Alike (active B) (active C) → (M : AtomSet) (a : ℕ) (l : Label)
+    → Labelled B M a l ↔ Labelled C M a l
+alike-labels B C H A M a l =
+    (label-too B C H A M a, label-too C B (alike-sym (all B) (all C) H) (alike-sym (active B) (active C) A) M a)
 
 -- A program and its rules as they are kept hold the same rules.
 
@@ -268,8 +273,37 @@ module _ (P : Program) where
   pub kept-admissible : (M : AtomSet) → Admissible P M ↔ Admissible (kept-program P) M
   kept-admissible = alike-admissible P (kept-program P) (kept-alike P)
 
-  pub kept-labelled : (M : AtomSet) (a : ℕ) (l : Label) → Labelled P M a l ↔ Labelled (kept-program P) M a l
-  kept-labelled = alike-labels P (kept-program P) (kept-alike P)
+-- Pages with their rules as they are kept, each with its mark: the labels agree.
+
+abbrev pub kept-pages : Pages → Pages
+kept-pages B = map (Option·map (λ p. record { rule = kept (p .rule); muted = p .muted })) B
+
+module _ (B : Pages) where
+  kept-all : all (kept-pages B) ≡ kept-program (all B)
+  kept-all = go B
+    where
+      go : (C : Pages) → all (kept-pages C) ≡ kept-program (all C)
+      go [] = refl
+      go (none ∷ C) = ap (λ (P : Program). none ∷ P) (go C)
+      go (some p ∷ C) = ap (λ (P : Program). some (kept (p .rule)) ∷ P) (go C)
+
+  kept-active : active (kept-pages B) ≡ kept-program (active B)
+  kept-active = go B
+    where
+      one : (m : Bool) (r : Rule) → elim m [ true ↦ none | false ↦ some (kept r) ]
+          ≡ kept-page (elim m [ true ↦ none | false ↦ some r ])
+      one true r = refl
+      one false r = refl
+
+      go : (C : Pages) → active (kept-pages C) ≡ kept-program (active C)
+      go [] = refl
+      go (none ∷ C) = ap (λ (P : Program). none ∷ P) (go C)
+      go (some p ∷ C) = ap₂ _∷_ (one (p .muted) (p .rule)) (go C)
+
+  pub kept-labelled : (M : AtomSet) (a : ℕ) (l : Label) → Labelled B M a l ↔ Labelled (kept-pages B) M a l
+  kept-labelled = alike-labels B (kept-pages B)
+      (subst (Alike (all B)) (sym kept-all) (kept-alike (all B)))
+      (subst (Alike (active B)) (sym kept-active) (kept-alike (active B)))
 
 -- Question 7 does not ask in which order the entries were given.
 

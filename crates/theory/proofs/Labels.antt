@@ -10,7 +10,7 @@ use lib.Dec.{eqb}
 use lib.ListN.{getD}
 use mathlib.Core.Option.{Option, none, some, Option·some-injective, Option·none-ne-some}
 use Rattle.theory.specs.Lists.{_∈_, before, every, first, FirstAt}
-use Rattle.theory.specs.Rules.{entries, Occurs, passes, Program, Rule}
+use Rattle.theory.specs.Rules.{active, all, entries, Occurs, Pages, passes, Program, Rule}
 use Rattle.theory.specs.Models.{AtomSet, Founded, Admissible, valid}
 use Rattle.theory.specs.Derivations.{Depth}
 use Rattle.theory.specs.Questions.{is-in-label}
@@ -22,6 +22,7 @@ use Rattle.theory.proofs.Lists.{first-exists, first-in, first-none, fir
 use Rattle.theory.proofs.Lists.{not-false, not-true, test, unless}
 use Rattle.theory.proofs.Rules.{occurs-at, occurs-of, occurs-test, rules-at, valid-negative, valid-of}
 use Rattle.theory.proofs.Rules.{valid-positive}
+use Rattle.theory.proofs.Pages.{active-occurs}
 use Rattle.theory.proofs.Derivations.{entry, last}
 use Rattle.theory.proofs.Found.{ordered-rule}
 use Rattle.theory.proofs.Depths.{depth-unique, derived-within, in-depth, within, within-depth}
@@ -114,41 +115,48 @@ in-occurs P M F a t =
     let h = rules-at P (w .0) (w .1) in
     record { slot = h .0; rule = w .0; held = h .1; there = List·Memᴰ·head (sym (w .2)) }
 
+-- So it occurs among all rules held, where it is an atom of the model of the unmuted ones.
+pub in-occurs-held : (B : Pages) (M : AtomSet) → Founded (active B) M → (a : ℕ) → M a ≡ true → Occurs (all B) a
+in-occurs-held B M F a t = active-occurs B a (in-occurs (active B) M F a t)
+
 -- A label says in exactly if the atom is in the model.
 pub label-in :
-    (P : Program) (M : AtomSet) → Admissible P M → (a : ℕ) (l : Label) → Labelled P M a l → is-in-label l ≡ M a
-label-in P M A a absent (is-absent f) = sym (unless (M a) (λ t. f (in-occurs P M (A .founded) a t)))
-label-in P M A a out (is-out o t) = sym t
-label-in P M A a (in-at k s) (is-in t D S) = sym t
+    (B : Pages) (M : AtomSet) → Admissible (active B) M → (a : ℕ) (l : Label) → Labelled B M a l
+    → is-in-label l ≡ M a
+label-in B M A a absent (is-absent f) = sym (unless (M a) (λ t. f (in-occurs-held B M (A .founded) a t)))
+label-in B M A a out (is-out o t) = sym t
+label-in B M A a (in-at k s) (is-in t D S) = sym t
 
 -- Every atom has a label.
-pub label-exists : (P : Program) (M : AtomSet) → Founded P M → (a : ℕ) → (l : Label) × Labelled P M a l
-label-exists P M F a = ⊎-elim
+pub label-exists : (B : Pages) (M : AtomSet) → Founded (active B) M → (a : ℕ) → (l : Label) × Labelled B M a l
+label-exists B M F a = ⊎-elim
     (λ (t : M a ≡ true).
-    (let d = in-depth P M F a t in let s = supported P M a (d .0) (d .1) in
+    (let d = in-depth (active B) M F a t in let s = supported (active B) M a (d .0) (d .1) in
     (in-at (d .0) (s .0), is-in t (d .1) (s .1))))
-    (λ (t : M a ≡ false). ⊎-elim (λ (o : occurs-test P a ≡ true). (out, is-out (occurs-at P a o) t))
-    (λ (o : occurs-test P a ≡ false). (absent, is-absent (λ q. clash (occurs-of P a q) o)))
-    (test (occurs-test P a)))
+    (λ (t : M a ≡ false). ⊎-elim (λ (o : occurs-test (all B) a ≡ true). (out, is-out (occurs-at (all B) a o) t))
+    (λ (o : occurs-test (all B) a ≡ false). (absent, is-absent (λ q. clash (occurs-of (all B) a q) o)))
+    (test (occurs-test (all B) a)))
     (test (M a))
 
 -- And only one.
 pub label-unique :
-    (P : Program) (M : AtomSet) → Founded P M → (a : ℕ) (k l : Label) → Labelled P M a k → Labelled P M a l → k ≡ l
-label-unique P M F a k l (is-absent f) (is-absent g) = refl
-label-unique P M F a k l (is-absent f) (is-out o n) = absurd (f o)
-label-unique P M F a k l (is-absent f) (is-in t D S) = absurd (f (in-occurs P M F a t))
-label-unique P M F a k l (is-out o n) (is-absent g) = absurd (g o)
-label-unique P M F a k l (is-out o n) (is-out p m) = refl
-label-unique P M F a k l (is-out o n) (is-in t D S) = absurd (clash t n)
-label-unique P M F a k l (is-in t D S) (is-absent g) = absurd (g (in-occurs P M F a t))
-label-unique P M F a k l (is-in t D S) (is-out p m) = absurd (clash t m)
-label-unique P M F a k l (is-in t D S) (is-in u E R) = ap₂ in-at (depth-unique D E) (supporting-unique P M a _ _ S R)
+    (B : Pages) (M : AtomSet) → Founded (active B) M → (a : ℕ) (k l : Label) → Labelled B M a k → Labelled B M a l
+    → k ≡ l
+label-unique B M F a k l (is-absent f) (is-absent g) = refl
+label-unique B M F a k l (is-absent f) (is-out o n) = absurd (f o)
+label-unique B M F a k l (is-absent f) (is-in t D S) = absurd (f (in-occurs-held B M F a t))
+label-unique B M F a k l (is-out o n) (is-absent g) = absurd (g o)
+label-unique B M F a k l (is-out o n) (is-out p m) = refl
+label-unique B M F a k l (is-out o n) (is-in t D S) = absurd (clash t n)
+label-unique B M F a k l (is-in t D S) (is-absent g) = absurd (g (in-occurs-held B M F a t))
+label-unique B M F a k l (is-in t D S) (is-out p m) = absurd (clash t m)
+label-unique B M F a k l (is-in t D S) (is-in u E R) =
+    ap₂ in-at (depth-unique D E) (supporting-unique (active B) M a _ _ S R)
 
 -- Two models that agree give the same labels.
-pub label-moves : (P : Program) (M N : AtomSet) → ((x : ℕ) → M x ≡ N x) → (a : ℕ) (l : Label) → Labelled P M a l
-    → Labelled P N a l
-label-moves P M N e a l w = subst (λ (X : AtomSet). Labelled P X a l) (fun-ext e) w
+pub label-moves : (B : Pages) (M N : AtomSet) → ((x : ℕ) → M x ≡ N x) → (a : ℕ) (l : Label) → Labelled B M a l
+    → Labelled B N a l
+label-moves B M N e a l w = subst (λ (X : AtomSet). Labelled B X a l) (fun-ext e) w
 
 -- Spoilers.
 

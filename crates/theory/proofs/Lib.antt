@@ -4,6 +4,7 @@ pub mod Sorting
 pub mod Rules
 pub mod Cycles
 pub mod Strata
+pub mod Pages
 pub mod Fill
 pub mod Derivations
 pub mod Rounds

@@ -11,7 +11,7 @@ use lib.Dec.{eqb, ltb}
 use lib.ListN.{length, length-set, getD, set}
 use lib.Seq.{getD-set-same, set-getD, set-set}
 use Rattle.theory.specs.Lists.{every}
-use Rattle.theory.specs.Rules.{any-rule, Held, kept, Program, Rule, same}
+use Rattle.theory.specs.Rules.{all, any-rule, Held, kept, Pages, Program, Rule, same}
 use Rattle.theory.specs.Labels.{Label}
 use Rattle.theory.specs.Limits.{Limits}
 use Rattle.theory.specs.Questions.{add-questions, asks, first-no, is-some, lowest-free, put-in}
@@ -20,6 +20,7 @@ use Rattle.theory.specs.Questions.{with-replaced}
 use Rattle.theory.specs.Sound.{SoundLabels}
 use Rattle.theory.proofs.Lists.{clash, eqb-eq, eqb-of, lt-ltb, same-test, test}
 use Rattle.theory.proofs.Cycles.{fewer-stratified, stratified-iff}
+use Rattle.theory.proofs.Pages.{all-length}
 use Rattle.theory.proofs.Questions.{first-no-before, first-no-behind, first-no-none, first-no-past}
 use Rattle.theory.proofs.Questions.{first-no-yes, free-found}
 use Rattle.theory.proofs.Questions.{held-below, lowest-free-at, never-refused, other-set, set-held, set-other}
@@ -32,12 +33,16 @@ pub slot-first :
     → first-no (replace-questions limits P s r) ≡ some k
 slot-first limits P s r k = first-no-before (slot-questions limits P s) _ k
 
--- A rule q of a sound program P; x is the same and passes 1 to 4; p stands in q's slot instead.
+-- A rule q, muted or not, of sound pages; x is the same and passes 1 to 4; p stands in q's slot instead.
 module _
-    (limits : Limits) (P : Program) (label : ℕ → Label) (S : SoundLabels limits P label) (s : ℕ) (q : Rule)
-    (h : Held P s q) (x : Rule) (u : same x q ≡ true) (pass : first-no (rule-questions limits x) ≡ none) (p : Rule)
+    (limits : Limits) (B : Pages) (label : ℕ → Label) (S : SoundLabels limits B label) (s : ℕ) (q : Rule)
+    (h : Held (all B) s q) (x : Rule) (u : same x q ≡ true) (pass : first-no (rule-questions limits x) ≡ none)
+    (p : Rule)
   where
-    kept-old : kept x ≡ q
+    abbrev P : Program
+    P = all B
+
+    pub kept-old : kept x ≡ q
     kept-old =
         ascending-same (kept x) q (kept-ascending limits x pass) (S .ascending s q h) .0
         (same-trans (kept x) x q (same-sym x (kept x) (same-kept x)) u)
@@ -50,11 +55,11 @@ module _
     pub back-passes : first-no (replace-questions limits (set P s (some p)) s x) ≡ none
     back-passes =
         let below = held-below P s q h in
-        first-no-yes _ _ (lt-ltb s (limits .slots) (omega (arith, below, S .slots)))
+        first-no-yes _ _ (lt-ltb s (limits .slots) (omega (arith, below, S .slots, all-length B)))
         ∙ first-no-yes _ _ (ap is-some (set-held P s p below))
         ∙ first-no-past (rule-questions limits x) _ pass
         ∙ first-no-yes _ _ (ap (λ (R : Program). not (any-rule (same x) R)) (set-set P s (some p) none)
-        ∙ ap not (none-left limits P label S x s q h u))
+        ∙ ap not (none-left limits B label S x s q h u))
         ∙ first-no-yes _ _ (ap stratified put-back ∙ stratified-iff P .1 (S .acyclic)) ∙ (unfold first-no in refl)
 
 some-held : (o : Option Rule) → is-some o ≡ true → (q : Rule) × (o ≡ some q)

@@ -6,10 +6,10 @@ use mathlib.Core.Path.{_≡_, refl, sym, subst}
 use mathlib.Core.Bool.{false}
 use mathlib.Core.List.{List, [], _∷_, List·Memᴰ·head, List·Memᴰ·not-nil, List·Memᴰ·cases-cons}
 use mathlib.Core.Logic.{⊎-elim}
-use mathlib.Core.Option.{Option, none, some, Option·none-ne-some, Option·some-injective}
+use mathlib.Core.Option.{Option, none, some, Option·map, Option·none-ne-some, Option·some-injective}
 use lib.ListN.{replicate}
 use Rattle.theory.specs.Lists.{_∈_, every}
-use Rattle.theory.specs.Rules.{Held, Program, Rule}
+use Rattle.theory.specs.Rules.{active, all, Held, Page, Pages, Program, Rule}
 use Rattle.theory.specs.Models.{AtomSet, valid}
 use Rattle.theory.specs.Dependencies.{DependencyPath, here, negative, Negatively, positive, Stratum}
 use Rattle.theory.specs.Rounds.{adds, again, final, fires, FoundBelow, next-stratum, no-stratum, nothing}
@@ -40,15 +40,18 @@ unfolding adds fires visit sweep valid every
 round-about = (_, final refl)
 
 -- The empty table, of n free slots, has one layer, and that has one round.
+abbrev free-pages : ℕ → Pages
+free-pages n = replicate n none
+
 abbrev free-slots : ℕ → Program
-free-slots n = replicate n none
+free-slots n = all (free-pages n)
 
 none-held : (n s : ℕ) (r : Rule) → Held (free-slots n) s r → ⊥
 none-held zero s r h = Option·none-ne-some r h
 none-held (suc n) zero r h = Option·none-ne-some r h
 none-held (suc n) (suc s) r h = none-held n s r h
 
-none-added : (n : ℕ) → adds (λ a. 0) 0 (λ a. false) (free-slots n) ≡ false
+none-added : (n : ℕ) → adds (λ a. 0) 0 (λ a. false) (active (free-pages n)) ≡ false
 unfolding adds fires visit
 none-added zero = refl
 none-added (suc n) = none-added n
@@ -62,7 +65,7 @@ module _ (n : ℕ) where
       short (positive w v) = absurd (none-held n (w .slot) (w .rule) (w .held))
       short (negative w v) = absurd (none-held n (w .slot) (w .rule) (w .held))
 
-  pub empty-rounds : RoundsTold (free-slots n) 0 1
+  pub empty-rounds : RoundsTold (free-pages n) 0 1
   empty-rounds = of-stratum 0 (empty-stratum 0) (record {
     stratum = λ a. 0;
     exact = empty-stratum;
@@ -72,12 +75,18 @@ module _ (n : ℕ) where
     rounds = final (none-added n);
   })
 
-  pub empty-others : (k : ℕ) → RoundsTold (free-slots n) (suc k) 0
+  pub empty-others : (k : ℕ) → RoundsTold (free-pages n) (suc k) 0
   empty-others k = no-stratum (λ a S. omega (arith, stratum-unique (free-slots n) a 0 (suc k) (empty-stratum a) S))
 
 -- Three layers: 1 is a fact; 2 unless 1; 3 unless 2. So 1 is in, 2 is out and 3 is in.
+abbrev page : Option Rule → Option Page
+page = Option·map (λ r. record { rule = r; muted = false })
+
+abbrev three-pages : Pages
+three-pages = page (rule 1 [] []) ∷ page (rule 2 [] (1 ∷ [])) ∷ page (rule 3 [] (2 ∷ [])) ∷ []
+
 abbrev three : Program
-three = rule 1 [] [] ∷ rule 2 [] (1 ∷ []) ∷ rule 3 [] (2 ∷ []) ∷ []
+three = all three-pages
 
 abbrev layer : ℕ → ℕ
 layer zero = 0
@@ -147,11 +156,12 @@ low (suc (suc zero)) = omega arith
 low (suc (suc (suc zero))) = omega arith
 low (suc (suc (suc (suc n)))) = omega arith
 
-of-three : {k n : ℕ} {M N : AtomSet} → FoundBelow three layer k M → Rounds three layer k M n N → RoundsOf three k n
+of-three : {k n : ℕ} {M N : AtomSet} → FoundBelow three layer k M → Rounds three layer k M n N
+    → RoundsOf three-pages k n
 of-three B R = record { stratum = layer; exact = three-exact; before = _; after = _; below = B; rounds = R }
 
-pub three-rounds : RoundsTold three 0 2 × RoundsTold three 1 1 × RoundsTold three 2 2
-    × ((k : ℕ) → RoundsTold three (3 + k) 0)
+pub three-rounds : RoundsTold three-pages 0 2 × RoundsTold three-pages 1 1 × RoundsTold three-pages 2 2
+    × ((k : ℕ) → RoundsTold three-pages (3 + k) 0)
 three-rounds = (
   of-stratum 1 (three-exact 1) (of-three nothing first-rounds),
   of-stratum 2 (three-exact 2) (of-three (next-stratum nothing first-rounds) second-rounds),

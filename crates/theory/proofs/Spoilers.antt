@@ -10,7 +10,7 @@ use mathlib.Core.Option.{some, Option·some-injective}
 use lib.Dec.{leb}
 use lib.ListN.{getD, length, length-set, set}
 use Rattle.theory.specs.Lists.{_∈_, before, first, FirstAt, Sorted}
-use Rattle.theory.specs.Rules.{Held, kept, Program, Rule}
+use Rattle.theory.specs.Rules.{all, Held, kept, Pages, Program, Rule}
 use Rattle.theory.specs.Models.{AtomSet}
 use Rattle.theory.specs.Labels.{blocked, Label, needs, negative, positive, Spoils}
 use Rattle.theory.specs.Limits.{Limits}
@@ -59,8 +59,8 @@ first-counts f xs i x s w = first-of (leb x) xs i x (record {
 
 -- A slot of a sound table, and the entry that spoils its rule.
 module _
-    (limits : Limits) (P : Program) (label : ℕ → Label) (S : SoundLabels limits P label) (s : ℕ) (q : Rule)
-    (h : Held P s q) (M : AtomSet) (i x : ℕ)
+    (limits : Limits) (B : Pages) (label : ℕ → Label) (S : SoundLabels limits B label) (s : ℕ) (q : Rule)
+    (h : Held (all B) s q) (M : AtomSet) (i x : ℕ)
   where
     pub needs-least :
         Spoils M q (record { side = positive; place = i; atom = x }) → (y : ℕ) → y ∈ q .positives → M y ≡ false

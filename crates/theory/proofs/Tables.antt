@@ -1,4 +1,5 @@
--- T1 to T11 and the tables of request #102 hold: their answers are computed, their labels are shown by the certificate. Assumes nothing.
+-- T1 to T11 and the tables of requests #102 and #108 hold: their answers are computed, their labels are shown by the
+-- certificate. Assumes nothing.
 use Prim.Native.Nat.{ℕ, zero, suc, _≤_, _<_}
 use native.Mathlib.Omega.{arith}
 use mathlib.Core.Path.{_≡_, refl, sym, _∙_, ap, ap₂, subst}
@@ -10,13 +11,13 @@ use mathlib.Core.Option.{Option, none, some}
 use lib.Dec.{eqb, leb}
 use lib.ListN.{getD}
 use Rattle.theory.specs.Lists.{_∈_, any, distinct, every, insert, same-members, sort}
-use Rattle.theory.specs.Rules.{any-rule, entries, Held, Occurs, passes, Program, Rule, same}
+use Rattle.theory.specs.Rules.{active, all, any-rule, entries, Held, Occurs, Pages, passes, Program, Rule, same}
 use Rattle.theory.specs.Models.{AtomSet, valid}
 use Rattle.theory.specs.Labels.{absent, in-at, Label, Labelled, out}
 use Rattle.theory.specs.Questions.{first-no, lowest-free, reaches, rules, stratified}
 use Rattle.theory.specs.Book.{accepted, after, after-all, answer, Answer, answers, empty, refused, slot}
 use Rattle.theory.specs.Limits.{document}
-use Rattle.theory.specs.Tables.{Each, Example, Row, Shows, tables}
+use Rattle.theory.specs.Tables.{Example, left, Row, Shows, tables}
 use Rattle.theory.proofs.Lists.{and-l, and-of, and-r, clash, eqb-eq, eqb-of, every-at, le-or-lt, leb-le, mem}
 use Rattle.theory.proofs.Lists.{mem-in, not-true, or-cases, test}
 use Rattle.theory.proofs.Rules.{any-rule-of, occurs-at, occurs-test}
@@ -70,7 +71,7 @@ each-rule-at f P t s r h = ⊎-elim
     (test (f r))
 
 -- The conditions of the certificate as tests, for labels given by rows.
-module _ (P : Program) (ls : List Row) where
+module _ (B : Pages) (ls : List Row) where
   abbrev M : AtomSet
   M = kept-in (lookup ls)
 
@@ -91,14 +92,15 @@ module _ (P : Program) (ls : List Row) where
 
   label-test : ℕ → Label → Bool
   label-test a absent = false
-  label-test a out = occurs-test P a
+  label-test a out = occurs-test (all B) a
   label-test a (in-at k s) =
-      passes (support-rule a k) (getD P s none) && none-before s (λ t. passes (support-rule a k) (getD P t none))
+      passes (support-rule a k) (getD (active B) s none)
+      && none-before s (λ t. passes (support-rule a k) (getD (active B) t none))
 
   certified-test : Bool
   certified-test =
-      each-rule rule-test P
-      && (each-rule (λ r. every (λ x. mem x (map (λ l. l .atom) ls)) (r .head ∷ entries r)) P
+      each-rule rule-test (active B)
+      && (each-rule (λ r. every (λ x. mem x (map (λ l. l .atom) ls)) (r .head ∷ entries r)) (all B)
       && every (λ l. label-test (l .atom) (l .label)) ls)
 
   none-before-at : (s : ℕ) (f : ℕ → Bool) → none-before s f ≡ true → (t : ℕ) → t < s → f t ≡ false
@@ -114,19 +116,19 @@ module _ (P : Program) (ls : List Row) where
   slot-at f (some r) t = (r, refl, t)
 
   module _ (T : certified-test ≡ true) where
-    rules-pass : (s : ℕ) (r : Rule) → Held P s r → rule-test r ≡ true
+    rules-pass : (s : ℕ) (r : Rule) → Held (active B) s r → rule-test r ≡ true
     unfolding certified-test
-    rules-pass = each-rule-at rule-test P (and-l (each-rule rule-test P) _ T)
+    rules-pass = each-rule-at rule-test (active B) (and-l (each-rule rule-test (active B)) _ T)
 
-    rest : (each-rule (λ r. every (λ x. mem x (map (λ l. l .atom) ls)) (r .head ∷ entries r)) P
+    rest : (each-rule (λ r. every (λ x. mem x (map (λ l. l .atom) ls)) (r .head ∷ entries r)) (all B)
         && every (λ l. label-test (l .atom) (l .label)) ls) ≡ true
     unfolding certified-test
-    rest = and-r (each-rule rule-test P) _ T
+    rest = and-r (each-rule rule-test (active B)) _ T
 
-    named : (a : ℕ) → Occurs P a → a ∈ map (λ l. l .atom) ls
+    named : (a : ℕ) → Occurs (all B) a → a ∈ map (λ l. l .atom) ls
     named a o = mem-in a _ (every-at (λ x. mem x (map (λ l. l .atom) ls)) (o .rule .head ∷ entries (o .rule))
-        (each-rule-at (λ r. every (λ x. mem x (map (λ l. l .atom) ls)) (r .head ∷ entries r)) P
-        (and-l (each-rule (λ r. every (λ x. mem x (map (λ l. l .atom) ls)) (r .head ∷ entries r)) P) _ rest)
+        (each-rule-at (λ r. every (λ x. mem x (map (λ l. l .atom) ls)) (r .head ∷ entries r)) (all B)
+        (and-l (each-rule (λ r. every (λ x. mem x (map (λ l. l .atom) ls)) (r .head ∷ entries r)) (all B)) _ rest)
         (o .slot) (o .rule) (o .held)) a (o .there))
 
     -- the test of an atom that is not absent was passed
@@ -135,7 +137,7 @@ module _ (P : Program) (ls : List Row) where
         (λ (w : (l : Row) × List·Memᴰ l ls × (l .atom ≡ a) × (lookup ls a ≡ l .label)).
         ap₂ label-test (sym (w .2)) (sym e ∙ w .3)
         ∙ every-at (λ l. label-test (l .atom) (l .label)) ls (and-r (each-rule
-        (λ r. every (λ x. mem x (map (λ l. l .atom) ls)) (r .head ∷ entries r)) P) _ rest) (w .0) (w .1))
+        (λ r. every (λ x. mem x (map (λ l. l .atom) ls)) (r .head ∷ entries r)) (all B)) _ rest) (w .0) (w .1))
         (λ (w : (lookup ls a ≡ absent) × (a ∈ map (λ l. l .atom) ls → ⊥)). absurd (n (sym e ∙ w .0)))
         (lookup-cases ls a)
 
@@ -151,14 +153,15 @@ module _ (P : Program) (ls : List Row) where
     support-of a k r e v l = and-of _ _ (eqb-of _ _ e) (and-of _ _ v (eqb-of _ _ l))
 
     in-parts : (a k s : ℕ) → lookup ls a ≡ in-at k s
-        → (passes (support-rule a k) (getD P s none) ≡ true)
-        × (none-before s (λ t. passes (support-rule a k) (getD P t none)) ≡ true)
+        → (passes (support-rule a k) (getD (active B) s none) ≡ true)
+        × (none-before s (λ t. passes (support-rule a k) (getD (active B) t none)) ≡ true)
     unfolding label-test
     in-parts a k s e =
         let t = label-passes a (in-at k s) e (λ q. (let z : _≡_ {A = ℕ} 0 1 = cc in omega arith)) in
-        (and-l (passes (support-rule a k) (getD P s none)) _ t, and-r (passes (support-rule a k) (getD P s none)) _ t)
+        let here = passes (support-rule a k) (getD (active B) s none) in
+        (and-l here _ t, and-r here _ t)
 
-    valid-head : (s : ℕ) (r : Rule) → Held P s r → valid M r ≡ true
+    valid-head : (s : ℕ) (r : Rule) → Held (active B) s r → valid M r ≡ true
         → (M (r .head) && leb (d (r .head)) (level d r)) ≡ true
     unfolding rule-test
     valid-head s r h v = ⊎-elim
@@ -166,17 +169,17 @@ module _ (P : Program) (ls : List Row) where
         (λ (t : (M (r .head) && leb (d (r .head)) (level d r)) ≡ true). t)
         (or-cases (not (valid M r)) _ (rules-pass s r h))
 
-    test-certified : Certified P (lookup ls)
+    test-certified : Certified B (lookup ls)
     test-certified = record {
       closed = λ s r h v. and-l (M (r .head)) _ (valid-head s r h v);
       least = λ s r h v. leb-le _ _ (and-r (M (r .head)) _ (valid-head s r h v));
       supported = λ a k s e. (
-          let w = slot-at (support-rule a k) (getD P s none) (in-parts a k s e .0) in
+          let w = slot-at (support-rule a k) (getD (active B) s none) (in-parts a k s e .0) in
           let z = support-parts a k (w .0) (w .2) in
           (w .0, w .1, z .0, z .1, z .2));
       lowest = λ a k s e t l r h q v i. clash
           (ap (passes (support-rule a k)) h ∙ support-of a k r q v i)
-          (none-before-at s (λ t. passes (support-rule a k) (getD P t none)) (in-parts a k s e .1) t l);
+          (none-before-at s (λ t. passes (support-rule a k) (getD (active B) t none)) (in-parts a k s e .1) t l);
       out-occurs = λ a e. out-test a (label-passes a out e (λ q. (let z : _≡_ {A = ℕ} 0 1 = cc in omega arith)));
       absent-missing = λ a e o. ⊎-elim
           (λ (w : (l : Row) × List·Memᴰ l ls × (l .atom ≡ a) × (lookup ls a ≡ l .label)). no-absent w e)
@@ -184,14 +187,14 @@ module _ (P : Program) (ls : List Row) where
           (lookup-cases ls a);
     }
       where
-        out-test : (a : ℕ) → label-test a out ≡ true → Occurs P a
-        out-test a t = occurs-at P a (unfold label-test in t)
+        out-test : (a : ℕ) → label-test a out ≡ true → Occurs (all B) a
+        out-test a t = occurs-at (all B) a (unfold label-test in t)
 
         no-absent : {a : ℕ} → (l : Row) × List·Memᴰ l ls × (l .atom ≡ a) × (lookup ls a ≡ l .label)
             → lookup ls a ≡ absent → ⊥
         no-absent w e =
             let t = every-at (λ l. label-test (l .atom) (l .label)) ls (and-r (each-rule
-            (λ r. every (λ x. mem x (map (λ l. l .atom) ls)) (r .head ∷ entries r)) P) _ rest) (w .0) (w .1) in
+            (λ r. every (λ x. mem x (map (λ l. l .atom) ls)) (r .head ∷ entries r)) (all B)) _ rest) (w .0) (w .1) in
             true≢false (sym t ∙ ap (label-test (w .0 .atom)) (sym (w .3) ∙ e) ∙ (unfold label-test in refl))
 
 -- Labels and answers compared.
@@ -259,53 +262,40 @@ same-answers-eq (x ∷ xs) (y ∷ ys) t =
 
 -- What an example shows, as a test.
 
-result : Example → Program
-result e = after-all document (empty document) (e .calls)
-
 example-test : Example → Bool
 example-test e =
     same-answers (answers document (empty document) (e .calls)) (e .told)
-    && (certified-test (result e) (e .rows)
+    && (certified-test (left e) (e .rows)
     && every (λ l. same-label (lookup (e .rows) (l .atom)) (l .label)) (e .rows))
 
 example-shows : (e : Example) → example-test e ≡ true → Shows e
-unfolding example-test result
+unfolding example-test
 example-shows e t =
     let told = same-answers (answers document (empty document) (e .calls)) (e .told) in
-    let cert = certified-test (result e) (e .rows) in
+    let cert = certified-test (left e) (e .rows) in
     let u = and-r told (cert && every (λ l. same-label (lookup (e .rows) (l .atom)) (l .label)) (e .rows)) t in
-    let C = test-certified (result e) (e .rows) (and-l cert _ u) in
-    let label : (a : ℕ) → Labelled (result e) (kept-in (lookup (e .rows))) a (lookup (e .rows) a) =
-    certified-labels (result e) (lookup (e .rows)) C in
+    let C = test-certified (left e) (e .rows) (and-l cert _ u) in
+    let label : (a : ℕ) → Labelled (left e) (kept-in (lookup (e .rows))) a (lookup (e .rows) a) =
+    certified-labels (left e) (lookup (e .rows)) C in
     record {
       answered = same-answers-eq _ _ (and-l told _ t);
       model = kept-in (lookup (e .rows));
-      admissible = certified-admissible (result e) (lookup (e .rows)) C;
-      labels = each (e .rows) (λ l m. subst (Labelled (result e) (kept-in (lookup (e .rows))) (l .atom))
+      admissible = certified-admissible (left e) (lookup (e .rows)) C;
+      labels = λ l m. subst (Labelled (left e) (kept-in (lookup (e .rows))) (l .atom))
           (same-label-eq _ _ (every-at (λ l. same-label (lookup (e .rows) (l .atom)) (l .label)) (e .rows)
-          (and-r cert _ u) l m)) (label (l .atom)));
+          (and-r cert _ u) l m)) (label (l .atom));
       others = λ a n. ⊎-elim
           (λ (w : (l : Row) × List·Memᴰ l (e .rows) × (l .atom ≡ a) × (lookup (e .rows) a ≡ l .label)).
           absurd (n (subst (λ (z : ℕ). z ∈ map (λ l. l .atom) (e .rows)) (w .2)
           (Memᴰ·map (λ l. l .atom) (w .1)))))
           (λ (w : (lookup (e .rows) a ≡ absent) × (a ∈ map (λ l. l .atom) (e .rows) → ⊥)).
-          subst (Labelled (result e) (kept-in (lookup (e .rows))) a) (w .0) (label a))
+          subst (Labelled (left e) (kept-in (lookup (e .rows))) a) (w .0) (label a))
           (lookup-cases (e .rows) a);
     }
-  where
-    each : {F : Row → Type 0} (ls : List Row) → ((l : Row) → List·Memᴰ l ls → F l) → Each F ls
-    each [] f = tt
-    each (l ∷ ls) f = (f l (List·Memᴰ·head refl), each ls (λ q m. f q (List·Memᴰ·tail m)))
 
-all-show : (es : List Example) → every example-test es ≡ true → Each Shows es
-unfolding every
-all-show [] t = tt
-all-show (e ∷ es) t =
-    (example-shows e (and-l (example-test e) _ t), all-show es (and-r (example-test e) (every example-test es) t))
-
--- The small tables of document 01 and of request #102 show what these say.
-pub tables-shown : Each Shows tables
+-- The small tables of document 01 and of requests #102 and #108 show what these say.
+pub tables-shown : (e : Example) → List·Memᴰ e tables → Shows e
 unfolding tables every any distinct same-members insert sort same first-no lowest-free rules reaches stratified answer
     after answers after-all valid greatest occurs-test each-rule rule-test support-rule none-before label-test
-    certified-test same-label same-answer same-answers result example-test lookup
-tables-shown = all-show tables refl
+    certified-test same-label same-answer same-answers example-test lookup
+tables-shown = λ e m. example-shows e (every-at example-test tables refl e m)

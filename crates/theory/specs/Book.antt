@@ -1,18 +1,20 @@
 -- The plain book: what a list of calls answers and leaves, from the calls' arguments alone. Assumes nothing.
 use Prim.Native.Nat.{ℕ}
+use mathlib.Core.Bool.{Bool}
 use mathlib.Core.List.{List, [], _∷_}
 use mathlib.Core.Option.{Option, none, some}
 use lib.ListN.{set, replicate}
-use Rattle.theory.specs.Rules.{Rule, Program}
+use Rattle.theory.specs.Rules.{Rule, Pages, all, new-page, with-mark}
 use Rattle.theory.specs.Limits.{Limits}
-use Rattle.theory.specs.Questions.{first-no, add-questions, slot-questions, replace-questions, lowest-free}
-use Rattle.theory.specs.Questions.{with-added, with-replaced}
+use Rattle.theory.specs.Questions.{first-no, add-questions, slot-questions, replace-questions}
+use Rattle.theory.specs.Questions.{lowest-free, put-in}
 
--- The calls that change a table.
+-- The calls that change a table. Muting sets the mark of a slot, on or off.
 pub data Call : Type 0 where
   add : Rule → Call
   remove : ℕ → Call
   replace : ℕ → Rule → Call
+  mute : ℕ → Bool → Call
 
 -- An answer: a refusal's number, the slot that an addition took, or that the call was accepted.
 pub data Answer : Type 0 where
@@ -21,44 +23,46 @@ pub data Answer : Type 0 where
   accepted : Answer
 
 abbrev pub slot-answer : Option ℕ → Answer
-slot-answer none = accepted
-slot-answer (some s) = slot s
+slot-answer o = elim o [ none ↦ accepted | some s ↦ slot s ]
 
 -- All pages are free at first.
-abbrev pub empty : Limits → Program
+abbrev pub empty : Limits → Pages
 empty limits = replicate (limits .slots) none
 
 module _ (limits : Limits) where
-  -- The first question that is answered no.
-  abbrev pub refusal : Program → Call → Option ℕ
-  refusal P (add r) = first-no (add-questions limits P r)
-  refusal P (remove s) = first-no (slot-questions limits P s)
-  refusal P (replace s r) = first-no (replace-questions limits P s r)
+  -- The first question that is answered no. They are asked of all rules held, muted or not.
+  abbrev pub refusal : Pages → Call → Option ℕ
+  refusal B (add r) = first-no (add-questions limits (all B) r)
+  refusal B (remove s) = first-no (slot-questions limits (all B) s)
+  refusal B (replace s r) = first-no (replace-questions limits (all B) s r)
+  refusal B (mute s m) = first-no (slot-questions limits (all B) s)
 
   -- What an accepted call answers, and what it leaves: the rule, as it is kept, on the lowest free page; the page free;
-  -- the rule, as it is kept, on that page.
-  abbrev pub granted : Program → Call → Answer
-  granted P (add r) = slot-answer (lowest-free P)
-  granted P (remove s) = accepted
-  granted P (replace s r) = accepted
+  -- the rule, as it is kept, on that page; that page with its mark set.
+  abbrev pub granted : Pages → Call → Answer
+  granted B (add r) = slot-answer (lowest-free (all B))
+  granted B (remove s) = accepted
+  granted B (replace s r) = accepted
+  granted B (mute s m) = accepted
 
-  abbrev pub changed : Program → Call → Program
-  changed P (add r) = with-added P r
-  changed P (remove s) = set P s none
-  changed P (replace s r) = with-replaced P s r
+  abbrev pub changed : Pages → Call → Pages
+  changed B (add r) = put-in B (lowest-free (all B)) (new-page r)
+  changed B (remove s) = set B s none
+  changed B (replace s r) = set B s (some (new-page r))
+  changed B (mute s m) = with-mark B s m
 
   -- What a call answers and leaves: at the first no, that number, and the book stays.
-  unfoldable pub answer : Program → Call → Answer
-  answer P c = elim (refusal P c) [ none ↦ granted P c | some k ↦ refused k ]
+  unfoldable pub answer : Pages → Call → Answer
+  answer B c = elim (refusal B c) [ none ↦ granted B c | some k ↦ refused k ]
 
-  unfoldable pub after : Program → Call → Program
-  after P c = elim (refusal P c) [ none ↦ changed P c | some k ↦ P ]
+  unfoldable pub after : Pages → Call → Pages
+  after B c = elim (refusal B c) [ none ↦ changed B c | some k ↦ B ]
 
   -- What a list of calls answers and leaves.
-  unfoldable pub answers : Program → List Call → List Answer
-  answers P [] = []
-  answers P (c ∷ cs) = answer P c ∷ answers (after P c) cs
+  unfoldable pub answers : Pages → List Call → List Answer
+  answers B [] = []
+  answers B (c ∷ cs) = answer B c ∷ answers (after B c) cs
 
-  unfoldable pub after-all : Program → List Call → Program
-  after-all P [] = P
-  after-all P (c ∷ cs) = after-all (after P c) cs
+  unfoldable pub after-all : Pages → List Call → Pages
+  after-all B [] = B
+  after-all B (c ∷ cs) = after-all (after B c) cs

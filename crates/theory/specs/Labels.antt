@@ -3,9 +3,9 @@ use Prim.Native.Nat.{ℕ, _<_}
 use mathlib.Core.Path.{_≡_}
 use mathlib.Core.Bool.{Bool, true, false, not}
 use mathlib.Core.List.{List}
-use mathlib.Core.Option.{Option, none, some}
+use mathlib.Core.Option.{Option, none, some, Option·map}
 use Rattle.theory.specs.Lists.{_∈_, first, before, FirstAt}
-use Rattle.theory.specs.Rules.{Rule, Program, Held, Occurs}
+use Rattle.theory.specs.Rules.{Rule, Program, Held, Pages, all, active, Occurs}
 use Rattle.theory.specs.Models.{AtomSet, valid}
 use Rattle.theory.specs.Derivations.{Depth}
 
@@ -36,11 +36,12 @@ pub data Label : Type 0 where
   out : Label
   in-at : ℕ → ℕ → Label
 
--- The label of an atom: absent if it does not occur; of the others, in if it is in M, else out.
-pub data Labelled (P : Program) (M : AtomSet) (a : ℕ) : Label → Type 0 where
-  is-absent : (Occurs P a → ⊥) → Labelled P M a absent
-  is-out : Occurs P a → M a ≡ false → Labelled P M a out
-  is-in : {d s : ℕ} → M a ≡ true → Depth P M a d → Supporting P M a s → Labelled P M a (in-at d s)
+-- The label of an atom: absent if it does not occur in any rule held; of the others, in if it is in M, else out. Depth
+-- and supporting slot are by the unmuted rules.
+pub data Labelled (B : Pages) (M : AtomSet) (a : ℕ) : Label → Type 0 where
+  is-absent : (Occurs (all B) a → ⊥) → Labelled B M a absent
+  is-out : Occurs (all B) a → M a ≡ false → Labelled B M a out
+  is-in : {d s : ℕ} → M a ≡ true → Depth (active B) M a d → Supporting (active B) M a s → Labelled B M a (in-at d s)
 
 -- On which side of a rule an entry stands: in the positive list or in the negative.
 pub data Side : Type 0 where
@@ -56,8 +57,7 @@ pub record Spoiler : Type 0 where
 
 -- The first entry of the list on a side that passes the test, if one does.
 unfoldable pub first-on : Side → (ℕ → Bool) → List ℕ → Option Spoiler
-first-on d f xs =
-    elim (first f xs) [ some x ↦ some (record { side = d; place = before f xs; atom = x }) | none ↦ none ]
+first-on d f xs = Option·map (λ x. record { side = d; place = before f xs; atom = x }) (first f xs)
 
 -- The spoiler of a rule not valid in M is its first spoiling entry, the positive list read first, then the negative,
 -- each in its order (a held rule's lists ascend). A positive entry spoils if out, a negative one if in.

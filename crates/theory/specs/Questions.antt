@@ -37,7 +37,7 @@ lowest-free [] = none
 lowest-free (none ∷ P) = some zero
 lowest-free (some r ∷ P) = elim (lowest-free P) [ none ↦ none | some s ↦ some (suc s) ]
 
-abbrev pub put-in : Program → Option ℕ → Rule → Program
+abbrev pub put-in : {A : Type 0} → List (Option A) → Option ℕ → A → List (Option A)
 put-in P none r = P
 put-in P (some s) r = set P s (some r)
 

@@ -6,7 +6,7 @@ use mathlib.Core.Bool.{Bool, true, false, not, _&&_, _||_}
 use mathlib.Core.List.{[], _∷_}
 use mathlib.Core.Option.{Option, none, some}
 use lib.Dec.{eqb}
-use Rattle.theory.specs.Rules.{Rule, Program}
+use Rattle.theory.specs.Rules.{Rule, Program, Pages, all, active}
 use Rattle.theory.specs.Models.{AtomSet, valid}
 use Rattle.theory.specs.Dependencies.{Stratum}
 use Rattle.theory.specs.Derivations.{Depth}
@@ -53,32 +53,33 @@ pub data FoundBelow (P : Program) (ℓ : ℕ → ℕ) : ℕ → AtomSet → Type
   nothing : FoundBelow P ℓ zero (λ a. false)
   next-stratum : {k n : ℕ} {M N : AtomSet} → FoundBelow P ℓ k M → Rounds P ℓ k M n N → FoundBelow P ℓ (suc k) N
 
--- Layer k of the program has n rounds. The layer of an atom is its stratum, which all rules have a part in.
-pub record RoundsOf (P : Program) (k n : ℕ) : Type 0 where
+-- Layer k has n rounds. The layer of an atom is its stratum, which all rules held have a part in; the slots that are
+-- visited are those of the unmuted rules.
+pub record RoundsOf (B : Pages) (k n : ℕ) : Type 0 where
   pub stratum : ℕ → ℕ
-  pub exact : (a : ℕ) → Stratum P a (stratum a)
+  pub exact : (a : ℕ) → Stratum (all B) a (stratum a)
   pub before : AtomSet
   pub after : AtomSet
-  pub below : FoundBelow P stratum k before
-  pub rounds : Rounds P stratum k before n after
+  pub below : FoundBelow (active B) stratum k before
+  pub rounds : Rounds (active B) stratum k before n after
 
 -- What is told of a number k: if it is the layer of an atom, how many rounds this layer has; else 0.
-pub data RoundsTold (P : Program) (k : ℕ) : ℕ → Type 0 where
-  of-stratum : {n : ℕ} (a : ℕ) → Stratum P a k → RoundsOf P k n → RoundsTold P k n
-  no-stratum : ((a : ℕ) → Stratum P a k → ⊥) → RoundsTold P k zero
+pub data RoundsTold (B : Pages) (k : ℕ) : ℕ → Type 0 where
+  of-stratum : {n : ℕ} (a : ℕ) → Stratum (all B) a k → RoundsOf B k n → RoundsTold B k n
+  no-stratum : ((a : ℕ) → Stratum (all B) a k → ⊥) → RoundsTold B k zero
 
 -- The greatest depth of the in atoms of layer k; 0 if none is in.
-pub data GreatestDepth (P : Program) (M : AtomSet) (k : ℕ) : ℕ → Type 0 where
-  none-in : ((a : ℕ) → Stratum P a k → M a ≡ false) → GreatestDepth P M k zero
+pub data GreatestDepth (B : Pages) (M : AtomSet) (k : ℕ) : ℕ → Type 0 where
+  none-in : ((a : ℕ) → Stratum (all B) a k → M a ≡ false) → GreatestDepth B M k zero
   deepest :
-      {d : ℕ} (a : ℕ) → Stratum P a k → M a ≡ true → Depth P M a d
-      → ((b e : ℕ) → Stratum P b k → M b ≡ true → Depth P M b e → e ≤ d) → GreatestDepth P M k d
+      {d : ℕ} (a : ℕ) → Stratum (all B) a k → M a ≡ true → Depth (active B) M a d
+      → ((b e : ℕ) → Stratum (all B) b k → M b ≡ true → Depth (active B) M b e → e ≤ d) → GreatestDepth B M k d
 
 -- To be shown of the n rounds of layer k, where M are the in atoms: at least 1, at least 2 where an atom of the layer
 -- is in, at most the greatest depth of its in atoms plus 1.
-pub record RoundsWithin (P : Program) (M : AtomSet) (k n : ℕ) : Type 0 where
+pub record RoundsWithin (B : Pages) (M : AtomSet) (k n : ℕ) : Type 0 where
   pub one : 1 ≤ n
-  pub two : (a : ℕ) → Stratum P a k → M a ≡ true → 2 ≤ n
+  pub two : (a : ℕ) → Stratum (all B) a k → M a ≡ true → 2 ≤ n
   pub depth : ℕ
-  pub greatest : GreatestDepth P M k depth
+  pub greatest : GreatestDepth B M k depth
   pub most : n ≤ suc depth

@@ -1,13 +1,15 @@
--- The small tables T1 to T11 of document 01 and those of request #102 as one list, and what is claimed of each. Assumes
--- nothing.
+-- The small tables T1 to T11 of document 01 and those of requests #102 and #108 as one list, and what is claimed of
+-- each. Assumes nothing.
 use Prim.Native.Nat.{ℕ, zero, suc}
 use mathlib.Core.Path.{_≡_}
-use mathlib.Core.List.{List, [], _∷_, _++_, map}
+use mathlib.Core.Bool.{true}
+use mathlib.Core.List.{List, [], _∷_, _++_, map, List·Memᴰ}
 use Rattle.theory.specs.Lists.{_∈_}
+use Rattle.theory.specs.Rules.{Pages, active}
 use Rattle.theory.specs.Models.{AtomSet, Admissible}
 use Rattle.theory.specs.Labels.{Label, absent, out, in-at, Labelled}
 use Rattle.theory.specs.Limits.{document}
-use Rattle.theory.specs.Book.{Call, add, remove, Answer, refused, slot, accepted, empty, answers, after-all}
+use Rattle.theory.specs.Book.{Call, add, remove, mute, Answer, refused, slot, accepted, empty, answers, after-all}
 
 -- An atom and its label.
 pub record Row : Type 0 where
@@ -20,40 +22,30 @@ pub record Example : Type 0 where
   pub told : List Answer
   pub rows : List Row
 
-abbrev pub Each {ℓ} : {A : Type ℓ} → (A → Type 0) → List A → Type 0
-Each P [] = Unit {0}
-Each P (x ∷ xs) = P x × Each P xs
+-- What the calls of an example leave.
+abbrev pub left : Example → Pages
+left e = after-all document (empty document) (e .calls)
 
 -- The answers are those told; each named atom has its label in the admissible model; every other atom is absent.
 pub record Shows (e : Example) : Type 0 where
   pub answered : answers document (empty document) (e .calls) ≡ e .told
   pub model : AtomSet
-  pub admissible : Admissible (after-all document (empty document) (e .calls)) model
-  pub labels :
-      Each (λ l. Labelled (after-all document (empty document) (e .calls)) model (l .atom) (l .label)) (e .rows)
-  pub others :
-      (a : ℕ) → (a ∈ map (λ l. l .atom) (e .rows) → ⊥)
-      → Labelled (after-all document (empty document) (e .calls)) model a absent
+  pub admissible : Admissible (active (left e)) model
+  pub labels : (l : Row) → List·Memᴰ l (e .rows) → Labelled (left e) model (l .atom) (l .label)
+  pub others : (a : ℕ) → (a ∈ map (λ l. l .atom) (e .rows) → ⊥) → Labelled (left e) model a absent
 
--- A fact; a rule with one positive entry, with one negative entry, with two positive entries, with two
--- negative entries, with one of each.
+-- The addition of a rule; of a fact, of a rule with one positive entry, with one negative entry.
+abbrev pub rule : ℕ → List ℕ → List ℕ → Call
+rule h ps ns = add (record { head = h; positives = ps; negatives = ns })
+
 abbrev pub fact : ℕ → Call
-fact h = add (record { head = h; positives = []; negatives = [] })
+fact h = rule h [] []
 
 abbrev pub from : ℕ → ℕ → Call
-from h x = add (record { head = h; positives = x ∷ []; negatives = [] })
+from h x = rule h (x ∷ []) []
 
 abbrev pub unless : ℕ → ℕ → Call
-unless h x = add (record { head = h; positives = []; negatives = x ∷ [] })
-
-abbrev pub from-both : ℕ → ℕ → ℕ → Call
-from-both h x y = add (record { head = h; positives = x ∷ y ∷ []; negatives = [] })
-
-abbrev pub unless-either : ℕ → ℕ → ℕ → Call
-unless-either h x y = add (record { head = h; positives = []; negatives = x ∷ y ∷ [] })
-
-abbrev pub from-unless : ℕ → ℕ → ℕ → Call
-from-unless h x y = add (record { head = h; positives = x ∷ []; negatives = y ∷ [] })
+unless h x = rule h [] (x ∷ [])
 
 infix 70 _is_
 abbrev pub _is_ : ℕ → Label → Row
@@ -104,13 +96,17 @@ tables =
     ∷ shows (from 1 2 ∷ unless 2 3 ∷ from 1 4 ∷ from 4 3 ∷ from 3 4 ∷ unless 3 5 ∷ fact 5 ∷ []) (slots-from 0 7)
     (1 is in-at 2 0 ∷ 2 is in-at 1 1 ∷ 3 is out ∷ 4 is out ∷ 5 is in-at 1 6 ∷ [])
     -- request #102: the same rule in another order is refused, and with its slot removed the label is gone
-    ∷ shows (fact 1 ∷ fact 2 ∷ from-both 5 1 2 ∷ from-both 5 2 1 ∷ []) (slots-from 0 3 ++ (refused 5 ∷ []))
-    (1 is in-at 1 0 ∷ 2 is in-at 1 1 ∷ 5 is in-at 2 2 ∷ [])
-    ∷ shows (fact 1 ∷ fact 2 ∷ from-both 5 1 2 ∷ from-both 5 2 1 ∷ remove 2 ∷ [])
+    ∷ shows (fact 1 ∷ fact 2 ∷ rule 5 (1 ∷ 2 ∷ []) [] ∷ rule 5 (2 ∷ 1 ∷ []) [] ∷ [])
+    (slots-from 0 3 ++ (refused 5 ∷ [])) (1 is in-at 1 0 ∷ 2 is in-at 1 1 ∷ 5 is in-at 2 2 ∷ [])
+    ∷ shows (fact 1 ∷ fact 2 ∷ rule 5 (1 ∷ 2 ∷ []) [] ∷ rule 5 (2 ∷ 1 ∷ []) [] ∷ remove 2 ∷ [])
     (slots-from 0 3 ++ (refused 5 ∷ accepted ∷ [])) (1 is in-at 1 0 ∷ 2 is in-at 1 1 ∷ [])
-    ∷ shows (unless-either 5 1 2 ∷ unless-either 5 2 1 ∷ []) (slots-from 0 1 ++ (refused 5 ∷ []))
+    ∷ shows (rule 5 [] (1 ∷ 2 ∷ []) ∷ rule 5 [] (2 ∷ 1 ∷ []) ∷ []) (slots-from 0 1 ++ (refused 5 ∷ []))
     (1 is out ∷ 2 is out ∷ 5 is in-at 1 0 ∷ [])
     -- and atoms that change lists make another rule
-    ∷ shows (fact 1 ∷ from-unless 5 1 2 ∷ from-unless 5 2 1 ∷ []) (slots-from 0 3)
+    ∷ shows (fact 1 ∷ rule 5 (1 ∷ []) (2 ∷ []) ∷ rule 5 (2 ∷ []) (1 ∷ []) ∷ []) (slots-from 0 3)
     (1 is in-at 1 0 ∷ 2 is out ∷ 5 is in-at 2 1 ∷ [])
+    -- request #108: the head of a muted fact is out, and so is what rests on it; and a muted rule closes a loop
+    ∷ shows (fact 1 ∷ from 2 1 ∷ mute 0 true ∷ []) (slots-from 0 2 ++ (accepted ∷ [])) (1 is out ∷ 2 is out ∷ [])
+    ∷ shows (unless 1 2 ∷ mute 0 true ∷ unless 2 1 ∷ mute 0 true ∷ [])
+    (slots-from 0 1 ++ (accepted ∷ refused 7 ∷ accepted ∷ [])) (1 is out ∷ 2 is out ∷ [])
     ∷ []

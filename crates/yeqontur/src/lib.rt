@@ -23,6 +23,7 @@ use crossing::crossed_remove;
 use crossing::crossed_spoiler;
 use files::load;
 use files::save;
+use muting::mute;
 use queries::consequences;
 use queries::justifications;
 use queries::label;
@@ -32,10 +33,12 @@ use reasons::reason;
 use replacing::replace;
 use table::Table;
 ghost use mathlib.Core.Path.{_≡_};
+ghost use mathlib.Core.Bool.{not};
+ghost use lib.Dec.{eqb};
 ghost use Rattle.table.specs.Clean.{emptyTable};
 ghost use Rattle.table.specs.Questions.{ruleFrom};
 ghost use Rattle.calls.specs.Contracts.{JustificationsEnd, ConsequencesEnd, RepercussionsEnd, ReasonEnds};
-ghost use Rattle.calls.specs.Contracts.{ReplaceEnds, SaveEnds, LoadEnds};
+ghost use Rattle.calls.specs.Contracts.{ReplaceEnds, MuteEnds, SaveEnds, LoadEnds};
 ghost use Rattle.checklist.specs.Questions.{file-sent, file-skipped, skip-withdrawn};
 ghost use Rattle.checklist.specs.Contracts.{OpenEnds, FileEnds, MissingEnds};
 ghost use Rattle.yeqontur.specs.Crossing.{AddCrosses, RemoveCrosses, LabelCrosses, SpoilerCrosses, ListCrosses};
@@ -89,6 +92,17 @@ pub extern "C" fn yeqontur_replace(
     let answer = done.answer;
     let replaced = done.table;
     crossed_change(answer, replaced)
+}
+
+// 0 unmutes, any other number mutes.
+#[no_mangle]
+pub extern "C" fn yeqontur_mute(table: Table, slot: u32, muted: u32) -> Accepted
+    ensures { λ r. ⌜ ChangeCrosses (MuteEnds table slot (not (eqb muted 0))) r ⌝ }
+{
+    let done = mute(table, slot, muted != 0);
+    let answer = done.answer;
+    let marked = done.table;
+    crossed_change(answer, marked)
 }
 
 #[no_mangle]

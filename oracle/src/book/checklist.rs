@@ -3,19 +3,23 @@
 use super::Book;
 use crate::checklist::{frame_rule, Mark};
 use crate::limits::FILES;
-use crate::rules::Rule;
+use crate::rules::{Page, Rule};
+
+/// Does the page hold this rule, and is it not muted?
+fn says(holds: &Option<Page>, rule: &Rule) -> bool {
+    holds
+        .as_ref()
+        .is_some_and(|page| !page.muted && page.rule == *rule)
+}
 
 /// May the page hold this in a checklist of so many files? The frame stands on the pages up to the last file's; any
 /// other page is free or has a file's mark.
-fn fits(files: u32, page: u32, holds: &Option<Rule>) -> bool {
+fn fits(files: u32, page: u32, holds: &Option<Page>) -> bool {
     if page <= files {
-        return *holds == Some(frame_rule(page));
+        return says(holds, &frame_rule(page));
     }
-    let says = |rule: &Rule, file| Mark::BOTH.iter().any(|mark| *rule == mark.fact(file));
-    match holds {
-        None => true,
-        Some(rule) => (1..=files).any(|file| says(rule, file)),
-    }
+    let has_mark = |file| Mark::BOTH.iter().any(|mark| says(holds, &mark.fact(file)));
+    holds.is_none() || (1..=files).any(has_mark)
 }
 
 impl Book {
@@ -46,7 +50,7 @@ impl Book {
             return Err(21);
         }
         for (page, holds) in (0..=files).zip(&mut self.pages) {
-            *holds = Some(frame_rule(page));
+            *holds = Some(Page::unmuted(frame_rule(page)));
         }
         Ok(())
     }
@@ -54,13 +58,13 @@ impl Book {
     /// Puts a mark on the lowest free page; 15, 20 and 22 are asked.
     fn mark(&mut self, mark: Mark, file: u32) -> Result<(), u32> {
         self.ask_file(file)?;
-        let fact = Some(mark.fact(file));
-        if self.pages.contains(&fact) {
+        let fact = mark.fact(file);
+        if self.pages.iter().any(|page| says(page, &fact)) {
             return Err(22);
         }
         // A checklist has 181 rules at most: a page is free.
         let free = self.pages.iter_mut().find(|page| page.is_none());
-        *free.expect("a free page") = fact;
+        *free.expect("a free page") = Some(Page::unmuted(fact));
         Ok(())
     }
 
@@ -75,8 +79,8 @@ impl Book {
     /// Frees the page of the skip; 15, 20 and 22 are asked.
     pub fn skip_withdrawn(&mut self, file: u32) -> Result<(), u32> {
         self.ask_file(file)?;
-        let fact = Some(Mark::Skipped.fact(file));
-        let page = self.pages.iter_mut().find(|page| **page == fact);
+        let fact = Mark::Skipped.fact(file);
+        let page = self.pages.iter_mut().find(|page| says(page, &fact));
         *page.ok_or(22_u32)? = None;
         Ok(())
     }

@@ -4,8 +4,8 @@
 use crate::calls::Call;
 use crate::questions::rule_from;
 use crate::random::Random;
-use crate::rules::{Program, Rule};
-use crate::table::{RawRule, RawTable, HELD};
+use crate::rules::{Page, Program, Rule};
+use crate::table::{RawRule, RawTable, HELD, MUTED};
 
 /// A head and two lists, as a call names them.
 #[derive(Clone, PartialEq, Eq, Debug)]
@@ -58,9 +58,9 @@ pub struct Earlier {
 }
 
 impl Earlier {
-    /// The rules that the slots of a table hold.
+    /// The rules that the slots of a table hold, muted or not.
     pub fn in_table(table: &RawTable) -> Earlier {
-        let rules = table.rules.iter().filter(|raw| raw.state == HELD);
+        let rules = table.rules.iter().filter(|raw| holds_a_rule(raw));
         Earlier {
             named: rules.map(held_in).collect(),
         }
@@ -87,6 +87,10 @@ impl Earlier {
     }
 }
 
+fn holds_a_rule(raw: &RawRule) -> bool {
+    [HELD, MUTED].contains(&raw.state)
+}
+
 /// What a slot of any table holds: as many entries of each list as there are.
 fn held_in(raw: &RawRule) -> Named {
     let mut entries = raw.entries.iter().map(|&entry| entry.into());
@@ -101,8 +105,9 @@ fn held_in(raw: &RawRule) -> Named {
 pub fn pages_of(table: &RawTable) -> Program {
     let page = |raw: &RawRule| {
         let named = held_in(raw);
-        let rule = rule_from(named.head, &named.positives, &named.negatives);
-        rule.ok().filter(|_| raw.state == HELD)
+        let rule = rule_from(named.head, &named.positives, &named.negatives).ok()?;
+        let muted = raw.state == MUTED;
+        holds_a_rule(raw).then_some(Page { rule, muted })
     };
     table.rules.iter().map(page).collect()
 }

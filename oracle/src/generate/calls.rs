@@ -5,6 +5,7 @@ use crate::calls::Call;
 use crate::file;
 use crate::generate::again::{pages_of, Earlier, Named};
 use crate::generate::files::any_file;
+use crate::generate::mutings::{about_muted, any_held_slot, any_mark, any_muted_atom, any_muting};
 use crate::generate::replacements::any_replacement;
 use crate::random::Random;
 use crate::table::RawTable;
@@ -41,7 +42,7 @@ fn list(random: &mut Random, atoms: usize) -> Vec<u32> {
 }
 
 /// Draws calls over about so many atoms and slots. Some additions name an earlier rule again. The book has made every
-/// call that was noted: replacements are drawn with its pages in view.
+/// call that was noted: replacements and mutings are drawn with its pages in view.
 pub struct Calls {
     atoms: usize,
     slots: usize,
@@ -60,8 +61,13 @@ impl Calls {
         }
     }
 
-    /// Named before, one time in five; else its lists are drawn.
+    /// Named before, one time in five; now and then about a muted rule; else its lists are drawn.
     fn named(&mut self, random: &mut Random) -> Named {
+        if random.percent(12) {
+            if let Some(named) = about_muted(random, self.book.pages()) {
+                return named;
+            }
+        }
         if random.percent(20) {
             if let Some(again) = self.earlier.again(random) {
                 return again;
@@ -84,6 +90,22 @@ impl Calls {
         self.named(random).addition()
     }
 
+    /// One of a muted rule now and then; else any.
+    fn atom(&self, random: &mut Random) -> u32 {
+        match any_muted_atom(random, self.book.pages()) {
+            Some(atom) if random.percent(25) => atom,
+            _ => number(random, self.atoms),
+        }
+    }
+
+    /// One that holds a rule half of the time; else any.
+    fn slot(&self, random: &mut Random) -> u32 {
+        match any_held_slot(random, self.book.pages()) {
+            Some(slot) if random.percent(50) => slot,
+            _ => number(random, self.slots),
+        }
+    }
+
     pub fn removal(&self, random: &mut Random) -> Call {
         Call::Remove {
             slot: number(random, self.slots),
@@ -100,15 +122,35 @@ impl Calls {
         self.named(random).replacing(slot)
     }
 
-    /// The file of what some additions and removals leave: its rules are like those of the calls around it.
+    /// One drawn for what it comes to, for the most part; else of any slot with any mark.
+    pub fn muting(&self, random: &mut Random) -> Call {
+        if random.percent(85) {
+            return any_muting(random, self.book.pages());
+        }
+        let mark = if random.percent(50) {
+            0
+        } else {
+            any_mark(random)
+        };
+        Call::Mute {
+            slot: number(random, self.slots),
+            mark,
+        }
+    }
+
+    /// The file of what some additions, removals and mutings leave: its rules are like those of the calls around it.
     fn file_of_additions(&mut self, random: &mut Random) -> Vec<u8> {
         let mut book = Book::empty();
+        let mutings = *random.pick(&[0, 0, 20, 60]);
         for _ in 0..random.between(0, 40) {
             let named = self.named(random);
-            // A refused addition adds nothing to the file.
+            // A refused call changes nothing in the file.
             let _ = book.add(named.head, &named.positives, &named.negatives);
             if random.percent(20) {
                 let _ = book.remove(number(random, self.slots));
+            }
+            if random.percent(mutings) {
+                let _ = book.mute(number(random, self.slots), any_mark(random));
             }
         }
         file::write(book.pages())
@@ -138,14 +180,15 @@ impl Calls {
     }
 
     fn drawn(&mut self, random: &mut Random) -> Call {
-        let atom = number(random, self.atoms);
-        match random.below(25) {
+        let atom = self.atom(random);
+        match random.below(29) {
             0..=9 => self.addition(random),
             10..=12 => self.removal(random),
             21..=24 => self.replacement(random),
+            25..=28 => self.muting(random),
             13 => Call::Label { atom },
             14 => Call::Spoiler {
-                slot: number(random, self.slots),
+                slot: self.slot(random),
             },
             15 => Call::Justifications { atom },
             16 => Call::Consequences { atom },

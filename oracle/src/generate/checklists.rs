@@ -7,10 +7,11 @@ use crate::checklist::{frame_rule, good, Checklist, Mark};
 use crate::file;
 use crate::generate::again::Named;
 use crate::generate::calls::Calls;
+use crate::generate::mutings::{any_held_slot, any_mark, any_muting};
 use crate::generate::replacements::any_replacement;
 use crate::limits::{FILES, SLOTS};
 use crate::random::Random;
-use crate::rules::{Program, Rule};
+use crate::rules::{held, holds, Program, Rule};
 use crate::table::RawTable;
 
 /// Numbers that no checklist and no file has; some start over in a narrow type, or when 3 times the number is taken.
@@ -68,7 +69,7 @@ impl Checklists {
     }
 
     fn stands(&self, mark: Mark, file: u32) -> bool {
-        self.book.pages().contains(&Some(mark.fact(file)))
+        holds(self.book.pages(), &mark.fact(file))
     }
 
     /// One of the files that are unsent for the most part, else any on the list, and now and then a number that is not.
@@ -117,13 +118,8 @@ impl Checklists {
         }
         let file = random.between(1, self.files as usize) as u32;
         let fact = random.pick(&Mark::BOTH).fact(file);
-        let page = self
-            .book
-            .pages()
-            .iter()
-            .position(|page| *page == Some(fact.clone()));
-        match page {
-            Some(page) => Call::Remove { slot: page as u32 },
+        match held(self.book.pages()).find(|(_, rule)| **rule == fact) {
+            Some((slot, _)) => Call::Remove { slot },
             None => addition(random, &fact),
         }
     }
@@ -212,10 +208,23 @@ impl Checklists {
             _ => any_replacement(random, self.book.pages()),
         };
         if let Some(Some(old)) = self.book.pages().get(slot as usize) {
-            let mend = Named::of(old).shuffled(random).replacing(slot);
+            let mend = Named::of(&old.rule).shuffled(random).replacing(slot);
             self.mends.push(mend);
         }
         named.shuffled(random).replacing(slot)
+    }
+
+    /// Mutes a rule of the frame or a mark, which unmuting mends; or sets any mark.
+    fn muting(&mut self, random: &mut Random) -> Call {
+        let pages = self.book.pages();
+        match any_held_slot(random, pages) {
+            Some(slot) if random.percent(75) => {
+                self.mends.push(Call::Mute { slot, mark: 0 });
+                let mark = any_mark(random);
+                Call::Mute { slot, mark }
+            }
+            _ => any_muting(random, pages),
+        }
     }
 
     /// The pages, with what stands behind the frame moved anywhere behind it.
@@ -269,6 +278,7 @@ impl Checklists {
             0..=11 => self.break_or_move(random),
             12..=25 => self.mark_by_hand(random),
             26..=33 => self.replacement(random),
+            34..=38 => self.muting(random),
             _ => self.on_file(random),
         }
     }

@@ -36,7 +36,7 @@ pub fn damaged(random: &mut Random, table: &RawTable, field: Field) -> RawTable 
     let place = random.below(ENTRIES);
     let (rule, label) = (&mut table.rules[slot], &mut table.labels[atom]);
     match field {
-        Field::RuleState => rule.state = other(random, rule.state),
+        Field::RuleState => rule.state = other_state(random, rule.state),
         Field::Head => rule.head = other(random, rule.head),
         Field::Positives => rule.positives = other_small(random, rule.positives),
         Field::Negatives => rule.negatives = other_small(random, rule.negatives),
@@ -46,6 +46,19 @@ pub fn damaged(random: &mut Random, table: &RawTable, field: Field) -> RawTable 
         Field::SupportingSlot => label.slot = other(random, label.slot),
     }
     table
+}
+
+/// States of a rule, and numbers that are none: among these some that end in the byte of one.
+const STATES: [u16; 12] = [0, 1, 2, 3, 4, 255, 256, 257, 258, 512, 32_768, 65_535];
+
+/// As `other`, for the state of a rule.
+fn other_state(random: &mut Random, stood: u16) -> u16 {
+    let number = *random.pick(&STATES);
+    if number == stood {
+        other(random, stood)
+    } else {
+        number
+    }
 }
 
 /// A number that differs from the one that stood: a neighbour, a limit, or any.

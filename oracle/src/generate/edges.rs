@@ -1,7 +1,7 @@
 //! Edge programs: at the limits of slots, atoms, entries, depth and layers.
 
 use crate::limits::{ATOMS, ENTRIES, SLOTS};
-use crate::rules::{Program, Rule};
+use crate::rules::{Page, Program, Rule};
 
 const LAST: u32 = ATOMS as u32 - 1;
 
@@ -23,7 +23,8 @@ fn fact(head: u32) -> Rule {
 
 /// The rules from slot 0 on, the other slots free.
 fn from_first_slot(rules: Vec<Rule>) -> Program {
-    let mut program: Program = rules.into_iter().map(Some).collect();
+    let pages = rules.into_iter().map(Page::unmuted);
+    let mut program: Program = pages.map(Some).collect();
     program.resize(SLOTS, None);
     program
 }
@@ -31,7 +32,7 @@ fn from_first_slot(rules: Vec<Rule>) -> Program {
 /// The rules in the last slots, those before them free.
 fn in_last_slots(rules: Vec<Rule>) -> Program {
     let mut program = vec![None; SLOTS - rules.len()];
-    program.extend(rules.into_iter().map(Some));
+    program.extend(rules.into_iter().map(Page::unmuted).map(Some));
     program
 }
 

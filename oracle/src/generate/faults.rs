@@ -1,14 +1,15 @@
 //! Tables with a fault that touches more than one field, all else being as it should. Where
 //! the table drawn has no room for the fault it comes out sound: soundness decides.
 
+use crate::generate::marks::{any_marked, some_marked};
 use crate::generate::programs::{program, FLAVOURS};
-use crate::generate::table_of;
-use crate::labels::{Label, Labelled};
+use crate::generate::{mark_faults, table_of};
+use crate::labels::Labelled;
 use crate::limits::ENTRIES;
 use crate::loops::has_loop_through_negation;
 use crate::random::Random;
 use crate::relations::spoiler;
-use crate::rules::{held, Rule};
+use crate::rules::{held, Page, Rule};
 use crate::table::{RawRule, RawTable};
 
 #[derive(Clone, Copy, PartialEq, Eq, Debug)]
@@ -28,11 +29,29 @@ pub enum Fault {
     Loop,
     /// A rule is gone and the labels are those from before.
     StaleLabels,
-    /// A valid rule is kept as supporting, but it isn't the supporting one.
+    /// A rule that no entry spoils is kept as supporting, but it isn't the supporting one. It may
+    /// be muted.
     OtherSupport,
+    /// A rule stands in two slots, and is muted in one of them or in both.
+    SameMuted,
+    /// A muted rule closes a loop through a negation.
+    MutedLoop,
+    /// A rule is muted and the labels are those from before.
+    MutedStale,
+    /// A rule is unmuted and the labels are those from before.
+    UnmutedStale,
+    /// The labels are those that all rules would give if none were muted.
+    MutedCounted,
+    /// The labels are those that the unmuted rules would give if the others were not held.
+    MutedAbsent,
+    /// A held rule has a state that there is none of.
+    OtherState,
+    /// A free slot has the state of a muted rule. Where its numbers make one that fits, the table
+    /// is sound.
+    MutedFree,
 }
 
-pub const FAULTS: [Fault; 8] = [
+pub const FAULTS: [Fault; 16] = [
     Fault::SameRule,
     Fault::RepeatedAtom,
     Fault::Swapped,
@@ -41,12 +60,36 @@ pub const FAULTS: [Fault; 8] = [
     Fault::Loop,
     Fault::StaleLabels,
     Fault::OtherSupport,
+    Fault::SameMuted,
+    Fault::MutedLoop,
+    Fault::MutedStale,
+    Fault::UnmutedStale,
+    Fault::MutedCounted,
+    Fault::MutedAbsent,
+    Fault::OtherState,
+    Fault::MutedFree,
 ];
+
+impl Fault {
+    /// Does it take a muted rule?
+    fn is_of_muted(self) -> bool {
+        matches!(
+            self,
+            Fault::UnmutedStale | Fault::MutedCounted | Fault::MutedAbsent
+        )
+    }
+}
 
 /// A table of a random flavour with that fault, if it has room for it.
 pub fn faulty(random: &mut Random, fault: Fault) -> RawTable {
     let flavour = *random.pick(&FLAVOURS);
-    let labelled = Labelled::of(program(random, flavour));
+    let program = program(random, flavour);
+    let program = if fault.is_of_muted() {
+        some_marked(random, program)
+    } else {
+        any_marked(random, program)
+    };
+    let labelled = Labelled::of(program);
     let faulty = match fault {
         Fault::SameRule => same_rule(random, &labelled),
         Fault::RepeatedAtom => repeated_atom(random, &labelled),
@@ -56,6 +99,7 @@ pub fn faulty(random: &mut Random, fault: Fault) -> RawTable {
         Fault::Loop => closed_loop(random, &labelled),
         Fault::StaleLabels => stale_labels(random, &labelled),
         Fault::OtherSupport => other_support(random, &labelled),
+        _ => mark_faults::faulty(random, labelled.clone(), fault),
     };
     faulty.unwrap_or_else(|| RawTable::keeping(&labelled))
 }
@@ -68,12 +112,17 @@ pub(super) fn any_of<T>(random: &mut Random, mut those: Vec<T>) -> Option<T> {
     Some(those.swap_remove(random.below(those.len())))
 }
 
-/// The table with the rule in a free slot besides, labelled as the definitions say.
-fn with_rule(random: &mut Random, labelled: &Labelled, rule: Rule) -> Option<RawTable> {
+/// The table with this page in a free slot besides, labelled as the definitions say.
+pub(super) fn with_page(random: &mut Random, labelled: &Labelled, page: Page) -> Option<RawTable> {
     let mut program = labelled.program.clone();
-    let free: Vec<&mut Option<Rule>> = program.iter_mut().filter(|slot| slot.is_none()).collect();
-    *any_of(random, free)? = Some(rule);
+    let free = program.iter_mut().filter(|slot| slot.is_none());
+    *any_of(random, free.collect())? = Some(page);
     Some(table_of(program))
+}
+
+/// The same with an unmuted rule.
+fn with_rule(random: &mut Random, labelled: &Labelled, rule: Rule) -> Option<RawTable> {
+    with_page(random, labelled, Page::unmuted(rule))
 }
 
 fn same_rule(random: &mut Random, labelled: &Labelled) -> Option<RawTable> {
@@ -131,7 +180,8 @@ fn moved_end(random: &mut Random, labelled: &Labelled) -> Option<RawTable> {
     let both = |rule: &Rule| !rule.positives.is_empty() && !rule.negatives.is_empty();
     let rules = held(&labelled.program).filter(|(_, rule)| both(rule));
     let (slot, rule) = any_of(random, rules.collect())?;
-    let (mut rule, mut raw) = (rule.clone(), RawRule::holding(rule));
+    let mut rule = rule.clone();
+    let mut raw = RawTable::keeping(labelled).rules[slot as usize];
     if random.percent(50) {
         rule.positives.extend(rule.negatives.pop_first());
         (raw.positives, raw.negatives) = (raw.positives + 1, raw.negatives - 1);
@@ -140,7 +190,7 @@ fn moved_end(random: &mut Random, labelled: &Labelled) -> Option<RawTable> {
         (raw.positives, raw.negatives) = (raw.positives - 1, raw.negatives + 1);
     }
     let mut program = labelled.program.clone();
-    program[slot as usize] = Some(rule);
+    program[slot as usize].as_mut()?.rule = rule;
     if has_loop_through_negation(&program) {
         return None;
     }
@@ -149,9 +199,14 @@ fn moved_end(random: &mut Random, labelled: &Labelled) -> Option<RawTable> {
     Some(table)
 }
 
-/// An in atom gets a rule that negates it, or negates the head of a rule that it is an entry
-/// of. The atom is in without that rule, so the model stays.
 fn closed_loop(random: &mut Random, labelled: &Labelled) -> Option<RawTable> {
+    let rule = closing_rule(random, labelled)?;
+    with_rule(random, labelled, rule)
+}
+
+/// A rule for an in atom that negates it, or negates the head of a rule that it is an entry of.
+/// The atom is in without that rule, so with it the model stays.
+pub(super) fn closing_rule(random: &mut Random, labelled: &Labelled) -> Option<Rule> {
     let ins = labelled
         .occurring()
         .map(|(atom, _)| atom)
@@ -161,7 +216,7 @@ fn closed_loop(random: &mut Random, labelled: &Labelled) -> Option<RawTable> {
         held(&labelled.program).filter(|(_, rule)| rule.entries().any(|entry| entry == head));
     let heads: Vec<u32> = follow.map(|(_, rule)| rule.head).chain([head]).collect();
     let negated = *random.pick(&heads);
-    with_rule(random, labelled, Rule::of(head, &[], &[negated]))
+    Some(Rule::of(head, &[], &[negated]))
 }
 
 fn stale_labels(random: &mut Random, labelled: &Labelled) -> Option<RawTable> {
@@ -172,9 +227,9 @@ fn stale_labels(random: &mut Random, labelled: &Labelled) -> Option<RawTable> {
 }
 
 fn other_support(random: &mut Random, labelled: &Labelled) -> Option<RawTable> {
-    let supports = |slot: u32, head: u32| matches!(labelled.label(head), Label::In { slot: kept, .. } if kept == slot);
-    let others = held(&labelled.program)
-        .filter(|&(slot, rule)| spoiler(labelled, rule).is_none() && !supports(slot, rule.head));
+    let others = held(&labelled.program).filter(|&(slot, rule)| {
+        spoiler(labelled, rule).is_none() && !labelled.supports(slot, rule.head)
+    });
     let (slot, rule) = any_of(random, others.collect())?;
     let mut table = RawTable::keeping(labelled);
     table.labels[rule.head as usize].slot = slot as u16;

@@ -17,9 +17,18 @@ fn any_that<'a>(
     Some(those.swap_remove(random.below(those.len())))
 }
 
+/// The top bit of a positive count.
+const MARK: u8 = 128;
+
 /// How many entries its counts name.
 fn used(record: &Record) -> usize {
-    usize::from(record.positives) + usize::from(record.negatives)
+    record.counts().iter().sum()
+}
+
+/// Gives the record these counts and leaves its mark.
+fn put_counts(record: &mut Record, positives: usize, negatives: usize) {
+    record.positives = record.positives & MARK | positives as u8;
+    record.negatives = negatives as u8;
 }
 
 fn has_entries(record: &Record) -> bool {
@@ -32,8 +41,9 @@ fn has_room(record: &Record) -> bool {
 
 /// Both lists of a record whose counts fit.
 fn lists(record: &mut Record) -> [&mut [u16]; 2] {
-    let (positives, rest) = record.entries.split_at_mut(record.positives.into());
-    [positives, &mut rest[..record.negatives.into()]]
+    let [positives, negatives] = record.counts();
+    let (positives, rest) = record.entries.split_at_mut(positives);
+    [positives, &mut rest[..negatives]]
 }
 
 /// Two different places of a list that has two.
@@ -108,48 +118,74 @@ fn fill(record: &mut Record, heads: &[u16]) {
     for (entry, atom) in record.entries.iter_mut().zip(others) {
         *entry = atom;
     }
-    (record.positives, record.negatives) = (ENTRIES as u8, 0);
+    put_counts(record, ENTRIES, 0);
+}
+
+/// Puts counts that come to more than 8 into a record, which half of the time has eight entries, so that nothing else
+/// is wrong with it. Answers the record.
+fn put_too_many<'a>(random: &mut Random, records: &'a mut [Record]) -> Option<&'a mut Record> {
+    let heads: Vec<u16> = records.iter().map(|record| record.head).collect();
+    let record = any_that(random, records, |record| used(record) <= ENTRIES)?;
+    if random.percent(50) {
+        fill(record, &heads);
+    }
+    let [p, n] = record.counts().map(|count| count as u8);
+    let counts = [
+        (9, 0),
+        (0, 9),
+        (8, 1),
+        (1, 8),
+        (127, n),
+        (p, 255),
+        (127, 9),
+        (0, 128),
+        (p, n + 128),
+        (9 + n, (p + n).wrapping_sub(9 + n)),
+        (9 + n, (p + n + 128).wrapping_sub(9 + n)),
+    ];
+    let (positives, negatives) = *random.pick(&counts);
+    put_counts(record, positives.into(), negatives.into());
+    Some(record)
 }
 
 pub fn too_many_entries(random: &mut Random, records: &mut [Record]) {
-    let heads: Vec<u16> = records.iter().map(|record| record.head).collect();
-    if let Some(record) = any_that(random, records, |record| used(record) <= ENTRIES) {
-        if random.percent(50) {
-            fill(record, &heads);
+    put_too_many(random, records);
+}
+
+pub fn marked_too_many(random: &mut Random, records: &mut [Record]) {
+    if let Some(record) = put_too_many(random, records) {
+        record.positives |= MARK;
+    }
+}
+
+/// Of one record, some or all of them.
+pub fn marks_changed(random: &mut Random, records: &mut [Record]) {
+    let share = *random.pick(&[0, 30, 100]);
+    let one = random.below(records.len().max(1));
+    for (place, record) in records.iter_mut().enumerate() {
+        if place == one || random.percent(share) {
+            record.positives ^= MARK;
         }
-        let (p, n) = (record.positives, record.negatives);
-        let counts = [
-            (9, 0),
-            (0, 9),
-            (8, 1),
-            (1, 8),
-            (255, n),
-            (p, 255),
-            (255, 9),
-            (128, 128),
-            (p + 128, n + 128),
-            (9 + n, (p + n).wrapping_sub(9 + n)),
-        ];
-        (record.positives, record.negatives) = *random.pick(&counts);
     }
 }
 
 /// Half of the time the record has eight entries, so that nothing else is wrong with it.
-pub fn marked(random: &mut Random, records: &mut [Record]) {
+pub fn negative_marked(random: &mut Random, records: &mut [Record]) {
     let heads: Vec<u16> = records.iter().map(|record| record.head).collect();
-    if let Some(record) = any_that(random, records, |record| record.positives < 128) {
+    if let Some(record) = any_that(random, records, |record| record.negatives < MARK) {
         if random.percent(50) {
             fill(record, &heads);
         }
-        record.positives += 128;
+        record.negatives += MARK;
     }
 }
 
 pub fn moved_end(random: &mut Random, records: &mut [Record]) {
     if let Some(record) = any_that(random, records, has_entries) {
-        let up = record.negatives > 0 && (record.positives == 0 || random.percent(50));
-        let (p, n) = (record.positives, record.negatives);
-        (record.positives, record.negatives) = if up { (p + 1, n - 1) } else { (p - 1, n + 1) };
+        let [p, n] = record.counts();
+        let up = n > 0 && (p == 0 || random.percent(50));
+        let (p, n) = if up { (p + 1, n - 1) } else { (p - 1, n + 1) };
+        put_counts(record, p, n);
     }
 }
 
@@ -158,7 +194,7 @@ pub fn repeated_entry(random: &mut Random, records: &mut [Record]) {
     if let Some(record) = any_that(random, records, so) {
         let place = random.below(used(record));
         record.entries.copy_within(place..ENTRIES - 1, place + 1);
-        if place < record.positives.into() {
+        if place < record.counts()[0] {
             record.positives += 1;
         } else {
             record.negatives += 1;
@@ -167,7 +203,7 @@ pub fn repeated_entry(random: &mut Random, records: &mut [Record]) {
 }
 
 fn has_a_list_of_two(record: &Record) -> bool {
-    has_entries(record) && (record.positives > 1 || record.negatives > 1)
+    has_entries(record) && record.counts().iter().any(|&count| count > 1)
 }
 
 /// Swaps two entries of a list of a record that has a list of two.
@@ -187,7 +223,7 @@ pub fn descending(random: &mut Random, records: &mut [Record]) {
     }
 }
 
-/// Two slots hold the rule of one of them.
+/// Two slots hold the rule of one of them, each with the mark of that one or with its own.
 fn copied(random: &mut Random, records: &mut [Record], so: fn(&Record) -> bool) -> Option<usize> {
     let rule = any_that(random, records, so)?.clone();
     let others: Vec<usize> = (0..records.len())
@@ -197,10 +233,14 @@ fn copied(random: &mut Random, records: &mut [Record], so: fn(&Record) -> bool) 
         return None;
     }
     let place = *random.pick(&others);
+    let mark = records[place].positives & MARK;
     records[place] = Record {
         slot: records[place].slot,
         ..rule
     };
+    if random.percent(50) {
+        records[place].positives = records[place].positives % MARK + mark;
+    }
     Some(place)
 }
 
@@ -225,7 +265,7 @@ fn put_entry(record: &mut Record, negative: bool, atom: u16) {
     if let Err(place) = list.binary_search(&atom) {
         list.insert(place, atom);
     }
-    (record.positives, record.negatives) = (positives.len() as u8, negatives.len() as u8);
+    put_counts(record, positives.len(), negatives.len());
     for (entry, atom) in record
         .entries
         .iter_mut()

@@ -1,9 +1,10 @@
-//! Random files: whole ones of every size, and damaged ones. Where a file has no room for its damage, or the damage
-//! makes the file of another table, it is accepted: the reader decides.
+//! Random files: whole ones of every size, with muted rules and without, and damaged ones. Where a file has no room for
+//! its damage, or the damage makes the file of another table, it is accepted: the reader decides.
 
 use crate::file::{self, Record};
 use crate::generate::file_bytes as bytes;
 use crate::generate::file_records::{self as records, extended};
+use crate::generate::marks::{any_marked, marked, Marks};
 use crate::generate::programs::{self, crowded, program};
 use crate::limits::{BLOCK_RECORDS, SLOTS};
 use crate::random::Random;
@@ -21,6 +22,9 @@ pub enum Kind {
     FullTable,
     /// The table of a program of any flavour.
     AnyTable,
+    /// One rule is muted.
+    OneMuted,
+    AllMuted,
 
     BitFlipped,
     ByteChanged,
@@ -63,8 +67,12 @@ pub enum Kind {
     EntryTooLarge,
     /// Counts of more than 8 entries, some of which come to 8 or less where they are added as bytes.
     TooManyEntries,
-    /// The top bit of the positive count is set.
-    Marked,
+    /// The same in a record whose positive count has the top bit set.
+    MarkedTooMany,
+    /// The top bit of some positive counts is another: the file of another table.
+    MarksChanged,
+    /// The top bit of a negative count is set.
+    NegativeMarked,
     /// The end of the positive list is moved by one entry.
     MovedEnd,
     RepeatedEntry,
@@ -84,7 +92,7 @@ pub enum Kind {
     Several,
 }
 
-pub const KINDS: [Kind; 43] = [
+pub const KINDS: [Kind; 47] = [
     Kind::NoRecord,
     Kind::OneRecord,
     Kind::FullBlock,
@@ -92,6 +100,8 @@ pub const KINDS: [Kind; 43] = [
     Kind::TwoFullBlocks,
     Kind::FullTable,
     Kind::AnyTable,
+    Kind::OneMuted,
+    Kind::AllMuted,
     Kind::BitFlipped,
     Kind::ByteChanged,
     Kind::OtherSums,
@@ -117,7 +127,9 @@ pub const KINDS: [Kind; 43] = [
     Kind::HeadTooLarge,
     Kind::EntryTooLarge,
     Kind::TooManyEntries,
-    Kind::Marked,
+    Kind::MarkedTooMany,
+    Kind::MarksChanged,
+    Kind::NegativeMarked,
     Kind::MovedEnd,
     Kind::RepeatedEntry,
     Kind::Descending,
@@ -131,7 +143,7 @@ pub const KINDS: [Kind; 43] = [
 ];
 
 /// How many of the kinds, the first ones, are whole.
-const WHOLE: usize = 7;
+const WHOLE: usize = 9;
 
 /// What is done to a file, and when.
 enum Damage {
@@ -187,7 +199,9 @@ impl Kind {
             Kind::HeadTooLarge => records::head_too_large,
             Kind::EntryTooLarge => records::entry_too_large,
             Kind::TooManyEntries => records::too_many_entries,
-            Kind::Marked => records::marked,
+            Kind::MarkedTooMany => records::marked_too_many,
+            Kind::MarksChanged => records::marks_changed,
+            Kind::NegativeMarked => records::negative_marked,
             Kind::MovedEnd => records::moved_end,
             Kind::RepeatedEntry => records::repeated_entry,
             Kind::Descending => records::descending,
@@ -213,6 +227,7 @@ impl Kind {
             Kind::BlocksSwapped | Kind::ShortBlock => BLOCK_RECORDS + 1,
             Kind::UnusedPlace if random.percent(20) => return 0,
             Kind::UnusedPlace => return random.below(12) * BLOCK_RECORDS + random.between(1, 14),
+            Kind::OneMuted | Kind::AllMuted => 1,
             Kind::SlotsSwapped | Kind::SlotTwice | Kind::SameRule => 2,
             Kind::LongerLoop | Kind::Descending | Kind::SameRuleDescending => 8,
             _ => usize::from(matches!(self.damage(), Damage::Records(_))),
@@ -245,6 +260,11 @@ fn drawn_records(random: &mut Random, kind: Kind) -> Vec<Record> {
             let count = kind.record_count(random);
             program_of(random, count)
         }
+    };
+    let program = match kind {
+        Kind::OneMuted => marked(random, program, Marks::One),
+        Kind::AllMuted => marked(random, program, Marks::All),
+        _ => any_marked(random, program),
     };
     file::records(&program)
 }

@@ -10,6 +10,10 @@ mod file_bytes;
 mod file_records;
 pub mod files;
 pub mod lines;
+mod mark_faults;
+pub mod marks;
+pub mod muting_kinds;
+pub mod mutings;
 pub mod programs;
 pub mod replacement_kinds;
 pub mod replacements;
@@ -26,13 +30,16 @@ pub fn table_of(program: Program) -> RawTable {
     RawTable::keeping(&Labelled::of(program))
 }
 
-/// A sound table of a random flavour, one time in eight an edge table.
+/// A sound table of a random flavour, one time in eight an edge table. Every second one has muted
+/// rules.
 pub fn sound_table(random: &mut Random) -> RawTable {
-    if random.below(8) == 0 {
-        return table_of(random.pick(&edges::programs()).clone());
-    }
-    let flavour = *random.pick(&programs::FLAVOURS);
-    table_of(programs::program(random, flavour))
+    let program = if random.below(8) == 0 {
+        random.pick(&edges::programs()).clone()
+    } else {
+        let flavour = *random.pick(&programs::FLAVOURS);
+        programs::program(random, flavour)
+    };
+    table_of(marks::any_marked(random, program))
 }
 
 /// A table for the question of soundness: sound, damaged in one field, or with a fault.

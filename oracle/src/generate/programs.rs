@@ -1,4 +1,4 @@
-//! Random programs without a loop through a negation, of several flavours.
+//! Random programs without a loop through a negation, of several flavours. No rule is muted; marks.rs mutes some.
 //!
 //! Each atom is put in a layer; a rule's positive entries come from its head's layer or below,
 //! its negative entries from below. So there is no loop through a negation, and every program
@@ -6,7 +6,7 @@
 
 use crate::limits::{ATOMS, ENTRIES, SLOTS};
 use crate::random::Random;
-use crate::rules::{Program, Rule};
+use crate::rules::{holds, Page, Program, Rule};
 
 #[derive(Clone, Copy, PartialEq, Eq, Debug)]
 pub enum Flavour {
@@ -118,13 +118,18 @@ fn some_of(random: &mut Random, atoms: &[u32], most: usize) -> Vec<u32> {
 
 /// Puts the rule in the lowest free slot, unless there is none or the same rule is held.
 fn add_new(program: &mut Program, rule: Rule) {
-    let rule = Some(rule);
-    if program.contains(&rule) {
+    if holds(program, &rule) {
         return;
     }
     if let Some(slot) = program.iter().position(Option::is_none) {
-        program[slot] = rule;
+        program[slot] = Some(Page::unmuted(rule));
     }
+}
+
+/// The rules, each in a slot of its own.
+fn in_slots(rules: Vec<Rule>) -> Program {
+    let pages = rules.into_iter().map(Page::unmuted);
+    pages.map(Some).collect()
 }
 
 /// How many entries a random rule has at most, and how many rules in a hundred are facts.
@@ -194,21 +199,21 @@ pub fn crowded(random: &mut Random, rules: usize) -> Program {
 
 /// A fact and a chain of rules on top of it, put in slots as the order says, with a few
 /// free slots in front now and then.
-fn chain(random: &mut Random, order: fn(&mut Random, &mut Vec<Option<Rule>>)) -> Program {
+fn chain(random: &mut Random, order: fn(&mut Random, &mut Vec<Rule>)) -> Program {
     let all: Vec<u32> = (0..ATOMS as u32).collect();
     let length = random.between(1, SLOTS);
     let mut atoms = random.sample(&all, length);
     if random.percent(50) {
         atoms.sort_unstable();
     }
-    let mut rules = vec![Some(Rule::of(atoms[0], &[], &[]))];
+    let mut rules = vec![Rule::of(atoms[0], &[], &[])];
     for pair in atoms.windows(2) {
-        rules.push(Some(Rule::of(pair[1], &pair[..1], &[])));
+        rules.push(Rule::of(pair[1], &pair[..1], &[]));
     }
     order(random, &mut rules);
     let in_front = random.below(SLOTS - length + 1);
     let mut program: Program = vec![None; in_front];
-    program.append(&mut rules);
+    program.extend(in_slots(rules));
     program.resize(SLOTS, None);
     program
 }
@@ -230,13 +235,14 @@ fn strata(random: &mut Random) -> Program {
         } else {
             Vec::new()
         };
-        rules.push(Some(Rule::of(head, &positives, &negatives)));
+        rules.push(Rule::of(head, &positives, &negatives));
     }
     if random.percent(50) {
         random.shuffle(&mut rules);
     }
-    rules.resize(SLOTS, None);
-    rules
+    let mut program = in_slots(rules);
+    program.resize(SLOTS, None);
+    program
 }
 
 /// Layers on top of one another, with free slots between, in front or behind.

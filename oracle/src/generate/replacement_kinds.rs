@@ -4,7 +4,7 @@ use crate::book::Book;
 use crate::calls::Call;
 use crate::command::{read_line, Line};
 use crate::loops::has_loop_through_negation;
-use crate::rules::{Program, Rule};
+use crate::rules::{Page, Program, Rule};
 use crate::sheet::lines;
 use std::collections::BTreeMap;
 use std::fmt;
@@ -67,12 +67,13 @@ impl Kind {
 
 /// What an accepted replacement came to.
 fn accepted(pages: &Program, slot: u32, new: &Rule, lists: [&[u32]; 2]) -> Kind {
-    if pages[slot as usize].as_ref() == Some(new) {
+    let old = pages[slot as usize].as_ref();
+    if old.is_some_and(|page| page.rule == *new) {
         let kept = new.positives.iter().eq(lists[0]) && new.negatives.iter().eq(lists[1]);
         return if kept { Kind::Itself } else { Kind::Reordered };
     }
     let mut both = pages.clone();
-    both.push(Some(new.clone()));
+    both.push(Some(Page::unmuted(new.clone())));
     if has_loop_through_negation(&both) {
         Kind::LoopWithOld
     } else {

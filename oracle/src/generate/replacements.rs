@@ -6,7 +6,7 @@ use crate::generate::faults::any_of;
 use crate::limits::{ATOMS, ENTRIES};
 use crate::loops::{dependencies, has_loop_through_negation, walk};
 use crate::random::Random;
-use crate::rules::{held, Program, Rule};
+use crate::rules::{held, holds, Page, Program, Rule};
 
 /// What a replacement is drawn for.
 #[derive(Clone, Copy, PartialEq, Eq, Debug)]
@@ -136,7 +136,7 @@ fn reordered(random: &mut Random, pages: &Program) -> Option<(u32, Named)> {
 /// Whether the rule and the program together have a loop through a negation.
 fn loops(program: &Program, rule: &Rule) -> bool {
     let mut program = program.clone();
-    program.push(Some(rule.clone()));
+    program.push(Some(Page::unmuted(rule.clone())));
     has_loop_through_negation(&program)
 }
 
@@ -168,7 +168,7 @@ fn loop_with_old(random: &mut Random, pages: &Program) -> Option<(u32, Named)> {
         rule.negatives.insert(old.head);
     }
     let rest = without(pages, slot);
-    let passes = !rest.contains(&Some(rule.clone())) && !loops(&rest, &rule);
+    let passes = !holds(&rest, &rule) && !loops(&rest, &rule);
     passes.then(|| (slot, Named::of(&rule)))
 }
 

@@ -53,6 +53,7 @@ impl List {
                 self.words.extend([7, *slot, *head, p, n]);
                 self.words.extend(positives.iter().chain(negatives));
             }
+            Call::Mute { slot, mark } => self.words.extend([8, *slot, *mark]),
             Call::Load { bytes } => {
                 self.files.resize(self.files.len() + random.below(3), 0);
                 let from = self.files.len() as u32;
@@ -109,6 +110,7 @@ fn on_rules(random: &mut Random) -> List {
         let call = match random.below(100) {
             share if share < removals => calls.removal(random),
             share if share < removals + loads => calls.load(random),
+            70..80 => calls.muting(random),
             80.. => calls.replacement(random),
             _ => calls.addition(random),
         };
@@ -131,7 +133,7 @@ fn whole(random: &mut Random) -> List {
 /// that is far too large.
 fn any(random: &mut Random) -> u32 {
     match random.below(5) {
-        0 => random.below(9) as u32,
+        0 => random.below(10) as u32,
         1 => random.below(12) as u32,
         2 => 512 * random.below(14) as u32,
         3 => random.word() as u32,

@@ -1,6 +1,6 @@
 //! The deposit checklist: its rules by hand, its refusals in their order, and what is none.
 
-use crate::notation::{add, labels, program, rule, table};
+use crate::notation::{add, labels, page, program, table};
 use oracle::calls::{self, Call, Lent};
 use oracle::checklist::{
     complete, file_sent, file_skipped, frame_rule, missing, open, skip_withdrawn,
@@ -8,7 +8,7 @@ use oracle::checklist::{
 use oracle::generate::table_of;
 use oracle::labels::Label;
 use oracle::questions::Refusal;
-use oracle::rules::{held, Program};
+use oracle::rules::{held, Page, Program};
 use oracle::sound::{sound, sound_rules};
 use oracle::table::RawTable;
 
@@ -77,7 +77,7 @@ fn the_frame_of_sixty_files_ends_at_atom_180() {
     let table = opened(60);
     let program = rules(&table);
     assert_eq!(held(&program).count(), 61);
-    assert_eq!(program[60], Some(rule("180 < 177 178 !179")));
+    assert_eq!(program[60], Some(page("180 < 177 178 !179")));
     assert_eq!(listed(&table), (1..=60).collect::<Vec<u32>>());
 }
 
@@ -195,13 +195,13 @@ fn a_mark_that_an_addition_put_in_counts_in_any_slot() {
     assert_eq!(complete(&table), Ok(true));
     for slot in [3, 5, 200, 255] {
         let mut program = program(&["0 <", "3 < 0 1 !2", "6 < 3 4 !5"]);
-        (program[slot], program[100]) = (Some(rule("5 <")), Some(rule("1 <")));
+        (program[slot], program[100]) = (Some(page("5 <")), Some(page("1 <")));
         let mut table = table_of(program);
         assert_eq!(listed(&table), [2], "slot {slot}");
         assert_eq!(file_skipped(&mut table, 2), Err(Refusal::MarkUnchanged));
         assert_eq!(skip_withdrawn(&mut table, 2), Ok(()));
         assert_eq!(rules(&table)[slot], None);
-        assert_eq!(rules(&table)[100], Some(rule("1 <")));
+        assert_eq!(rules(&table)[100], Some(page("1 <")));
     }
 }
 
@@ -225,7 +225,7 @@ fn every_rule_of_the_frame_is_needed_in_its_slot() {
                 assert_none(&table, "a rule is gone");
             }
             let mut program = rules(&table);
-            program[200] = Some(frame_rule(slot));
+            program[200] = Some(Page::unmuted(frame_rule(slot)));
             assert_none(&table_of(program), "a rule stands elsewhere");
         }
     }
@@ -299,7 +299,8 @@ fn a_mark_of_one_file_more_is_no_checklist_until_the_list_has_it() {
 #[test]
 fn a_frame_of_sixty_one_files_is_no_checklist() {
     let program = |last: u32| -> Program {
-        let mut rules: Program = (0..=last).map(|slot| Some(frame_rule(slot))).collect();
+        let frame = (0..=last).map(|slot| Page::unmuted(frame_rule(slot)));
+        let mut rules: Program = frame.map(Some).collect();
         rules.resize(256, None);
         rules
     };
@@ -310,6 +311,39 @@ fn a_frame_of_sixty_one_files_is_no_checklist() {
         assert_eq!(add(&mut table, mark), Ok(61));
         assert_none(&table, mark);
     }
+}
+
+#[test]
+fn a_checklist_with_a_muted_rule_is_none_until_it_is_unmuted() {
+    let mut table = opened(2);
+    for file in [1, 2] {
+        assert_eq!(file_sent(&mut table, file), Ok(()));
+    }
+    assert_eq!(file_skipped(&mut table, 2), Ok(()));
+    let before = table.clone();
+    // Slots 0 to 2 are the frame, 3 and 4 say that the files are sent, 5 that the last one is skipped.
+    for slot in 0..6 {
+        assert_eq!(calls::mute(&mut table, slot, 1), Ok(()));
+        assert!(sound(&table));
+        assert_none(&table, &format!("slot {slot} is muted"));
+        assert_eq!(calls::mute(&mut table, slot, 0), Ok(()));
+        assert_eq!(table, before);
+        assert_eq!(listed(&table), [2], "slot {slot} is unmuted");
+    }
+}
+
+#[test]
+fn a_muted_rule_is_neither_a_mark_that_stands_nor_one_that_does_not() {
+    let mut table = opened(1);
+    assert_eq!(file_sent(&mut table, 1), Ok(()));
+    assert_eq!(calls::mute(&mut table, 2, 1), Ok(()));
+    assert_none(&table, "1 is sent, and that is muted");
+    assert_eq!(add(&mut table, "1 <"), Err(5), "it is held");
+    assert_eq!(calls::remove(&mut table, 2), Ok(()));
+    assert_eq!(listed(&table), [1]);
+    assert_eq!(add(&mut table, "9 <"), Ok(2));
+    assert_eq!(calls::mute(&mut table, 2, 1), Ok(()));
+    assert_none(&table, "a rule too many, though it is muted");
 }
 
 #[test]

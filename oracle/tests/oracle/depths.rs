@@ -1,14 +1,13 @@
 //! Depth and supporting slot, against every derivation written out.
 
-use crate::notation::{labels, table};
+use crate::notation::{labels, of_flavours, small_marked, table};
 use oracle::alternation::model;
 use oracle::atoms::AtomSet;
 use oracle::depth::depths;
 use oracle::generate::edges;
-use oracle::generate::programs::{program as of_flavour, small, FLAVOURS};
 use oracle::labels::{Label, Labelled};
 use oracle::random::Random;
-use oracle::rules::{held, Program, Rule};
+use oracle::rules::{unmuted, Page, Program, Rule};
 use std::collections::BTreeSet;
 
 /// A derivation: the slot of its last rule, and one of each positive entry.
@@ -25,12 +24,12 @@ impl Derivation {
 }
 
 /// Every derivation of the atom of at most that many levels.
-fn derivations(program: &[Option<Rule>], m: &AtomSet, atom: u32, levels: u32) -> Vec<Derivation> {
+fn derivations(program: &[Option<Page>], m: &AtomSet, atom: u32, levels: u32) -> Vec<Derivation> {
     if levels == 0 {
         return Vec::new();
     }
     let mut found = Vec::new();
-    for (slot, rule) in held(program).filter(|(_, rule)| rule.head == atom && rule.valid_in(m)) {
+    for (slot, rule) in unmuted(program).filter(|(_, rule)| rule.head == atom && rule.valid_in(m)) {
         let mut bodies: Vec<Vec<Derivation>> = vec![Vec::new()];
         for &entry in &rule.positives {
             let of_entry = derivations(program, m, entry, levels - 1);
@@ -53,10 +52,10 @@ fn least_height(all: &[Derivation]) -> Option<u32> {
 
 /// At most two positive entries each, so that the derivations stay few enough to write out.
 fn narrow_program(random: &mut Random) -> Program {
-    let mut program = small(random, 5, 8, 8);
-    for rule in program.iter_mut().flatten() {
+    let mut program = small_marked(random, 5, 8);
+    for page in program.iter_mut().flatten() {
         let most = random.between(1, 2);
-        rule.positives = rule.positives.iter().copied().take(most).collect();
+        page.rule.positives = page.rule.positives.iter().copied().take(most).collect();
     }
     program
 }
@@ -65,7 +64,7 @@ fn narrow_program(random: &mut Random) -> Program {
 fn depth_is_the_least_height_of_a_derivation() {
     let mut random = Random::seeded(31);
     let mut deepest = 0;
-    for _ in 0..3_000 {
+    for _ in 0..6_000 {
         let program = narrow_program(&mut random);
         let m = model(&program).expect("a program without loops through a negation");
         let depths = depths(&program, &m);
@@ -92,7 +91,7 @@ fn depth_is_the_least_height_of_a_derivation() {
 #[test]
 fn on_large_tables_depths_are_one_more_than_what_the_best_rule_rests_on() {
     let mut random = Random::seeded(33);
-    let generated = (0..180).map(|round| of_flavour(&mut random, FLAVOURS[round % FLAVOURS.len()]));
+    let generated = of_flavours(&mut random, 180).into_iter();
     for program in generated.chain(edges::programs()) {
         let m = model(&program).expect("no loop through a negation");
         let depths = depths(&program, &m);
@@ -103,7 +102,8 @@ fn on_large_tables_depths_are_one_more_than_what_the_best_rule_rests_on() {
                 .max()
         };
         for atom in m.ascending() {
-            let valid = held(&program).filter(|(_, rule)| rule.head == atom && rule.valid_in(&m));
+            let valid =
+                unmuted(&program).filter(|(_, rule)| rule.head == atom && rule.valid_in(&m));
             let least = valid.map(|(_, rule)| 1 + rests_on(rule).unwrap_or(0)).min();
             assert_eq!(depths[atom as usize], least, "{atom} in {program:?}");
         }
@@ -126,7 +126,9 @@ fn the_supporting_rule_is_the_lowest_valid_one_with_smaller_depths_below() {
                 rule.positives.iter().all(|&entry| labelled.is_in(entry))
                     && rule.negatives.iter().all(|&entry| !labelled.is_in(entry))
             };
-            for (other, rule) in held(&labelled.program).filter(|(_, rule)| rule.head == atom) {
+            let of_atom = || unmuted(&labelled.program).filter(|(_, rule)| rule.head == atom);
+            assert!(of_atom().any(|(other, _)| other == slot), "{labelled:?}");
+            for (other, rule) in of_atom() {
                 assert!(
                     other != slot || valid(rule) && below(rule),
                     "{atom} in {labelled:?}"
@@ -156,7 +158,7 @@ fn a_derivation_of_least_height_may_end_in_another_rule_than_the_supporting_one(
 
 #[test]
 fn every_derivation_of_a_fact_alone_is_the_fact() {
-    let program = vec![Some(Rule::of(1, &[], &[]))];
+    let program = vec![Some(Page::unmuted(Rule::of(1, &[], &[])))];
     let m: AtomSet = [1].into_iter().collect();
     let all = derivations(&program, &m, 1, 9);
     assert_eq!((all.len(), all[0].slot, all[0].height()), (1, 0, 1));
@@ -169,7 +171,8 @@ fn depth_runs_to_the_number_of_atoms_whichever_way_the_slots_go() {
         positives: atom.checked_sub(1).into_iter().collect(),
         negatives: BTreeSet::new(),
     };
-    let up: Program = (0..256).map(|atom| Some(chain(atom))).collect();
+    let up = (0..256).map(|atom| Page::unmuted(chain(atom)));
+    let up: Program = up.map(Some).collect();
     let down: Program = up.iter().rev().cloned().collect();
     for (program, first_slot) in [(up, 0i64), (down, 255)] {
         let labelled = Labelled::of(program);

@@ -99,7 +99,7 @@ fn calls_answer_as_the_book_does_and_meet_every_refusal() {
 fn checklists_are_completed_broken_and_mended() {
     let mut random = Random::seeded(303);
     let (mut completed, mut broken, mut mended, mut long) = (0, 0, 0, 0);
-    for _ in 0..40 {
+    for _ in 0..60 {
         let mut drawn = Checklists::start();
         let mut book = Book::empty();
         let mut was = None;
@@ -130,7 +130,7 @@ fn kinds(words: &[u32]) -> (Vec<u32>, Option<(u32, usize)>) {
     while let Some(&kind) = rest.first() {
         let length = match (kind, rest) {
             (0 | 3..=6, _) => 2,
-            (2, _) => 3,
+            (2 | 8, _) => 3,
             (1, [_, _, p, n, ..]) => 4 + *p as usize + *n as usize,
             (7, [_, _, _, p, n, ..]) => 5 + *p as usize + *n as usize,
             _ => return (met, Some((kind, rest.len()))),
@@ -158,10 +158,10 @@ fn lists_of_numbers_have_every_kind_some_cut_and_some_that_is_none() {
             ends.extend(end);
         }
     }
-    for kind in 0..=7 {
+    for kind in 0..=8 {
         assert!(met.get(&kind).is_some_and(|&n| n > 100), "{kind}: {met:?}");
     }
-    for kind in 3..=7 {
+    for kind in 3..=8 {
         assert!(
             ends.contains(&(kind, 1)),
             "{kind} without its number: {ends:?}"
@@ -170,7 +170,8 @@ fn lists_of_numbers_have_every_kind_some_cut_and_some_that_is_none() {
     for words in 2..=6 {
         assert!(ends.contains(&(7, words)), "7 and {words}: {ends:?}");
     }
-    assert!(ends.iter().any(|&(kind, words)| kind == 8 && words > 1));
+    assert!(ends.contains(&(8, 2)), "8 and a slot: {ends:?}");
+    assert!(ends.iter().any(|&(kind, words)| kind == 9 && words > 1));
 }
 
 #[test]

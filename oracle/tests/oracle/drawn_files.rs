@@ -7,7 +7,7 @@ use oracle::generate::files::{file, Kind, KINDS};
 use oracle::generate::words::{list, Ending};
 use oracle::random::Random;
 use oracle::replay::replay;
-use oracle::rules::held;
+use oracle::rules::{held, muted};
 use oracle::table::RawTable;
 use std::collections::BTreeMap;
 
@@ -38,6 +38,12 @@ fn whole_files_are_accepted_and_have_the_records_that_they_are_called_after() {
             assert_eq!(held(&rules).count(), size, "{kind:?}");
         }
     }
+    for _ in 0..20 {
+        let one = read(&file(&mut random, Kind::OneMuted)).expect("a whole file");
+        assert_eq!(muted(&one).count(), 1);
+        let all = read(&file(&mut random, Kind::AllMuted)).expect("a whole file");
+        assert_eq!(muted(&all).count(), held(&all).count());
+    }
     for kind in KINDS.into_iter().filter(|kind| !kind.is_damaged()) {
         assert_eq!(met(&mut random, kind, 20), BTreeMap::from([(0, 20)]));
     }
@@ -61,7 +67,7 @@ const FOR_18: [Kind; 8] = [
     Kind::ShortBlock,
     Kind::EmptyLastBlock,
 ];
-const FOR_19: [Kind; 18] = [
+const FOR_19: [Kind; 19] = [
     Kind::ByteChangedSummed,
     Kind::UnusedPlace,
     Kind::BehindPlaces,
@@ -72,7 +78,8 @@ const FOR_19: [Kind; 18] = [
     Kind::HeadTooLarge,
     Kind::EntryTooLarge,
     Kind::TooManyEntries,
-    Kind::Marked,
+    Kind::MarkedTooMany,
+    Kind::NegativeMarked,
     Kind::RepeatedEntry,
     Kind::Descending,
     Kind::SameRule,
@@ -105,6 +112,7 @@ fn some_damages_meet_several_refusals_or_make_another_table() {
         (Kind::WrongRecordCount, vec![18, 19]),
         (Kind::ByteChangedSummed, vec![0, 18, 19]),
         (Kind::MovedEnd, vec![0, 19]),
+        (Kind::MarksChanged, vec![0]),
         (Kind::Several, vec![16, 17, 18, 19]),
     ];
     for (kind, numbers) in several {
@@ -112,6 +120,36 @@ fn some_damages_meet_several_refusals_or_make_another_table() {
         for number in numbers {
             assert!(met.contains_key(&number), "{kind:?}: {met:?}");
         }
+    }
+}
+
+#[test]
+fn a_changed_mark_is_the_file_of_another_table() {
+    let mut random = Random::seeded(216);
+    let mut marked = 0;
+    for _ in 0..200 {
+        let rules = read(&file(&mut random, Kind::MarksChanged)).expect("a file of another table");
+        marked += usize::from(muted(&rules).next().is_some());
+    }
+    assert!(marked > 100, "{marked}");
+}
+
+/// Has a record of the file the top bit of its positive count set? Of any bytes.
+fn has_a_mark(bytes: &[u8]) -> bool {
+    bytes.chunks_exact(512).any(|block| {
+        let places = block[6..490].chunks(22);
+        places
+            .take(usize::from(block[4]))
+            .any(|place| place[4] >= 0x80)
+    })
+}
+
+#[test]
+fn files_of_each_damage_have_marks_too() {
+    let mut random = Random::seeded(217);
+    for kind in FOR_19 {
+        let marked = (0..60).filter(|_| has_a_mark(&file(&mut random, kind)));
+        assert!(marked.count() > 10, "{kind:?}");
     }
 }
 

@@ -60,7 +60,7 @@ impl Orders {
 fn additions_come_in_any_order_and_again_in_another() {
     let mut random = Random::seeded(106);
     let mut orders = Orders::default();
-    for round in 0..150 {
+    for round in 0..200 {
         let mut book = Book::empty();
         let mut calls = Calls::on(&RawTable::empty(), [4, 8, 20, 60, 256][round % 5], 20);
         for _ in 0..100 {

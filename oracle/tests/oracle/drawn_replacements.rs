@@ -94,7 +94,7 @@ fn a_kind_that_never_came_up_is_not_enough() {
     let mut random = Random::seeded(406);
     let mut seen = Seen::default();
     assert!(!seen.is_enough(&[], 1));
-    for _ in 0..60 {
+    for _ in 0..150 {
         let mut table = sound_table(&mut random);
         follow(&mut random, &mut table, &mut seen, 40);
     }

@@ -1,6 +1,6 @@
 //! Refusals of files: what meets each, and the order in which they are asked.
 
-use crate::notation::{program, rule};
+use crate::notation::{page, program};
 use oracle::book::Book;
 use oracle::file::{blocks, put_sums_right, read, records, write, Record};
 use oracle::rules::Program;
@@ -160,7 +160,7 @@ fn each_byte_of_filler_is_asked() {
 /// What is changed, in words, and the change.
 type Change = (&'static str, fn(&mut Vec<Record>));
 
-const CHANGES: [Change; 26] = [
+const CHANGES: [Change; 29] = [
     ("two slots swapped", |r| {
         (r[6].slot, r[7].slot) = (r[7].slot, r[6].slot)
     }),
@@ -183,11 +183,18 @@ const CHANGES: [Change; 26] = [
     ("counts that wrap to 0", |r| {
         (r[5].positives, r[5].negatives) = (255, 1)
     }),
-    ("the top bit of the positive count", |r| {
-        r[0].positives |= 128
-    }),
     ("the top bit of the negative count", |r| {
         r[0].negatives |= 128
+    }),
+    ("the top bits of both counts", |r| {
+        (r[0].positives, r[0].negatives) = (3 + 128, 2 + 128)
+    }),
+    ("the mark and nine positives", |r| r[5].positives = 128 + 9),
+    ("the mark and counts that wrap to 5", |r| {
+        (r[0].positives, r[0].negatives) = (128 + 125, 8)
+    }),
+    ("the mark and a positive too many", |r| {
+        r[0].positives = 128 + 4
     }),
     ("a positive twice", |r| r[0].entries[1] = 1),
     ("a negative twice", |r| r[0].entries[4] = 101),
@@ -218,7 +225,7 @@ const CHANGES: [Change; 26] = [
 
 /// The record of a rule in slot 0.
 fn record(text: &str) -> Record {
-    records(&[Some(rule(text))]).remove(0)
+    records(&[Some(page(text))]).remove(0)
 }
 
 #[test]
@@ -241,10 +248,10 @@ fn with_counts(positives: u8, negatives: u8) -> u32 {
 #[test]
 fn counts_past_eight_are_19_though_what_stands_there_are_lists() {
     for positives in 0..=255u8 {
-        // Both counts together come to about eight, as they are or as bytes.
-        for sum in 6..=10u8 {
-            let negatives = sum.wrapping_sub(positives);
-            let expected = match u32::from(positives) + u32::from(negatives) {
+        // Both counts together come to about eight, with the mark or without, as they are or as bytes.
+        let sums = (6..=10u8).chain(128 + 6..=128 + 10);
+        for negatives in sums.map(|sum| sum.wrapping_sub(positives)) {
+            let expected = match u32::from(positives & 0x7f) + u32::from(negatives) {
                 8 => 0,
                 _ => 19,
             };
@@ -253,6 +260,53 @@ fn counts_past_eight_are_19_though_what_stands_there_are_lists() {
         }
         assert_eq!(with_counts(positives, 255), 19);
         assert_eq!(with_counts(255, positives), 19);
+    }
+}
+
+/// The fifty rules with the marks of these slots.
+fn fifty_muted(slots: &[usize]) -> Program {
+    let mut rules = fifty();
+    for &slot in slots {
+        rules[slot].as_mut().expect("a rule").muted = true;
+    }
+    rules
+}
+
+#[test]
+fn the_top_bit_of_a_positive_count_is_the_mark_of_its_rule() {
+    // Records 0, 21, 22 and 49 hold what slots 1, 43, 45 and 99 hold.
+    for (places, slots) in [
+        (&[0][..], &[1][..]),
+        (&[21, 22], &[43, 45]),
+        (&[0, 49], &[1, 99]),
+    ] {
+        let mut changed = records(&fifty());
+        for &place in places {
+            changed[place].positives |= 0x80;
+        }
+        assert_eq!(read(&blocks(&changed)), Ok(fifty_muted(slots)));
+        assert_eq!(write(&fifty_muted(slots)), blocks(&changed));
+    }
+}
+
+#[test]
+fn a_muted_rule_counts_for_sameness_and_loops_in_a_file_too() {
+    let same: fn(&mut Vec<Record>) = |r| {
+        r[9].head = r[30].head;
+        r[9].positives |= 0x80;
+    };
+    let negates_itself: fn(&mut Vec<Record>) = |r| {
+        let slot = r[9].slot;
+        r[9] = record("~7 < !7");
+        r[9].slot = slot;
+    };
+    let both_in_a_loop: fn(&mut Vec<Record>) = |r| {
+        let slots = (r[9].slot, r[49].slot);
+        (r[9], r[49]) = (record("~103 < 104"), record("~104 < 100"));
+        (r[9].slot, r[49].slot) = slots;
+    };
+    for change in [same, negates_itself, both_in_a_loop] {
+        assert_eq!(with_records(change), 19);
     }
 }
 

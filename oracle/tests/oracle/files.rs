@@ -1,16 +1,15 @@
 //! Files: what is written, byte by byte, and that what was written is what is read.
 
-use crate::notation::{program, rule, table};
+use crate::notation::{of_flavours, page, program, table};
 use oracle::calls;
 use oracle::file::{read, sums, write};
 use oracle::generate::files::{file, KINDS};
-use oracle::generate::programs::{program as of_flavour, FLAVOURS};
 use oracle::generate::{edges, table_of};
 use oracle::questions::Refusal;
 use oracle::random::Random;
-use oracle::rules::{held, Program, Rule};
+use oracle::rules::{held, Page, Program, Rule};
 use oracle::sound::sound_rules;
-use oracle::table::{RawRule, RawTable, HELD};
+use oracle::table::{RawRule, RawTable, HELD, MUTED};
 
 /// A block that is zero but for these bytes, each at its place.
 fn block(bytes: &[(usize, &[u8])]) -> Vec<u8> {
@@ -23,7 +22,7 @@ fn block(bytes: &[(usize, &[u8])]) -> Vec<u8> {
 
 /// Facts in so many slots, the first ones.
 fn facts(count: u32) -> Program {
-    let fact = |head: u32| (head < count).then(|| Rule::of(head, &[], &[]));
+    let fact = |head: u32| (head < count).then(|| Page::unmuted(Rule::of(head, &[], &[])));
     (0..256).map(fact).collect()
 }
 
@@ -38,7 +37,7 @@ fn the_empty_table_is_one_block_of_no_records() {
 #[test]
 fn a_record_has_slot_head_counts_positives_and_negatives_right_behind_them() {
     let mut rules = program(&[]);
-    rules[3] = Some(rule("200 < 255 1 !7"));
+    rules[3] = Some(page("200 < 255 1 !7"));
     // A is 1 + 1 + 1 + 3 + 200 + 2 + 1 + 1 + 255 + 7 = 472. B is 508 and each byte by 508 less its place:
     // 506 + 504 + 3 * 502 + 200 * 500 + 2 * 498 + 497 + 496 + 255 * 494 + 7 * 492 + 508 = 3 * 65536 + 37819.
     let expected = block(&[
@@ -48,6 +47,49 @@ fn a_record_has_slot_head_counts_positives_and_negatives_right_behind_them() {
     ]);
     assert_eq!(write(&rules), expected);
     assert_eq!(read(&expected), Ok(rules));
+}
+
+#[test]
+fn the_top_bit_of_the_positive_count_is_the_mark() {
+    let mut rules = program(&[]);
+    rules[3] = Some(page("~200 < 255 1 !7"));
+    rules[9] = Some(page("~0 <"));
+    rules[10] = Some(page("1 <"));
+    // The record in slot 3 has the count 2, those in slots 9 and 10 have 0. A is that of the unmuted rule alone, 472,
+    // with two records more in the header, 128 twice, and 9, 10, 1: 472 + 2 + 256 + 20 = 750. B likewise: 37819 and
+    // 2 * 504 + 128 * 498 + 9 * 480 + 128 * 476 + 10 * 458 + 456 = 135036, all of it 172855 = 2 * 65536 + 41783.
+    let expected = block(&[
+        (0, &[0, 0, 1, 0, 3, 0]),
+        (6, &[3, 0, 200, 0, 0x82, 1, 1, 0, 255, 0, 7, 0]),
+        (28, &[9, 0, 0, 0, 0x80, 0]),
+        (50, &[10, 0, 1, 0, 0, 0]),
+        (508, &[0xee, 2, 0x37, 0xa3]),
+    ]);
+    assert_eq!(write(&rules), expected);
+    assert_eq!(read(&expected), Ok(rules));
+}
+
+#[test]
+fn eight_positives_and_the_mark_are_0x88() {
+    for (text, count) in [
+        ("~9 < 1 2 3 4 5 6 7 8", 0x88),
+        ("9 < 1 2 3 4 5 6 7 8", 8),
+        ("~9 < !1 !2 !3 !4 !5 !6 !7 !8", 0x80),
+        ("~9 < 1 !1", 0x81),
+    ] {
+        let bytes = write(&program(&[text]));
+        assert_eq!(bytes[10], count, "{text}");
+        assert_eq!(read(&bytes), Ok(program(&[text])));
+    }
+}
+
+#[test]
+fn loading_hands_back_the_marks_and_the_labels_that_they_leave() {
+    let table = table(&["~1 <", "2 < !1", "~3 < 2"]);
+    let mut bytes = [0; 512];
+    assert_eq!(calls::save(&table, &mut bytes), Ok(512));
+    assert_eq!([bytes[10], bytes[32], bytes[54]], [0x80, 0, 0x81]);
+    assert_eq!(calls::load(&bytes), (Ok(()), table));
 }
 
 #[test]
@@ -109,7 +151,7 @@ fn both_sums_start_over_past_65535() {
 #[test]
 fn reading_what_was_written_gives_the_same_rules_in_the_same_slots() {
     let mut random = Random::seeded(202);
-    let drawn = (0..270).map(|round| of_flavour(&mut random, FLAVOURS[round % FLAVOURS.len()]));
+    let drawn = of_flavours(&mut random, 270).into_iter();
     for rules in drawn.chain(edges::programs()) {
         let bytes = write(&rules);
         assert_eq!(bytes.len(), 512 * held(&rules).count().div_ceil(22).max(1));
@@ -125,10 +167,11 @@ fn taken_as_it_stands(bytes: &[u8]) -> Option<RawTable> {
         for place in 0..usize::from(number(4)).min(22) {
             let at = 6 + 22 * place;
             let slot = table.rules.get_mut(usize::from(number(at)))?;
+            let muted = block[at + 4] & 0x80 != 0;
             *slot = RawRule {
-                state: HELD,
+                state: if muted { MUTED } else { HELD },
                 head: number(at + 2),
-                positives: block[at + 4],
+                positives: block[at + 4] & 0x7f,
                 negatives: block[at + 5],
                 entries: std::array::from_fn(|entry| number(at + 6 + 2 * entry)),
             };
@@ -163,8 +206,8 @@ fn a_file_is_accepted_exactly_if_it_is_the_one_that_its_table_writes() {
 #[test]
 fn loading_a_saved_table_hands_back_the_same_table() {
     let mut random = Random::seeded(204);
-    for round in 0..180 {
-        let table = table_of(of_flavour(&mut random, FLAVOURS[round % FLAVOURS.len()]));
+    for program in of_flavours(&mut random, 180) {
+        let table = table_of(program);
         let mut bytes = vec![0; 12 * 512];
         let count = calls::save(&table, &mut bytes).expect("a sound table and room") as usize;
         assert_eq!(calls::load(&bytes[..count]), (Ok(()), table));

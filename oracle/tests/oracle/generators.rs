@@ -10,7 +10,7 @@ use oracle::loops::has_loop_through_negation;
 use oracle::questions::rule_from;
 use oracle::random::Random;
 use oracle::rounds::rounds;
-use oracle::rules::{held, Program};
+use oracle::rules::{held, holds, Program};
 use oracle::sound::sound;
 use oracle::strata::layers;
 use oracle::table::RawTable;
@@ -26,10 +26,7 @@ fn assert_sound_rules(program: &Program) {
             rule_from(rule.head, &positives, &negatives).as_ref(),
             Ok(rule)
         );
-        assert!(
-            !program[..slot as usize].contains(&Some(rule.clone())),
-            "{rule:?} twice"
-        );
+        assert!(!holds(&program[..slot as usize], rule), "{rule:?} twice");
     }
 }
 

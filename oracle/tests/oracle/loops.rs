@@ -1,14 +1,15 @@
 //! Loops through a negation: the walk against the closure of the dependencies.
 
 use crate::notation::program;
+use oracle::generate::marks::any_marked;
 use oracle::generate::programs::unlayered;
 use oracle::loops::has_loop_through_negation;
 use oracle::random::Random;
-use oracle::rules::{held, Rule};
+use oracle::rules::{held, Page};
 
 /// Closes "depends on" and "depends on with a negative step" over all atoms in between, and
 /// looks for an atom that depends on itself in the second way.
-fn closure_has_loop(program: &[Option<Rule>], atoms: usize) -> bool {
+fn closure_has_loop(program: &[Option<Page>], atoms: usize) -> bool {
     let mut plain = vec![vec![false; atoms]; atoms];
     let mut negative = plain.clone();
     for (_, rule) in held(program) {
@@ -37,6 +38,7 @@ fn the_walk_finds_what_the_closure_finds() {
     let mut seen = [0, 0];
     for _ in 0..4_000 {
         let program = unlayered(&mut random, 9, 7);
+        let program = any_marked(&mut random, program);
         let found = has_loop_through_negation(&program);
         assert_eq!(found, closure_has_loop(&program, 9), "{program:?}");
         seen[usize::from(found)] += 1;
@@ -73,6 +75,19 @@ fn texts(rules: &[String]) -> Vec<&str> {
 fn an_atom_in_both_lists_makes_the_head_depend_on_it_both_ways() {
     assert!(has_loop_through_negation(&program(&["1 < 2 !2", "2 < 1"])));
     assert!(!has_loop_through_negation(&program(&["1 < 2 !2", "2 < 3"])));
+}
+
+#[test]
+fn marks_play_no_part() {
+    for rules in [
+        &["~1 < !1"][..],
+        &["~1 < !2", "2 < 1"],
+        &["1 < !2", "~2 < 1"],
+        &["~1 < !2", "~2 < 3", "~3 < 1"],
+    ] {
+        assert!(has_loop_through_negation(&program(rules)), "{rules:?}");
+    }
+    assert!(!has_loop_through_negation(&program(&["~1 < 2", "~2 < 1"])));
 }
 
 #[test]

@@ -1,8 +1,12 @@
-//! The notation of document 01's small tables: `1 < 2 !3` is head 1, positive 2, negative 3.
+//! The notation of document 01's small tables: `1 < 2 !3` is head 1, positive 2, negative 3. A muted rule has a `~` in
+//! front.
 
 use oracle::calls;
+use oracle::generate::marks::any_marked;
+use oracle::generate::programs::{program as of_flavour, small, FLAVOURS};
 use oracle::limits::{ATOMS, SLOTS};
-use oracle::rules::{Program, Rule};
+use oracle::random::Random;
+use oracle::rules::{Page, Program, Rule};
 use oracle::sheet::shown;
 use oracle::table::RawTable;
 
@@ -28,11 +32,41 @@ pub fn rule(text: &str) -> Rule {
     Rule::of(head, &positives, &negatives)
 }
 
+/// A rule and its mark.
+pub fn page(text: &str) -> Page {
+    match text.strip_prefix('~') {
+        Some(muted) => Page::muted(rule(muted)),
+        None => Page::unmuted(rule(text)),
+    }
+}
+
+/// What the slots from 0 on hold.
+pub fn pages(texts: &[&str]) -> Program {
+    texts.iter().map(|text| Some(page(text))).collect()
+}
+
 /// The rules in the slots from 0 on, the other slots free.
 pub fn program(rules: &[&str]) -> Program {
-    let mut program: Program = rules.iter().map(|text| Some(rule(text))).collect();
+    let mut program = pages(rules);
     program.resize(SLOTS, None);
     program
+}
+
+/// A small program of at most that many atoms and rules, half of the time with muted rules.
+pub fn small_marked(random: &mut Random, atoms: usize, rules: usize) -> Program {
+    let program = small(random, atoms, rules, 16);
+    any_marked(random, program)
+}
+
+/// So many programs of every flavour in turn, half of them with muted rules.
+pub fn of_flavours(random: &mut Random, count: usize) -> Vec<Program> {
+    let flavours = FLAVOURS.iter().cycle().take(count);
+    flavours
+        .map(|&flavour| {
+            let program = of_flavour(random, flavour);
+            any_marked(random, program)
+        })
+        .collect()
 }
 
 /// The slot that the added rule takes, or the number of the refusal.
@@ -48,11 +82,20 @@ pub fn replace(table: &mut RawTable, slot: u32, text: &str) -> Result<(), u32> {
     answer.map_err(|refusal| refusal.number())
 }
 
-/// The table after adding the rules to the empty one; their slots count from 0.
+/// Sets the mark of the slot; the number of the refusal where it is refused.
+pub fn mute(table: &mut RawTable, slot: u32, mark: u32) -> Result<(), u32> {
+    calls::mute(table, slot, mark).map_err(|refusal| refusal.number())
+}
+
+/// The table after adding the rules to the empty one and muting those that are to be muted; their slots count from 0.
 pub fn table(rules: &[&str]) -> RawTable {
     let mut table = RawTable::empty();
     for (slot, text) in (0..).zip(rules) {
-        assert_eq!(add(&mut table, text), Ok(slot), "adding {text}");
+        let added = add(&mut table, text.trim_start_matches('~'));
+        assert_eq!(added, Ok(slot), "adding {text}");
+        if text.starts_with('~') {
+            assert_eq!(mute(&mut table, slot, 1), Ok(()), "muting {text}");
+        }
     }
     table
 }

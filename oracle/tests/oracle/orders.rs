@@ -59,7 +59,7 @@ fn a_rule_is_held_ascending_in_the_slot_and_on_the_page() {
     let mut book = Book::empty();
     assert_eq!(book.add(5, &[3, 1, 2], &[9, 0, 4]), Ok(0));
     let page = book.pages()[0].as_ref().expect("a rule");
-    assert_eq!(page.entries().collect::<Vec<_>>(), [1, 2, 3, 0, 4, 9]);
+    assert_eq!(page.rule.entries().collect::<Vec<_>>(), [1, 2, 3, 0, 4, 9]);
 }
 
 #[test]

@@ -14,7 +14,7 @@ use std::collections::BTreeMap;
 fn a_refused_call_writes_no_entry_and_hands_back_its_table_or_the_empty_one() {
     let mut random = Random::seeded(71);
     let mut refused: BTreeMap<u32, usize> = BTreeMap::new();
-    for _ in 0..400 {
+    for _ in 0..800 {
         let mut table = mixed_table(&mut random);
         let mut calls = Calls::on(&table, 256, 256);
         for _ in 0..10 {
@@ -42,12 +42,9 @@ fn a_refused_call_writes_no_entry_and_hands_back_its_table_or_the_empty_one() {
     }
 }
 
-#[test]
-fn every_call_that_takes_a_table_asks_first_whether_it_is_sound() {
-    let mut unsound = table(&["1 <"]);
-    unsound.labels[1].depth = 2;
-    let large = 256;
-    let all = [
+/// Every call that takes a table, each with a number that none has.
+fn taking_a_table(large: u32) -> Vec<Call> {
+    vec![
         Call::Add {
             head: large,
             positives: vec![],
@@ -59,6 +56,10 @@ fn every_call_that_takes_a_table_asks_first_whether_it_is_sound() {
             head: large,
             positives: vec![],
             negatives: vec![],
+        },
+        Call::Mute {
+            slot: large,
+            mark: large,
         },
         Call::Label { atom: large },
         Call::Spoiler { slot: large },
@@ -72,8 +73,14 @@ fn every_call_that_takes_a_table_asks_first_whether_it_is_sound() {
         Call::SkipWithdrawn { file: large },
         Call::Missing,
         Call::Complete,
-    ];
-    for call in all {
+    ]
+}
+
+#[test]
+fn every_call_that_takes_a_table_asks_first_whether_it_is_sound() {
+    let mut unsound = table(&["1 <"]);
+    unsound.labels[1].depth = 2;
+    for call in taking_a_table(256) {
         assert_eq!(
             call.make(&mut unsound, &mut Lent::default()),
             Err(Refusal::TableUnsound),
@@ -121,6 +128,8 @@ fn slots_are_asked_for_their_number_before_their_rule() {
     let mut table = table(&["1 <"]);
     assert_eq!(calls::remove(&mut table, 256), Err(Refusal::SlotTooLarge));
     assert_eq!(calls::remove(&mut table, 255), Err(Refusal::SlotFree));
+    assert_eq!(calls::mute(&mut table, 256, 1), Err(Refusal::SlotTooLarge));
+    assert_eq!(calls::mute(&mut table, 255, 0), Err(Refusal::SlotFree));
     assert_eq!(calls::spoiler(&table, u32::MAX), Err(Refusal::SlotTooLarge));
     assert_eq!(calls::spoiler(&table, 1), Err(Refusal::SlotFree));
 }

@@ -1,13 +1,12 @@
 //! Spoilers, supports, repercussions, justifications, consequences and reasons.
 
-use crate::notation::{add, table};
+use crate::notation::{add, small_marked, table};
 use oracle::calls::{self, Validity};
-use oracle::generate::programs::small;
 use oracle::labels::{Label, Labelled};
 use oracle::random::Random;
 use oracle::relations::{consequences, justifications, reason, repercussions, spoiler, support};
 use oracle::relations::{Side, Spoiler};
-use oracle::rules::Rule;
+use oracle::rules::{unmuted, Rule};
 use oracle::table::RawTable;
 
 /// What a call that lends a buffer writes.
@@ -28,6 +27,7 @@ fn listed(call: Listing, table: &RawTable, atom: u32) -> Vec<u32> {
 fn stopper(table: &RawTable, slot: u32) -> String {
     match calls::spoiler(table, slot).expect("a held slot") {
         Validity::Valid => "valid".to_string(),
+        Validity::Muted => "muted".to_string(),
         Validity::Spoiled(Spoiler { side, place, atom }) => match side {
             Side::Positive => format!("needs {atom} at {place}"),
             Side::Negative => format!("blocked by {atom} at {place}"),
@@ -123,8 +123,8 @@ fn a_rule_has_a_spoiler_exactly_if_it_is_not_valid_and_the_spoiler_spoils() {
     let mut random = Random::seeded(41);
     let mut seen = [0; 4];
     for _ in 0..1_000 {
-        let labelled = Labelled::of(small(&mut random, 8, 12, 16));
-        for rule in labelled.program.iter().flatten() {
+        let labelled = Labelled::of(small_marked(&mut random, 8, 12));
+        for (_, rule) in unmuted(&labelled.program) {
             let spoiling = spoiling(&labelled, rule);
             assert_eq!(
                 spoiler(&labelled, rule),
@@ -195,7 +195,7 @@ fn repercussions_are_all_atoms_reached_by_one_or_more_steps() {
     let mut random = Random::seeded(42);
     let mut own = 0;
     for _ in 0..400 {
-        let labelled = Labelled::of(small(&mut random, 8, 12, 16));
+        let labelled = Labelled::of(small_marked(&mut random, 8, 12));
         let steps = closed_steps(&labelled);
         for atom in 0..256u32 {
             let reached: Vec<u32> = (0..256)
@@ -226,7 +226,7 @@ fn justifications_and_consequences_go_by_the_rules_alone() {
 fn justifications_and_consequences_name_each_rule_that_they_should() {
     let mut random = Random::seeded(43);
     for _ in 0..300 {
-        let labelled = Labelled::of(small(&mut random, 8, 12, 16));
+        let labelled = Labelled::of(small_marked(&mut random, 8, 12));
         let rules: Vec<(u32, &Rule)> = oracle::rules::held(&labelled.program).collect();
         for atom in 0..256 {
             let slots = justifications(&labelled, atom);
@@ -276,7 +276,8 @@ fn gather(labelled: &Labelled, atom: u32, gathered: &mut Vec<(u32, u32, u32)>) {
         panic!("{atom} is not in")
     };
     gathered.push((depth, atom, slot));
-    for &entry in &labelled.program[slot as usize].as_ref().unwrap().positives {
+    let page = labelled.program[slot as usize].as_ref().unwrap();
+    for &entry in &page.rule.positives {
         gather(labelled, entry, gathered);
     }
 }
@@ -286,7 +287,7 @@ fn reasons_hold_the_supporting_slots_of_all_atoms_gathered() {
     let mut random = Random::seeded(44);
     let mut longest = 0;
     for _ in 0..1_000 {
-        let labelled = Labelled::of(small(&mut random, 8, 12, 16));
+        let labelled = Labelled::of(small_marked(&mut random, 8, 12));
         for atom in 0..256 {
             if !labelled.is_in(atom) {
                 assert_eq!(reason(&labelled, atom), None, "{labelled:?}");

@@ -1,6 +1,6 @@
 //! Replacing a rule in one go, request 107: each answer is worked out from its text.
 
-use crate::notation::{add, labels, replace, rule, table};
+use crate::notation::{add, labels, page, pages, replace, table};
 use oracle::book::Book;
 use oracle::calls::{self, Validity};
 use oracle::generate::damage::{damaged, FIELDS};
@@ -19,10 +19,6 @@ fn holds(table: &RawTable) -> Program {
         program.pop();
     }
     program
-}
-
-fn rules(texts: &[&str]) -> Program {
-    texts.iter().map(|text| Some(rule(text))).collect()
 }
 
 /// The same replacement on the calls and on a book with the same pages: the same answer, and the same rules after it. A
@@ -45,7 +41,7 @@ fn the_new_rule_takes_the_slot_of_the_old_and_the_others_keep_theirs() {
     let mut table = table(&["1 < 2", "2 <", "3 < 1"]);
     assert_eq!(labels(&table), ["1 in 2 0", "2 in 1 1", "3 in 3 2"]);
     assert_eq!(both(&mut table, 1, "1 < !4"), Ok(()));
-    assert_eq!(holds(&table), rules(&["1 < 2", "1 < !4", "3 < 1"]));
+    assert_eq!(holds(&table), pages(&["1 < 2", "1 < !4", "3 < 1"]));
     assert_eq!(labels(&table), ["1 in 1 1", "2 out", "3 in 2 2", "4 out"]);
 }
 
@@ -54,7 +50,7 @@ fn a_free_slot_below_is_not_taken() {
     let mut table = table(&["1 <", "2 <", "3 <"]);
     assert_eq!(calls::remove(&mut table, 0), Ok(()));
     assert_eq!(both(&mut table, 2, "4 <"), Ok(()));
-    let expected = [None, Some(rule("2 <")), Some(rule("4 <"))];
+    let expected = [None, Some(page("2 <")), Some(page("4 <"))];
     assert_eq!(holds(&table), expected);
     assert_eq!(labels(&table), ["2 in 1 1", "4 in 1 2"]);
 }

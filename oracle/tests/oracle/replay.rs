@@ -5,7 +5,7 @@ use oracle::file::write;
 use oracle::generate::words::{list, ENDINGS};
 use oracle::random::Random;
 use oracle::replay::replay;
-use oracle::rules::Rule;
+use oracle::rules::{Page, Rule};
 
 fn answers(words: &[u32]) -> Vec<u32> {
     replay(words, &[], 100).0
@@ -58,6 +58,35 @@ fn a_refused_replacement_answers_its_number_above_accepted_and_leaves_the_old_ru
 }
 
 #[test]
+fn a_muting_answers_that_it_was_accepted_and_any_mark_but_0_mutes() {
+    let added = [1, 5, 0, 0, 1, 6, 1, 0, 5];
+    for mark in [1, 2, 255, 256, 65_536, u32::MAX] {
+        let list = [&added[..], &[8, 1, mark, 8, 1, mark]].concat();
+        let (answers, book) = replay(&list, &[], 100);
+        assert_eq!(answers, [0, 1, 65_536, 65_536], "{mark}");
+        let mut other = Book::empty();
+        assert_eq!(other.add(5, &[], &[]), Ok(0));
+        assert_eq!(other.add(6, &[5], &[]), Ok(1));
+        assert_ne!(book, other, "{mark}");
+        assert_eq!(other.mute(1, 1), Ok(()));
+        assert_eq!(book, other, "{mark}");
+        let list = [&list[..], &[8, 1, 0]].concat();
+        let (answers, book) = replay(&list, &[], 100);
+        assert_eq!(answers.last(), Some(&65_536), "{mark}");
+        assert_eq!(other.mute(1, 0), Ok(()));
+        assert_eq!(book, other, "{mark}");
+    }
+}
+
+#[test]
+fn a_refused_muting_answers_its_number_above_accepted() {
+    assert_eq!(answers(&[8, 3, 1]), [65_536 + 9]);
+    assert_eq!(answers(&[8, 3, 0]), [65_536 + 9]);
+    assert_eq!(answers(&[8, 256, 0]), [65_536 + 8]);
+    assert_eq!(answers(&[8, u32::MAX, u32::MAX]), [65_536 + 8]);
+}
+
+#[test]
 fn a_refusal_answers_its_number_above_accepted() {
     assert_eq!(answers(&[0, 3]), [65_536 + 9]);
     assert_eq!(answers(&[0, 256]), [65_536 + 8]);
@@ -95,6 +124,8 @@ fn a_refused_opening_frees_every_page_and_pages_that_are_no_checklist_meet_15() 
 fn another_number_or_a_call_cut_short_ends_the_list() {
     for end in [
         &[][..],
+        &[9, 0, 0],
+        &[8],
         &[8, 0],
         &[7],
         &[7, 0],
@@ -118,7 +149,7 @@ fn another_number_or_a_call_cut_short_ends_the_list() {
         assert_eq!(answers(&list), [0], "{end:?}");
     }
     assert_eq!(answers(&[1, 2, u32::MAX, u32::MAX, 0, 0]), []);
-    assert_eq!(answers(&[1, 9, 0, 0, 8, 0, 1, 8, 0, 0]), [0]);
+    assert_eq!(answers(&[1, 9, 0, 0, 9, 0, 1, 8, 0, 0]), [0]);
     assert_eq!(answers(&[1, 9, 0, 0, 7, 0, 2, u32::MAX, u32::MAX, 0]), [0]);
 }
 
@@ -148,7 +179,7 @@ fn some_list_of_every_ending_has_calls() {
 /// Two files: of one fact, in slot 2, and one of a wrong length.
 fn two_files() -> Vec<u8> {
     let mut program = vec![None; 256];
-    program[2] = Some(Rule::of(9, &[], &[]));
+    program[2] = Some(Page::unmuted(Rule::of(9, &[], &[])));
     let mut files = write(&program);
     files.extend([7; 3]);
     files
@@ -163,7 +194,7 @@ fn a_load_answers_that_it_was_accepted_and_its_rules_stand_alone() {
         .pages()
         .iter()
         .flatten()
-        .map(|rule| rule.head)
+        .map(|page| page.rule.head)
         .collect();
     assert_eq!(heads, [8], "5 went with the load, 9 was removed");
 }

@@ -1,15 +1,14 @@
 //! Layers and rounds over the slots: tables worked by hand, every path, and the rounds made word for word.
 
-use crate::notation::program;
+use crate::notation::{of_flavours, program, small_marked};
 use oracle::alternation::model;
 use oracle::atoms::AtomSet;
 use oracle::depth::depths;
 use oracle::generate::edges;
-use oracle::generate::programs::{program as of_flavour, small, FLAVOURS};
 use oracle::limits::ATOMS;
 use oracle::random::Random;
 use oracle::rounds::rounds;
-use oracle::rules::{held, Program, Rule};
+use oracle::rules::{held, unmuted, Page, Program, Rule};
 use oracle::strata::layers;
 
 /// The rounds of each layer of the rules in the slots from 0 on.
@@ -17,7 +16,7 @@ fn counts(rules: &[&str]) -> Vec<u32> {
     counts_of(&program(rules))
 }
 
-fn counts_of(program: &[Option<Rule>]) -> Vec<u32> {
+fn counts_of(program: &[Option<Page>]) -> Vec<u32> {
     let m = model(program).expect("no loop through a negation");
     rounds(program, &layers(program), &m)
 }
@@ -25,8 +24,9 @@ fn counts_of(program: &[Option<Rule>]) -> Vec<u32> {
 /// Small programs, programs of every flavour and the edge programs.
 fn programs(seed: u64) -> Vec<Program> {
     let mut random = Random::seeded(seed);
-    let mut programs: Vec<Program> = (0..3_000).map(|_| small(&mut random, 7, 12, 16)).collect();
-    programs.extend((0..400).map(|i| of_flavour(&mut random, FLAVOURS[i % FLAVOURS.len()])));
+    let small = (0..3_000).map(|_| small_marked(&mut random, 7, 12));
+    let mut programs: Vec<Program> = small.collect();
+    programs.extend(of_flavours(&mut random, 400));
     programs.extend(edges::programs());
     programs
 }
@@ -59,7 +59,7 @@ fn a_chain_against_the_slots_has_a_round_for_each_atom_and_one_more() {
     };
     let down: Program = (0..ATOMS as u32)
         .rev()
-        .map(|atom| Some(chain(atom)))
+        .map(|atom| Some(Page::unmuted(chain(atom))))
         .collect();
     assert_eq!(counts_of(&down), [257]);
 }
@@ -138,13 +138,30 @@ fn a_ladder_of_negations_has_as_many_layers_as_atoms() {
             &atom.checked_sub(1).map_or(vec![], |below| vec![below]),
         )
     };
-    let up: Program = (0..ATOMS as u32).map(|atom| Some(ladder(atom))).collect();
+    let up = (0..ATOMS as u32).map(|atom| Page::unmuted(ladder(atom)));
+    let up: Program = up.map(Some).collect();
     let down: Program = up.iter().rev().cloned().collect();
     let expected: Vec<u32> = (0..ATOMS)
         .map(|layer| if layer % 2 == 0 { 2 } else { 1 })
         .collect();
     assert_eq!(counts_of(&up), expected);
     assert_eq!(counts_of(&down), expected);
+}
+
+#[test]
+fn a_muted_rule_makes_a_layer_and_adds_nothing_in_its_rounds() {
+    assert_eq!(counts(&["~1 <"]), [1]);
+    assert_eq!(counts(&["1 < !2"]), [1, 2]);
+    assert_eq!(counts(&["~1 < !2"]), [1, 1]);
+    // 3 waits for the second rule of 2, and 4 for nothing.
+    assert_eq!(
+        counts(&["3 < 2", "~2 <", "4 <", "2 < 1", "1 < 4", "~5 < !4"]),
+        [4, 1]
+    );
+    assert_eq!(
+        counts(&["3 < 2", "2 <", "4 <", "2 < 1", "1 < 4", "5 < !4"]),
+        [3, 1]
+    );
 }
 
 #[test]
@@ -161,6 +178,8 @@ fn layers_by_hand() {
     // A rule that no atom is found by counts like any other, and so does an atom in both lists.
     assert_eq!(of(&["1 <", "2 < !1", "3 < 2 4"]), [0, 0, 1, 1, 0]);
     assert_eq!(of(&["1 < 2 !2", "3 < 1 2"]), [0, 1, 0, 1, 0]);
+    // So does a muted rule.
+    assert_eq!(of(&["~1 < !2", "3 < 1", "~4 < !3"]), [0, 1, 0, 1, 2]);
     // Atoms on a loop without a negation have one layer.
     assert_eq!(of(&["1 < 2", "2 < 3", "3 < 1", "2 < !4"]), [0, 1, 1, 1, 0]);
 }
@@ -173,7 +192,7 @@ fn layers_of_a_loop_through_a_negation_are_not_told() {
 
 /// The most negative steps on a path that goes on from the last of these atoms and meets no atom twice. Without a loop
 /// through a negation a path that meets one twice has no more.
-fn most_on_a_path(program: &[Option<Rule>], path: &[u32]) -> u32 {
+fn most_on_a_path(program: &[Option<Page>], path: &[u32]) -> u32 {
     let last = path.last().copied();
     let on = |entry: u32| most_on_a_path(program, &[path, &[entry]].concat());
     let fresh = |entry: &&u32| !path.contains(entry);
@@ -195,7 +214,7 @@ fn a_layer_is_the_most_negative_steps_over_all_paths_of_a_small_program() {
     let mut random = Random::seeded(41);
     let mut seen = [0; 4];
     for _ in 0..6_000 {
-        let program = small(&mut random, 9, 16, 16);
+        let program = small_marked(&mut random, 9, 16);
         let layers = layers(&program);
         for atom in 0..ATOMS as u32 {
             let most = most_on_a_path(&program, &[atom]);
@@ -210,7 +229,7 @@ fn a_layer_is_the_most_negative_steps_over_all_paths_of_a_small_program() {
 }
 
 /// The most negative steps from each atom to each other, closed over the atoms in between.
-fn most_between(program: &[Option<Rule>]) -> Vec<Vec<Option<u32>>> {
+fn most_between(program: &[Option<Page>]) -> Vec<Vec<Option<u32>>> {
     let mut most = vec![vec![None; ATOMS]; ATOMS];
     for (_, rule) in held(program) {
         let row = &mut most[rule.head as usize];
@@ -238,7 +257,7 @@ fn most_between(program: &[Option<Rule>]) -> Vec<Vec<Option<u32>>> {
 #[test]
 fn a_layer_is_the_most_negative_steps_to_any_atom_of_a_large_program() {
     let mut random = Random::seeded(42);
-    let generated = (0..60).map(|i| of_flavour(&mut random, FLAVOURS[i % FLAVOURS.len()]));
+    let generated = of_flavours(&mut random, 60).into_iter();
     for program in generated.chain(edges::programs()) {
         let most = most_between(&program);
         let expected: Vec<u32> = most
@@ -277,9 +296,9 @@ fn layers_grow_over_negative_entries_never_fall_over_positive_ones_and_none_is_e
 }
 
 /// The rounds as the request tells them, and what they find. Layers are taken lowest first. A round goes over the slots
-/// in order and puts in the head of each rule of the layer that is valid in what was found up to there. The layer ends
-/// at its first round that adds none.
-fn made(program: &[Option<Rule>], layers: &[u32]) -> (Vec<u32>, AtomSet) {
+/// in order and puts in the head of each unmuted rule of the layer that is valid in what was found up to there. The
+/// layer ends at its first round that adds none.
+fn made(program: &[Option<Page>], layers: &[u32]) -> (Vec<u32>, AtomSet) {
     let mut found = AtomSet::empty();
     let mut counts = Vec::new();
     for layer in 0..=*layers.iter().max().unwrap() {
@@ -288,7 +307,8 @@ fn made(program: &[Option<Rule>], layers: &[u32]) -> (Vec<u32>, AtomSet) {
         while adds {
             adds = false;
             rounds += 1;
-            for (_, rule) in held(program).filter(|(_, rule)| layers[rule.head as usize] == layer) {
+            let of_layer = |(_, rule): &(u32, &Rule)| layers[rule.head as usize] == layer;
+            for (_, rule) in unmuted(program).filter(of_layer) {
                 if rule.valid_in(&found) && found.insert(rule.head) {
                     adds = true;
                 }

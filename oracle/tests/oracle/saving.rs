@@ -38,6 +38,12 @@ fn the_loading_program_prints_as_l_does_or_refused_and_the_number() {
 }
 
 #[test]
+fn the_loading_program_lists_atoms_of_muted_rules_as_out() {
+    let file = write(&program(&["1 < 2", "~2 <", "3 < !2", "~4 < 3 !5"]));
+    assert_eq!(loaded(&file), "1 out\n2 out\n3 in 1 2\n4 out\n5 out\n");
+}
+
+#[test]
 fn what_one_prints_the_other_lists_as_the_sheet_would() {
     let mut random = Random::seeded(221);
     for round in 0..5 * FLAVOURS.len() {

@@ -25,7 +25,10 @@ fn assert_table_is_the_books(table: &RawTable, book: &Book) {
     for (slot, page) in (0..).zip(book.pages()) {
         let answer = match page {
             None => Err(Refusal::SlotFree),
-            Some(rule) => Ok(spoiler(&defined, rule).map_or(Validity::Valid, Validity::Spoiled)),
+            Some(page) if page.muted => Ok(Validity::Muted),
+            Some(page) => {
+                Ok(spoiler(&defined, &page.rule).map_or(Validity::Valid, Validity::Spoiled))
+            }
         };
         assert_eq!(calls::spoiler(table, slot), answer);
     }
@@ -120,7 +123,7 @@ fn freed_slots_are_taken_lowest_first_and_the_others_keep_their_rules() {
         .unwrap()
         .iter()
         .flatten()
-        .map(|rule| rule.head)
+        .map(|page| page.rule.head)
         .collect();
     assert_eq!(heads, [0, 10, 2, 11, 12, 5, 13]);
 }

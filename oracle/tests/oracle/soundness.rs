@@ -7,7 +7,7 @@ use oracle::generate::programs::{program, Flavour};
 use oracle::generate::{sound_table, table_of};
 use oracle::random::Random;
 use oracle::sound::sound;
-use oracle::table::{RawLabel, RawRule, RawTable, FREE, HELD, IN, OUT};
+use oracle::table::{RawLabel, RawRule, RawTable, FREE, HELD, IN, MUTED, OUT};
 
 #[test]
 fn the_empty_table_is_sound_and_all_zero() {
@@ -39,9 +39,24 @@ fn tables_survive_encoding_in_the_order_of_the_fields() {
 /// What is changed, in words, and the change.
 type Change = (&'static str, fn(&mut RawTable));
 
-const CHANGES: [Change; 19] = [
+const CHANGES: [Change; 24] = [
     ("a rule with no such state", |table| {
-        table.rules[0].state = 2
+        table.rules[0].state = 3
+    }),
+    ("a muted rule with no such state", |table| {
+        table.rules[3].state = 3
+    }),
+    ("a rule's state that wraps to muted", |table| {
+        table.rules[3].state = 258
+    }),
+    ("a supporting rule that is muted, its label kept", |table| {
+        table.rules[0].state = MUTED
+    }),
+    ("a muted rule that is unmuted and would support", |table| {
+        table.rules[3].state = HELD
+    }),
+    ("a free slot that holds a muted fact", |table| {
+        table.rules[9].state = MUTED
     }),
     ("a rule's state that wraps to held", |table| {
         table.rules[0].state = 257
@@ -97,7 +112,7 @@ const CHANGES: [Change; 19] = [
 
 #[test]
 fn any_other_state_depth_slot_or_filler_is_unsound() {
-    let sound_one = table(&["1 <", "2 < 1 !3", "4 < 5"]);
+    let sound_one = table(&["1 <", "2 < 1 !3", "4 < 5", "~4 <"]);
     assert!(sound(&sound_one));
     for (what, change) in CHANGES {
         let mut table = sound_one.clone();

@@ -1,7 +1,7 @@
 //! A reason as cards: what each says, how it looks, and what hangs below it.
 
 use crate::sheet::Names;
-use yeqontur::{Because, Label, Side, Stopped, Table, Why};
+use yeqontur::{Because, Label, Rule, Side, Stop, Stopped, Table, Why};
 
 /// How a card looks.
 #[derive(Clone, Copy, PartialEq, Eq, Debug)]
@@ -9,6 +9,7 @@ pub enum Look {
     In,
     Out,
     Rule,
+    Muted,
 }
 
 /// How a card hangs below another.
@@ -18,6 +19,8 @@ pub enum Link {
     RestsOn,
     /// An out atom has this rule.
     HasRule,
+    /// An out atom has this rule, which is muted.
+    HasMuted,
     /// The rule needs this atom, which is out.
     Needs,
     /// The rule is blocked by this atom, which is in.
@@ -59,6 +62,13 @@ fn line(text: String) -> Line {
     }
 }
 
+fn bold(text: String) -> Line {
+    Line {
+        bold: true,
+        ..line(text)
+    }
+}
+
 fn state(label: Label) -> &'static str {
     match label {
         Label::Absent => "absent",
@@ -71,6 +81,14 @@ fn depth(label: Label) -> usize {
     match label {
         Label::In { depth, .. } => depth as usize,
         _ => 0,
+    }
+}
+
+/// How an entry of this list stops a rule.
+fn stops_by(side: Side) -> Link {
+    match side {
+        Side::Positive => Link::Needs,
+        Side::Negative => Link::BlockedBy,
     }
 }
 
@@ -92,10 +110,7 @@ impl Words<'_> {
     }
 
     fn atom(&self, why: &Why) -> Card {
-        let mut lines = vec![Line {
-            bold: true,
-            ..line(self.name(why.atom))
-        }];
+        let mut lines = vec![bold(self.name(why.atom))];
         lines.extend(self.says(why).into_iter().map(line));
         let below = match &why.because {
             Because::Supported { from, .. } => from
@@ -105,10 +120,7 @@ impl Words<'_> {
                     (Link::RestsOn, rows, self.atom(w))
                 })
                 .collect(),
-            Because::Stopped(rules) => rules
-                .iter()
-                .map(|stopped| (Link::HasRule, 1, self.rule(stopped)))
-                .collect(),
+            Because::Stopped(rules) => rules.iter().map(|rule| self.stopped(rule)).collect(),
             _ => Vec::new(),
         };
         let look = if why.label.is_in() {
@@ -144,29 +156,61 @@ impl Words<'_> {
         lines
     }
 
-    /// A stopped rule: its entries with their labels, the one that stops it marked.
-    fn rule(&self, stopped: &Stopped) -> Card {
-        let Stopped { rule, by, .. } = stopped;
-        let link = match stopped.side {
-            Side::Positive => Link::Needs,
-            Side::Negative => Link::BlockedBy,
-        };
-        let mut lines = vec![line(format!("the rule in slot {} asks for", rule.slot))];
-        for (not, side) in [("", Side::Positive), ("not ", Side::Negative)] {
-            lines.extend((0..).zip(rule.list(side)).map(|(place, &atom)| {
-                let stops = (side, place) == (stopped.side, stopped.place);
-                Line {
-                    text: self.entry(not, atom),
-                    bold: stops,
-                    stops: stops.then_some(link),
-                }
-            }));
+    /// A rule of an out atom, and how it hangs below the atom.
+    fn stopped(&self, Stopped { rule, stop }: &Stopped) -> (Link, usize, Card) {
+        match stop {
+            Stop::Spoiled { side, place, by } => {
+                (Link::HasRule, 1, self.spoiled(rule, *side, *place, by))
+            }
+            Stop::Muted => (Link::HasMuted, 1, self.muted(rule)),
         }
+    }
+
+    /// A spoiled rule: its entries, the one that stops it marked.
+    fn spoiled(&self, rule: &Rule, side: Side, place: u32, by: &Why) -> Card {
+        let mut lines = vec![line(format!("the rule in slot {} asks for", rule.slot))];
+        lines.extend(self.entries(rule, Some((side, place))));
         Card {
             look: Look::Rule,
             lines,
-            below: vec![(link, 1, self.atom(by))],
+            below: vec![(stops_by(side), 1, self.atom(by))],
         }
+    }
+
+    /// A muted rule: its entries, none of them marked, since it is not they that stop it.
+    fn muted(&self, rule: &Rule) -> Card {
+        let entries = self.entries(rule, None);
+        let asks = if entries.is_empty() {
+            "a fact"
+        } else {
+            "it asks for"
+        };
+        let mut lines = vec![
+            bold(format!("the rule in slot {} is muted", rule.slot)),
+            line(asks.to_string()),
+        ];
+        lines.extend(entries);
+        Card {
+            look: Look::Muted,
+            lines,
+            below: Vec::new(),
+        }
+    }
+
+    /// The entries of a rule with their labels. The one that stops it, by list and place, is marked.
+    fn entries(&self, rule: &Rule, stopper: Option<(Side, u32)>) -> Vec<Line> {
+        let mut lines = Vec::new();
+        for (not, side) in [("", Side::Positive), ("not ", Side::Negative)] {
+            lines.extend((0..).zip(rule.list(side)).map(|(place, &atom)| {
+                let stops = stopper == Some((side, place));
+                Line {
+                    text: self.entry(not, atom),
+                    bold: stops,
+                    stops: stops.then_some(stops_by(side)),
+                }
+            }));
+        }
+        lines
     }
 
     /// An entry and its label, which is never refused: the atoms of a rule are below 256.

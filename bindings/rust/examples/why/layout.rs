@@ -173,6 +173,7 @@ fn legend(card: &Card, top: f64) -> Vec<(Link, Note)> {
         (Link::RestsOn, "rests on"),
         (Link::Needs, "needs (it is out)"),
         (Link::BlockedBy, "blocked by (it is in)"),
+        (Link::HasMuted, "muted (it gives nothing)"),
     ] {
         if has(card, link) {
             let end = found.last();

@@ -51,6 +51,16 @@ pub fn table(sheet: &str) -> Result<Table, String> {
     Ok(table)
 }
 
+/// The table with the rules in these slots muted.
+pub fn muted(mut table: Table, slots: &[String]) -> Result<Table, String> {
+    for slot in slots {
+        let number = slot.parse().map_err(|_| format!("not a slot: {slot}"))?;
+        let told = table.mute(number);
+        told.map_err(|refusal| format!("slot {slot} {refusal}"))?;
+    }
+    Ok(table)
+}
+
 /// Lines of an atom's number, a blank, and its name.
 pub fn names(text: &str) -> Result<Names, String> {
     let lines = text.lines().filter(|line| !line.trim().is_empty());

@@ -1,4 +1,5 @@
-//! The picture as SVG. What stops a rule is told by colour, by the kind of line, and in words.
+//! The picture as SVG. What stops a rule is told by colour, by the kind of line, and in words; a muted rule is pale,
+//! and its lines are dotted.
 
 use crate::cards::{Link, Look};
 use crate::layout::{width, Area, Note, Picture, Placed, Wire};
@@ -24,7 +25,7 @@ fn escaped(text: &str) -> String {
 fn colour(link: Link) -> &'static str {
     match link {
         Link::RestsOn => "#1b7f4b",
-        Link::HasRule => "#8a8f98",
+        Link::HasRule | Link::HasMuted => "#8a8f98",
         Link::Needs => "#b45309",
         Link::BlockedBy => "#b3261e",
     }
@@ -36,6 +37,7 @@ fn stroke(link: Link, path: &str) -> String {
     let kind = match link {
         Link::RestsOn => r#"stroke-width="2""#,
         Link::HasRule => r#"stroke-width="1.5""#,
+        Link::HasMuted => r#"stroke-width="1.5" stroke-dasharray="2 4""#,
         Link::Needs => r#"stroke-width="2.5" stroke-dasharray="7 5""#,
         Link::BlockedBy => r#"stroke-width="5""#,
     };
@@ -48,7 +50,7 @@ fn end(link: Link, (x, y): (f64, f64)) -> String {
         Link::RestsOn => (format!("M{:.1} {:.1}h10l-5 8z", x - 5.0, y - 9.0), true),
         Link::Needs => (format!("M{:.1} {:.1}l7 9l7 -9", x - 7.0, y - 10.0), false),
         Link::BlockedBy => (format!("M{:.1} {:.1}h28v5h-28z", x - 14.0, y - 6.0), true),
-        Link::HasRule => return String::new(),
+        Link::HasRule | Link::HasMuted => return String::new(),
     };
     let colour = colour(link);
     let fill = if fill { colour } else { "none" };
@@ -88,7 +90,7 @@ pub fn plate(wire: &Wire) -> Option<(&'static str, Area)> {
     let words = match wire.link {
         Link::Needs => "needs",
         Link::BlockedBy => "blocked by",
-        Link::RestsOn | Link::HasRule => return None,
+        Link::RestsOn | Link::HasRule | Link::HasMuted => return None,
     };
     let wide = width(words, SMALL, true) + 16.0;
     let area = Area {
@@ -123,11 +125,15 @@ fn card(card: &Placed) -> String {
             r##"rx="8" fill="#f3f4f6" stroke="#57606a" stroke-width="1.5" stroke-dasharray="3 3""##
         }
         Look::Rule => r##"fill="#ffffff" stroke="#8a8f98""##,
+        Look::Muted => {
+            r##"fill="#ffffff" stroke="#8a8f98" stroke-width="1.5" stroke-dasharray="2 4""##
+        }
     };
+    let plain = if card.look == Look::Muted { PALE } else { DARK };
     let mut out = rectangle(card.area, look);
     let mut y = card.area.y + PAD + 12.0;
     for line in &card.lines {
-        let style = style(line.bold, line.stops.map_or(DARK, colour));
+        let style = style(line.bold, line.stops.map_or(plain, colour));
         out += &text(&line.text, (card.area.x + PAD, y), SIZE, &style);
         y += LINE;
     }

@@ -1,8 +1,8 @@
 //! Nothing in a picture overlaps, and the pictures of the repository are the ones that the program makes.
 
-use crate::cards::{Drawing, Link};
+use crate::cards::{Card, Drawing, Link, Look};
 use crate::layout::{Area, Picture, Wire, SAMPLE};
-use crate::{checklist_picture, marks, picture, sheet, svg};
+use crate::{checklist_picture, marks, names_and_muted, picture, sheet, svg};
 use yeqontur::Table;
 
 fn words(text: &str) -> Vec<String> {
@@ -31,7 +31,7 @@ fn the_pictures_of_the_repository_are_made_by_the_program() {
 fn a_sheet_is_drawn_with_the_names_of_its_atoms() {
     let skipped = include_str!("../../../../examples/skipped.sheet");
     let names = include_str!("../../../../examples/deposit.names");
-    let text = picture(skipped, "7", names).expect("a picture");
+    let text = picture(skipped, "7", names, &[]).expect("a picture");
     for words in [
         "Why complete is out",
         ">second file skipped<",
@@ -63,7 +63,7 @@ fn checklists_that_cannot_be_read_are_told() {
 
 #[test]
 fn needs_and_blocked_by_differ_in_line_and_word() {
-    let text = picture("A 1 : 2\nA 1 : ! 3\nA 3 :\n", "1", "").expect("a picture");
+    let text = picture("A 1 : 2\nA 1 : ! 3\nA 3 :\n", "1", "", &[]).expect("a picture");
     for sign in [
         ">needs<",
         ">blocked by<",
@@ -93,6 +93,88 @@ fn of_an_atom_in_both_lists_the_entry_that_stops_is_marked() {
     assert_eq!(marked(&format!("{rule}A 7 :\n"), 1), [blocked]);
 }
 
+/// The cards below an atom, where these slots are muted: link, look, and what each says.
+fn below(sheet: &str, muted: &str, atom: u32) -> Vec<String> {
+    let table = sheet::table(sheet).expect("a sheet");
+    let table = sheet::muted(table, &words(muted)).expect("slots");
+    let why = table.why(atom).expect("an atom");
+    let drawing = Drawing::new(&why, &table, &sheet::names("").expect("no names"));
+    let told = |(link, _, card): &(Link, usize, Card)| {
+        let lines: Vec<&str> = card.lines.iter().map(|line| line.text.as_str()).collect();
+        format!("{link:?} {:?}: {}", card.look, lines.join(", "))
+    };
+    drawing.card.below.iter().map(told).collect()
+}
+
+/// Slot 1 would be valid and slot 2 spoiled: of neither it is told so.
+#[test]
+fn a_muted_rule_is_drawn_as_muted() {
+    let rules = "A 1 : 4\nA 1 : 2\nA 1 : 2 3 ! 5\nA 1 :\nA 2 :\nA 5 :\n";
+    let expected = [
+        "HasRule Rule: the rule in slot 0 asks for, atom 4 (out)",
+        "HasMuted Muted: the rule in slot 1 is muted, it asks for, atom 2 (in)",
+        "HasMuted Muted: the rule in slot 2 is muted, it asks for, atom 2 (in), atom 3 (out), not atom 5 (in)",
+        "HasMuted Muted: the rule in slot 3 is muted, a fact",
+    ];
+    assert_eq!(below(rules, "1 2 3", 1), expected);
+}
+
+#[test]
+fn muted_differs_in_line_and_word_and_has_a_legend() {
+    let rules = "A 1 : 2\nA 2 :\n";
+    let signs = [
+        ">the rule in slot 1 is muted<",
+        ">muted (it gives nothing)<",
+        "stroke-dasharray=\"2 4\"",
+    ];
+    let text = picture(rules, "1", "", &words("1")).expect("a picture");
+    assert!(signs.iter().all(|sign| text.contains(sign)), "{text}");
+    let text = picture(rules, "1", "", &[]).expect("a picture");
+    assert!(!signs.iter().any(|sign| text.contains(sign)), "{text}");
+}
+
+/// The atom has another rule, which gives it; only that one is drawn.
+#[test]
+fn an_in_atom_shows_its_supporting_rule_alone() {
+    let rules = "A 1 :\nA 1 : 2\nA 2 :\n";
+    let text = picture(rules, "1", "", &words("0")).expect("a picture");
+    assert!(text.contains(">in, depth 2, by slot 1<"), "{text}");
+    assert!(!text.contains("muted"), "{text}");
+}
+
+#[test]
+fn slots_to_be_muted_are_read_behind_the_names() {
+    for (text, names, slots) in [
+        ("muted", None, 0),
+        ("muted 1 2", None, 2),
+        ("names", Some("names"), 0),
+        ("names muted", Some("names"), 0),
+        ("names muted 1", Some("names"), 1),
+    ] {
+        let words = words(text);
+        let (path, muted) = names_and_muted(&words).expect(text);
+        assert_eq!((path.map(String::as_str), muted.len()), (names, slots));
+    }
+    assert_eq!(names_and_muted(&[]), Ok((None, &[][..])));
+    for text in ["names 1", "names names muted 1", "names Muted 1"] {
+        assert!(names_and_muted(&words(text)).is_err(), "{text}");
+    }
+}
+
+#[test]
+fn slots_that_cannot_be_muted_are_told() {
+    for (slot, told) in [
+        ("x", "not a slot: x"),
+        ("-1", "not a slot: -1"),
+        ("1", "slot 1 refused 9: "),
+        ("256", "slot 256 refused 8: "),
+    ] {
+        let sentence = picture("A 1 :", "1", "", &words(slot)).expect_err(slot);
+        assert!(sentence.starts_with(told), "{sentence}");
+    }
+    assert!(picture("A 1 :", "1", "", &words("0 0")).is_ok());
+}
+
 #[test]
 fn a_replaced_rule_is_drawn_in_its_slot() {
     let two = "A 1 : 2\nA 2 :\n";
@@ -118,7 +200,7 @@ fn a_replaced_rule_is_drawn_in_its_slot() {
 
 #[test]
 fn names_and_sheets_that_cannot_be_read_are_told() {
-    assert!(picture("A 1 :", "1", "1 <a> & b")
+    assert!(picture("A 1 :", "1", "1 <a> & b", &[])
         .expect("a picture")
         .contains("&lt;a&gt; &amp; b"));
     for (text, atom, names) in [
@@ -132,11 +214,12 @@ fn names_and_sheets_that_cannot_be_read_are_told() {
         ("A 1 :", "1", "one 1"),
         ("A 1 :", "1", "1"),
     ] {
-        assert!(picture(text, atom, names).is_err(), "{text} {atom} {names}");
+        let made = picture(text, atom, names, &[]);
+        assert!(made.is_err(), "{text} {atom} {names}");
     }
 }
 
-/// Tables of every kind of reason, from a seed.
+/// Tables of every kind of reason, from a seed; some of their rules are muted.
 fn table(mut seed: u32) -> Table {
     let mut below = |bound: u32| {
         seed = seed.wrapping_mul(1_664_525).wrapping_add(1_013_904_223);
@@ -146,7 +229,10 @@ fn table(mut seed: u32) -> Table {
     for _ in 0..24 {
         let positives: Vec<u32> = (0..below(4)).map(|_| below(9)).collect();
         let negatives: Vec<u32> = (0..below(3)).map(|_| below(9)).collect();
-        let _ = table.add(below(9), &positives, &negatives);
+        let added = table.add(below(9), &positives, &negatives);
+        if let (Ok(slot), 0) = (added, below(4)) {
+            table.mute(slot).expect("a rule");
+        }
     }
     table
 }
@@ -208,7 +294,7 @@ fn nothing_overlaps(picture: &Picture) {
             .iter()
             .all(|&part| boxes.iter().all(|&b| !overlap(part, b))));
         assert!(
-            matches!(wire.link, Link::RestsOn | Link::HasRule)
+            matches!(wire.link, Link::RestsOn | Link::HasRule | Link::HasMuted)
                 || (wire.from.0 - wire.to.0).abs() < 0.1
         );
     }
@@ -217,13 +303,18 @@ fn nothing_overlaps(picture: &Picture) {
 #[test]
 fn nothing_overlaps_in_any_picture() {
     let names = sheet::names("1 x\n2 a rather long name of an atom\n3 WWWWW").expect("names");
+    let mut muted = 0;
     for seed in 0..150 {
         let table = table(seed);
         for atom in 0..10 {
             let why = table.why(atom).expect("an atom");
-            nothing_overlaps(&Picture::of(Drawing::new(&why, &table, &names)));
+            let picture = Picture::of(Drawing::new(&why, &table, &names));
+            nothing_overlaps(&picture);
+            let mut cards = picture.cards.iter();
+            muted += usize::from(cards.any(|card| card.look == Look::Muted));
         }
     }
+    assert!(muted > 100, "{muted} pictures with a muted rule");
 }
 
 #[test]

@@ -98,6 +98,17 @@ impl Random {
         table
     }
 
+    /// Such a table, and each of its rules muted once in so many times.
+    pub fn muted_table(&mut self, additions: u32, atoms: u32, times: u32) -> Table {
+        let mut table = self.table(additions, atoms);
+        for slot in 0..table.rules().count() as u32 {
+            if self.below(times) == 0 {
+                assert_eq!(table.mute(slot), Ok(()));
+            }
+        }
+        table
+    }
+
     /// Fields of any bytes.
     pub fn fields(&mut self) -> raw::Table {
         let mut fields = raw::empty();

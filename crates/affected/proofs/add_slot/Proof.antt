@@ -2,7 +2,7 @@
 use mathlib.Core.Path.{sym, _∙_, ap}
 use Rattle.theory.proofs.Lists.{clash, eqb-eq, eqb-of, not-true, not-false}
 use Rattle.table.specs.Rules.{ruleOf, spoilerOf}
-use Rattle.table.proofs.Programs.{slot-free, slot-held}
+use Rattle.table.proofs.Programs.{active-none, active-some}
 use Rattle.affected.proofs.Edges.{grown-none, grown-same, gives-free, gives-other, gives-entries}
 use Rattle.affected.proofs.Edges.{entries-give, gives-nothing, spoiler-edge}
 use borrow.Author.Needs.{needs}
@@ -10,7 +10,7 @@ use Rattle.affected.proofs.add_slot.Statement.{statement}
 use Rattle.affected.proofs.add_slot.Tie as tie
 
 returns : tie.Need-returns
-returns c = grown-none _ _ _ _ (gives-free _ _ _ _ (slot-free (c .before .before .args .rule) (c .if1 .taken)))
+returns c = grown-none _ _ _ _ (gives-free _ _ _ _ (active-none (c .before .before .args .rule) (c .if1 .taken)))
 
 has-requires : tie.Need-has-requires
 has-requires c κs = tt
@@ -24,7 +24,7 @@ returns-2 c =
     let held = in-set .before .before .before in
     let rule = held .before .before .args .rule in
     grown-none _ _ _ _
-    (gives-other _ _ _ _ (ruleOf rule) (slot-held rule (held .if1 .left))
+    (gives-other _ _ _ _ (ruleOf rule) (active-some rule (held .if1 .left))
     (sym (in-set .before .has .ensures) ∙ in-set .if2 .taken)
     (λ e. clash (eqb-of _ _ e) (sym (c .before .is-kept .ensures) ∙ not-true _ (c .if3 .taken))))
 
@@ -37,7 +37,7 @@ returns-3 c =
     let in-set = kept .before .before in
     let held = in-set .before .before .before in
     let rule = held .before .before .args .rule in
-    let is-held = slot-held rule (held .if1 .left) in
+    let is-held = active-some rule (held .if1 .left) in
     let is-in = sym (in-set .before .has .ensures) ∙ in-set .if2 .taken in
     grown-same _ _ _ _ _
     (gives-entries _ _ _ _ (ruleOf rule) is-held is-in
@@ -70,7 +70,7 @@ returns-4 c =
     let held = out-set .before .before .before in
     let rule = held .before .before .args .rule in
     grown-none _ _ _ _
-    (gives-nothing _ _ _ _ (ruleOf rule) (slot-held rule (held .if1 .left))
+    (gives-nothing _ _ _ _ (ruleOf rule) (active-some rule (held .if1 .left))
     (sym (out-set .before .has .ensures) ∙ out-set .if2 .left)
     (sym (found .spoiler .ensures) ∙ ap spoilerOf (c .enum-told .given .1)))
 
@@ -81,7 +81,7 @@ returns-5 c =
     let out-set = found .before in
     let held = out-set .before .before .before in
     let rule = held .before .before .args .rule in
-    spoiler-edge _ _ _ _ (ruleOf rule) (slot-held rule (held .if1 .left)) _ _ _ _ _ _
+    spoiler-edge _ _ _ _ (ruleOf rule) (active-some rule (held .if1 .left)) _ _ _ _ _ _
     (sym (out-set .before .has .ensures) ∙ out-set .if2 .left) _
     (sym (found .spoiler .ensures) ∙ ap spoilerOf (entry .found .given .1)) (c .add-edge .ensures)
 
@@ -92,7 +92,7 @@ returns-6 c =
     let out-set = found .before in
     let held = out-set .before .before .before in
     let rule = held .before .before .args .rule in
-    spoiler-edge _ _ _ _ (ruleOf rule) (slot-held rule (held .if1 .left)) _ _ _ _ _ _
+    spoiler-edge _ _ _ _ (ruleOf rule) (active-some rule (held .if1 .left)) _ _ _ _ _ _
     (sym (out-set .before .has .ensures) ∙ out-set .if2 .left) _
     (sym (found .spoiler .ensures) ∙ ap spoilerOf (entry .found2 .given .1)) (c .add-edge2 .ensures)
 

@@ -6,8 +6,8 @@ use mathlib.Core.Path.{_≡_}
 use lib.ListN.{length}
 use Rattle.theory.specs.Limits.{document}
 use Rattle.table.specs.Sets.{member, number}
-use Rattle.table.specs.Rules.{programOf}
-use Rattle.table.proofs.Programs.{program-at, program-length}
+use Rattle.table.specs.Rules.{activeOf}
+use Rattle.table.proofs.Programs.{active-place, active-length}
 use Rattle.affected.proofs.Edges.{Giving, giving-start, giving-next, giving-over}
 use borrow.Author.Needs.{needs}
 use Rattle.affected.proofs.reached.Statement.{statement}
@@ -16,7 +16,7 @@ use Rattle.affected.proofs.reached.Tie as tie
 abbrev Inv-loop : tie.InvT-loop
 Inv-loop flags slots a rules from₀ to₀ count₀ i₀ from to count i =
     (i ≤ document .slots)
-    × Giving (programOf rules) (member flags) (number slots) (document .slots * document .entries) i from to count
+    × Giving (activeOf rules) (member flags) (number slots) (document .slots * document .entries) i from to count
 
 abbrev μ-loop : tie.MeasureT-loop
 μ-loop flags slots a rules from₀ to₀ count₀ i₀ from to count i = document .slots - i
@@ -49,7 +49,7 @@ loop-again c =
     let at = c .before .before .before .before .before .loop in
     let s = c .before .before .before .before .before .before in (
       omega arith,
-      giving-next _ _ _ _ (at .i) (at .inv .1) (rw (program-at (s .args .t1) (at .i)) (c .add-slot .ensures)),
+      giving-next _ _ _ _ (at .i) (at .inv .1) (rw (active-place (s .args .t1) (at .i)) (c .add-slot .ensures)),
     )
 
 slice-aggregate-reach : tie.Need-slice-aggregate-reach Inv-loop μ-loop
@@ -67,7 +67,7 @@ returns c =
     let s = l .before in
     let len : length (s .args .t1) ≡ document .slots = search needs in
     giving-over _ _ _ _ (s .pre .0) (s .pre .1) (l .loop .i) (c .reach .result)
-    (omega (arith, program-length (s .args .t1))) (omega (arith, l .loop .inv .1 .few)) (l .loop .inv .1)
+    (omega (arith, active-length (s .args .t1))) (omega (arith, l .loop .inv .1 .few)) (l .loop .inv .1)
     (c .reach .ensures)
 
 pub reached-spec : {M : Type 1} → statement M

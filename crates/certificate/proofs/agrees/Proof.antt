@@ -6,8 +6,8 @@ use mathlib.Core.Option.{some}
 use Rattle.theory.specs.Models.{valid}
 use Rattle.theory.proofs.Lists.{not-true, not-false}
 use Rattle.table.specs.Sets.{member}
-use Rattle.table.specs.Rules.{slotOf, ruleOf}
-use Rattle.table.proofs.Programs.{slot-free, slot-held}
+use Rattle.table.specs.Rules.{activeIn, ruleOf}
+use Rattle.table.proofs.Programs.{active-none, active-some}
 use Rattle.certificate.proofs.Agreement.{compared-free, compared-invalid, compared-out, compared-deep}
 use Rattle.certificate.proofs.Agreement.{compared-shallow, compared-later, compared-earlier, compared-kept}
 use borrow.Author.Needs.{needs}
@@ -15,8 +15,8 @@ use Rattle.certificate.proofs.agrees.Statement.{statement}
 use Rattle.certificate.proofs.agrees.Tie as tie
 
 -- What is known once the slot is held, its rule valid, and its head in.
-held : (c : tie.Else1) → slotOf (c .before .before .args .rule) ≡ some (ruleOf (c .before .before .args .rule))
-held c = slot-held (c .before .before .args .rule) (c .if1 .left)
+held : (c : tie.Else1) → activeIn (c .before .before .args .rule) ≡ some (ruleOf (c .before .before .args .rule))
+held c = active-some (c .before .before .args .rule) (c .if1 .left)
 
 good : (c : tie.Else2)
     → valid (member (c .before .before .before .before .args .flags .now))
@@ -29,7 +29,7 @@ inside : (c : tie.Else3)
 inside c = sym (c .before .has .ensures) ∙ not-false _ (c .if3 .left)
 
 returns : tie.Need-returns
-returns c = compared-free _ _ _ _ _ _ _ (slot-free (c .before .before .args .rule) (c .if1 .taken))
+returns c = compared-free _ _ _ _ _ _ _ (active-none (c .before .before .args .rule) (c .if1 .taken))
 
 valid-requires : tie.Need-valid-requires
 valid-requires c κs = tt

@@ -3,7 +3,7 @@ use Prim.Native.Nat.{_-_}
 use native.Mathlib.Omega.{arith}
 use Rattle.theory.specs.Limits.{document}
 use Rattle.table.specs.Sets.{member, number}
-use Rattle.table.specs.Rules.{programOf}
+use Rattle.table.specs.Rules.{activeOf}
 use Rattle.certificate.proofs.Agreement.{Checked, checked-start, checked-all, slot-fails, slot-passes}
 use Prim.Native.Nat.{_≤_}
 use mathlib.Core.Path.{_≡_, refl, _∙_}
@@ -20,7 +20,7 @@ use Rattle.certificate.proofs.certified.Tie as tie
 
 abbrev Inv-loop : tie.InvT-loop
 Inv-loop rules flags depths slots found₀ i₀ found i =
-    Checked (programOf rules) (member flags) (number depths) (number slots) (document .atoms) found i
+    Checked (activeOf rules) (member flags) (number depths) (number slots) (document .atoms) found i
 
 abbrev μ-loop : tie.MeasureT-loop
 μ-loop rules flags depths slots found₀ i₀ found i = document .slots - i
@@ -76,7 +76,7 @@ returns-2 c =
     let a = c .before .before .before .before .before .before .before .before in
     let s = a .before in
     let long : length (s .args .t1) ≡ 256 = search needs in
-    let over : length (programOf (s .args .t1)) ≤ o .loop .i = simp length-map (omega arith) in
+    let over : length (activeOf (s .args .t1)) ≤ o .loop .i = simp length-map (omega arith) in
     of-labels (s .args .labels) _ (a .keep .ensures) _ _
     (checked-all _ _ _ _ 256 _ _ over (o .loop .inv) _ (c .all-found .ensures))
 

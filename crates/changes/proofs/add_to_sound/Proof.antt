@@ -3,7 +3,7 @@
 use mathlib.Core.Path.{_≡_, sym, _∙_}
 use mathlib.Core.Bool.{false}
 use mathlib.Core.Option.{none}
-use Rattle.theory.specs.Rules.{any-rule, same}
+use Rattle.theory.specs.Rules.{all, any-rule, same}
 use Rattle.theory.specs.Rules as theory
 use Rattle.theory.specs.Questions.{first-no, rule-questions, lowest-free}
 use Rattle.theory.specs.Limits.{document}
@@ -33,12 +33,12 @@ pass c =
 
 other :
     (c : tie.Else2) → any-rule (same (named (c .before .before .before .before .before .before .before .before)))
-    (held (c .before .before .before .before .before .before .before .before .args .table))
+    (all (held (c .before .before .before .before .before .before .before .before .args .table)))
     ≡ false
 other c =
     let made = c .before .before .before in
     let s = made .before .before .before .before .before in
-    same-told (held (s .args .table)) (s .pre .labels .ascending) (named s) (pass (made .before))
+    same-told (all (held (s .args .table))) (s .pre .labels .ascending) (named s) (pass (made .before))
     (made .make-rule .result) (made .make-rule .ensures) _ false (c .before .holds-rule .ensures) (c .if2 .left)
 
 first-no-requires : tie.Need-first-no-requires
@@ -75,7 +75,7 @@ returns-2 c =
     let s = made .before .before .before .before .before in
     handed-back (s .args .table) (named s) _ _ (c .refuse2 .ensures)
     (refused-same (s .args .table) (s .pre) (named s) (pass (made .before))
-    (same-told (held (s .args .table)) (s .pre .labels .ascending) (named s) (pass (made .before))
+    (same-told (all (held (s .args .table))) (s .pre .labels .ascending) (named s) (pass (made .before))
     (made .make-rule .result) (made .make-rule .ensures) _ _ (holds .holds-rule .ensures) (c .before .if2 .taken)))
 
 lowest-free-requires : tie.Need-lowest-free-requires

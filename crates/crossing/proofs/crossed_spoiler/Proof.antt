@@ -7,6 +7,9 @@ use Rattle.crossing.proofs.crossed_spoiler.Tie as tie
 enum-told : tie.Need-enum-told
 enum-told c = search needs
 
+enum-told-2 : tie.Need-enum-told-2
+enum-told-2 c = search needs
+
 enum-known-answer : tie.Need-enum-known-answer
 enum-known-answer c = search needs
 
@@ -35,19 +38,23 @@ returns : tie.Need-returns
 returns c = spoiler-told _ _ (c .enum-told .given .1)
 
 returns-2 : tie.Need-returns-2
-returns-2 c = spoiler-told _ _ (c .before .before .answer .given .1)
+returns-2 c = spoiler-told _ _ (c .enum-told2 .given .1)
 
 returns-3 : tie.Need-returns-3
-returns-3 c = spoiler-told _ _ (c .before .before .answer2 .given .1)
+returns-3 c = spoiler-told _ _ (c .before .before .answer .given .1)
 
 returns-4 : tie.Need-returns-4
-returns-4 c = spoiler-refused _ _ _ (c .before .before .answer3 .given .1) (c .refusal-number .ensures)
+returns-4 c = spoiler-told _ _ (c .before .before .answer2 .given .1)
+
+returns-5 : tie.Need-returns-5
+returns-5 c = spoiler-refused _ _ _ (c .before .before .answer3 .given .1) (c .refusal-number .ensures)
 
 pub crossed-spoiler-spec : {M : Type 1} → statement M
 crossed-spoiler-spec =
     tie.close
     (tie.spec
     enum-told
+    enum-told-2
     enum-known-answer
     cast-t8
     cast-t9
@@ -59,4 +66,5 @@ crossed-spoiler-spec =
     returns
     returns-2
     returns-3
-    returns-4)
+    returns-4
+    returns-5)

@@ -4,7 +4,7 @@ use native.Mathlib.Omega.{arith}
 use mathlib.Core.Path.{_≡_, refl}
 use lib.ListN.{length}
 use Rattle.theory.specs.Limits.{document}
-use Rattle.table.specs.Rules.{programOf}
+use Rattle.table.specs.Rules.{activeOf}
 use Rattle.table.specs.Sets.{member}
 use Rattle.table.specs.Turns.{slotAt}
 use Rattle.table.proofs.SlotsInTurn.{slot-at-below}
@@ -17,14 +17,14 @@ use Rattle.depths.proofs.depths.Tie as tie
 abbrev Inv-loop2 : tie.InvT-loop2
 Inv-loop2 model rules found₀ round lowered₀ down i₀ found lowered i =
     (i ≤ document .slots)
-    × Pass (programOf rules) (member model) (slotAt (document .slots) down) (document .atoms) round i found lowered
+    × Pass (activeOf rules) (member model) (slotAt (document .slots) down) (document .atoms) round i found lowered
 
 abbrev μ-loop2 : tie.MeasureT-loop2
 μ-loop2 model rules found₀ round lowered₀ down i₀ found lowered i = document .slots - i
 
 abbrev Inv-loop : tie.InvT-loop
 Inv-loop model rules found₀ round₀ lowered₀ found round lowered =
-    Outer (programOf rules) (member model) (document .atoms) round found lowered
+    Outer (activeOf rules) (member model) (document .atoms) round found lowered
 
 abbrev μ-loop : tie.MeasureT-loop
 μ-loop model rules found₀ round₀ lowered₀ found round lowered = document .atoms + 1 - round

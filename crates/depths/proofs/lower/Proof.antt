@@ -2,13 +2,13 @@
 use mathlib.Core.Path.{sym, _∙_}
 use Rattle.theory.specs.Limits.{document}
 use Rattle.theory.proofs.Lists.{not-true, not-false}
-use Rattle.depths.proofs.Lowering.{lower-free, lower-unknown, lower-high, lower-same, lower-invalid, lower-new}
+use Rattle.depths.proofs.Lowering.{lower-none, lower-unknown, lower-high, lower-same, lower-invalid, lower-new}
 use borrow.Author.Needs.{needs}
 use Rattle.depths.proofs.lower.Statement.{statement}
 use Rattle.depths.proofs.lower.Tie as tie
 
 returns : tie.Need-returns
-returns c = lower-free _ (document .atoms) (c .before .before .args .rule) _ (c .if1 .taken)
+returns c = lower-none _ (document .atoms) (c .before .before .args .rule) _ (c .if1 .taken)
 
 below-requires : tie.Need-below-requires
 below-requires c κs = tt

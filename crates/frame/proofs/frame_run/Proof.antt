@@ -3,13 +3,13 @@ use Prim.Native.Nat.{_-_, _≤_}
 use native.Mathlib.Omega.{arith}
 use borrow.Author.Needs.{needs}
 use Rattle.theory.proofs.Lists.{clash, not-true, not-false}
-use Rattle.table.specs.Rules.{programOf}
+use Rattle.table.specs.Rules.{activeOf}
 use Rattle.frame.proofs.Slots.{Stands, no-start, one-start, one-more, run-ends, run-full}
 use Rattle.frame.proofs.frame_run.Statement.{statement}
 use Rattle.frame.proofs.frame_run.Tie as tie
 
 abbrev Inv-loop : tie.InvT-loop
-Inv-loop rules n₀ n = (n ≤ 60) × Stands (programOf rules) n
+Inv-loop rules n₀ n = (n ≤ 60) × Stands (activeOf rules) n
 
 abbrev μ-loop : tie.MeasureT-loop
 μ-loop rules n₀ n = 60 - n

@@ -17,7 +17,7 @@ returns-2 c =
     let m = c .before in
     let e1 = m .before in
     let a = e1 .before .before .args in
-    told-no (no-mark (a .n) (a .rule) (sym (m .is-mark .ensures) ∙ not-true _ (c .if2 .taken)) (e1 .if1 .left))
+    told-no (no-mark (a .n) (a .rule) (e1 .if1 .left) (sym (m .is-mark .ensures) ∙ not-true _ (c .if2 .taken)))
 
 holds-fact-requires : tie.Need-holds-fact-requires
 holds-fact-requires c κs = search needs
@@ -27,7 +27,7 @@ returns-3 c =
     let m = c .before .before in
     let e1 = m .before in
     let a = e1 .before .before .args in
-    mark-told (a .n) (a .rule) _ (sym (m .is-mark .ensures) ∙ not-false _ (c .before .if2 .left)) (e1 .if1 .left)
+    mark-told (a .n) (a .rule) (e1 .if1 .left) _ (sym (m .is-mark .ensures) ∙ not-false _ (c .before .if2 .left))
     (c .holds-fact .ensures)
 
 pub free-or-mark-spec : {M : Type 1} → statement M

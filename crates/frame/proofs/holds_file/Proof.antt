@@ -6,7 +6,7 @@ use lib.ListN.{length, length-map}
 use borrow.Author.Needs.{needs}
 use Rattle.theory.specs.Limits.{document}
 use Rattle.theory.specs.Rules as theory
-use Rattle.table.proofs.Programs.{slot-state}
+use Rattle.table.proofs.Programs.{active-state}
 use Rattle.frame.specs.Frame.{frame}
 use Rattle.frame.proofs.Slots.{told-no, head-held, positives-held, negatives-held}
 use Rattle.frame.proofs.Slots.{file-rule, frame-file, three-are, are-three, file-held, held-file}
@@ -18,7 +18,7 @@ long : (s : tie.Start) → length (s .args .rule .entries) ≡ document .entries
 long s = simp length-map at (s .good .0 .1 .1 .1 .1 .1 .1 .0 .1 .0 .1)
 
 returns : tie.Need-returns
-returns c = (let a = c .before .before .args in told-no (λ h. slot-state (a .rule) (frame (a .i)) h (c .if1 .taken)))
+returns c = (let a = c .before .before .args in told-no (λ h. c .if1 .taken (active-state (a .rule) (frame (a .i)) h)))
 
 mul-if2 : tie.Need-mul-if2
 mul-if2 c = search needs

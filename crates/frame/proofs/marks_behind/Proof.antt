@@ -4,13 +4,13 @@ use native.Mathlib.Omega.{arith}
 use borrow.Author.Needs.{needs}
 use Rattle.theory.specs.Limits.{document}
 use Rattle.theory.proofs.Lists.{clash, not-true, not-false}
-use Rattle.table.specs.Rules.{programOf}
+use Rattle.table.specs.Rules.{bookOf}
 use Rattle.frame.proofs.Slots.{MarksTo, marks-more, marks-stop, marks-all}
 use Rattle.frame.proofs.marks_behind.Statement.{statement}
 use Rattle.frame.proofs.marks_behind.Tie as tie
 
 abbrev Inv-loop : tie.InvT-loop
-Inv-loop n rules s₀ s = (n < s) × (s ≤ document .slots) × MarksTo (programOf rules) n s
+Inv-loop n rules s₀ s = (n < s) × (s ≤ document .slots) × MarksTo (bookOf rules) n s
 
 abbrev μ-loop : tie.MeasureT-loop
 μ-loop n rules s₀ s = document .slots - s

@@ -3,7 +3,7 @@ use mathlib.Core.Path.{refl}
 use native.Mathlib.Omega.{arith}
 use borrow.Author.Needs.{needs}
 use Rattle.theory.specs.Book.{add, replace}
-use Rattle.history.proofs.Reading.{by-kind, end-short, reads-removal, reads-no-rule, reads-rule, reads-other}
+use Rattle.history.proofs.Reading.{by-kind, end-short, reads-removal, reads-no-rule, reads-rule, reads-kind}
 use Rattle.history.proofs.Reading.{reads-checklist}
 use Rattle.history.proofs.next_call.Statement.{statement}
 use Rattle.history.proofs.next_call.Tie as tie
@@ -59,7 +59,7 @@ next-load-requires : tie.Need-next-load-requires
 next-load-requires c κs = tt
 
 returns-6 : tie.Need-returns-6
-returns-6 c = reads-other _ _ _ _ (omega arith) (omega arith) (c .next-load .ensures)
+returns-6 c = reads-kind _ _ _ 2 _ (omega arith) (omega arith) (c .next-load .ensures)
 
 add-find-rule-2 : tie.Need-add-find-rule-2
 add-find-rule-2 c = search needs
@@ -81,15 +81,21 @@ returns-8 : tie.Need-returns-8
 returns-8 c = reads-rule _ _ _ _ (replace _) (by-kind _ _ _ (omega arith) 7 (omega arith)) _
     (c .before .before .before .find-rule2 .ensures) _ _ _ _ (c .before .rule2 .given .1) _ refl (λ o. o)
 
+next-mute-requires : tie.Need-next-mute-requires
+next-mute-requires c κs = tt
+
+returns-9 : tie.Need-returns-9
+returns-9 c = reads-kind _ _ _ 8 _ (omega arith) (omega arith) (c .next-mute .ensures _)
+
 add-next-checklist : tie.Need-add-next-checklist
 add-next-checklist c = search needs
 
 next-checklist-requires : tie.Need-next-checklist-requires
 next-checklist-requires c κs = tt
 
-returns-9 : tie.Need-returns-9
-returns-9 c = reads-checklist _ _ _ _ (omega arith) (λ e. omega arith) (λ e. omega arith) (λ e. omega arith)
-    (λ e. omega arith) (c .next-checklist .ensures)
+returns-10 : tie.Need-returns-10
+returns-10 c = reads-checklist _ _ _ _ (omega arith) (λ e. omega arith) (λ e. omega arith) (λ e. omega arith)
+    (λ e. omega arith) (λ e. omega arith) (c .next-checklist .ensures)
 
 pub next-call-spec : {M : Type 1} → statement M
 next-call-spec =
@@ -118,6 +124,8 @@ next-call-spec =
     enum-known-rule-2
     returns-7
     returns-8
+    next-mute-requires
+    returns-9
     add-next-checklist
     next-checklist-requires
-    returns-9)
+    returns-10)

@@ -3,7 +3,7 @@ use Prim.Native.Nat.{_≤_}
 use mathlib.Core.Path.{refl}
 use lib.ListN.{length}
 use borrow.Author.Needs.{needs}
-use Rattle.history.specs.Claim.{adds, removes, replaces, loads}
+use Rattle.history.specs.Claim.{adds, removes, replaces, mutes, loads}
 use Rattle.history.specs.Steps.{Parts}
 use Rattle.history.proofs.Reading.{order-of, checklist-step, told-step}
 use Rattle.history.proofs.Reading.{step-end, step-made}
@@ -139,6 +139,15 @@ replace-requires c κs = tt
 step-changed-requires-4 : tie.Need-step-changed-requires-4
 step-changed-requires-4 c κs = search needs
 
+enum-known-next-6 : tie.Need-enum-known-next-6
+enum-known-next-6 c = search needs
+
+mute-requires : tie.Need-mute-requires
+mute-requires c κs = tt
+
+step-changed-requires-5 : tie.Need-step-changed-requires-5
+step-changed-requires-5 c κs = search needs
+
 returns : tie.Need-returns
 returns c = step-end _ _ _ _ _ (c .before .before .next-call .ensures) (c .enum-told .given .1)
 
@@ -167,6 +176,10 @@ returns-6 c = step-made _ _ _ _ _
     (c .before .before .before .before .before .before .before .next-call .ensures) _ _ _ _ _ _
     (c .before .before .before .before .before .next5 .given .1) refl (replaces (c .before .replace .ensures))
     (c .step-changed4 .ensures)
+
+returns-7 : tie.Need-returns-7
+returns-7 c = step-made _ _ _ _ _ (c .before .before .before .before .before .next-call .ensures) _ _ _ _ _ _
+    (c .before .before .before .next6 .given .1) refl (mutes (c .before .mute .ensures)) (c .step-changed5 .ensures)
 
 pub step-spec : {M : Type 1} → statement M
 step-spec =
@@ -208,9 +221,13 @@ step-spec =
     part-replace-end-2
     replace-requires
     step-changed-requires-4
+    enum-known-next-6
+    mute-requires
+    step-changed-requires-5
     returns
     returns-2
     returns-3
     returns-4
     returns-5
-    returns-6)
+    returns-6
+    returns-7)

@@ -1,6 +1,8 @@
 -- `labels::labels_of` answers the labels of all atoms, or that there is a negative cycle. Assumes nothing.
 use borrow.Author.Needs.{needs}
 use Rattle.theory.proofs.Lists.{not-true, not-false}
+use Rattle.theory.proofs.Pages.{active-bounded}
+use Rattle.table.specs.Rules.{bookOf}
 use Rattle.strata.proofs.Answer.{answer-acyclic}
 use Rattle.labels.proofs.Kept.{labels-are, told-labels, told-cycle}
 use Rattle.labels.proofs.labels_of.Statement.{statement}
@@ -15,7 +17,8 @@ absent-requires c κs = tt
 returns : tie.Need-returns
 returns c =
     let told = c .before .before .before .before in
-    told-cycle _ _ (told .strata .ensures .cyclic (not-true _ (c .before .if1 .taken)))
+    told-cycle (bookOf (told .before .args .rules)) _
+    (told .strata .ensures .cyclic (not-true _ (c .before .if1 .taken)))
 
 in-atoms-requires : tie.Need-in-atoms-requires
 in-atoms-requires c κs =
@@ -26,10 +29,17 @@ in-atoms-requires c κs =
     }
 
 depths-requires : tie.Need-depths-requires
-depths-requires c κs = search needs
+depths-requires c κs =
+    let model = c .before .before in
+    let s = model .before .before .before .before .before .before in
+    (active-bounded (bookOf (s .args .rules)) _ (s .pre), model .in-atoms .ensures .model)
 
 supports-requires : tie.Need-supports-requires
-supports-requires c κs = search needs
+supports-requires c κs =
+    let model = c .before .before .before .before .before in
+    let s = model .before .before .before .before .before .before in
+    let bounded = active-bounded (bookOf (s .args .rules)) _ (s .pre) in
+    (bounded, model .in-atoms .ensures .model, c .before .before .depths .ensures)
 
 occurring-requires : tie.Need-occurring-requires
 occurring-requires c κs = search needs
@@ -45,8 +55,9 @@ returns-2 c =
     let model = deep .before .before .before in
     let test = model .before .before in
     let told = test .before .before .before in
-    told-labels _ _ _ (answer-acyclic _ _ (told .strata .ensures) (not-false _ (test .if1 .left)))
-    (labels-are _ (told .before .pre) _ _ _ _ (model .in-atoms .ensures .model) (deep .depths .ensures)
+    let pages = bookOf (told .before .args .rules) in
+    told-labels pages _ _ (answer-acyclic _ _ (told .strata .ensures) (not-false _ (test .if1 .left)))
+    (labels-are pages (told .before .pre) _ _ _ _ (model .in-atoms .ensures .model) (deep .depths .ensures)
     (slots .supports .ensures) (all .occurring .ensures) _ (c .assemble .ensures))
 
 pub labels-of-spec : {M : Type 1} → statement M

@@ -10,26 +10,31 @@ add-word-at c = search needs
 word-at-requires : tie.Need-word-at-requires
 word-at-requires c κs = search needs
 
+add-count : tie.Need-add-count
+add-count c = search needs
+
+shared-slice-read-count : tie.Need-shared-slice-read-count
+shared-slice-read-count c = search needs
+
+add-negatives : tie.Need-add-negatives
+add-negatives c = search needs
+
+shared-slice-read-negatives : tie.Need-shared-slice-read-negatives
+shared-slice-read-negatives c = search needs
+
+state-of-requires : tie.Need-state-of-requires
+state-of-requires c κs = search needs
+
 entries-at-requires : tie.Need-entries-at-requires
 entries-at-requires c κs = search needs
 
-add-t5 : tie.Need-add-t5
-add-t5 c = search needs
-
-shared-slice-read-t8 : tie.Need-shared-slice-read-t8
-shared-slice-read-t8 c = search needs
-
-add-t9 : tie.Need-add-t9
-add-t9 c = search needs
-
-shared-slice-read-t11 : tie.Need-shared-slice-read-t11
-shared-slice-read-t11 c = search needs
-
 returns : tie.Need-returns
 returns c =
-    let a = c .before .before .before .before .before .args in
-    fields-at (a .bytes .now) (a .at) _ _ (c .before .before .before .word-at .ensures)
-    (c .before .before .entries-at .ensures)
+    let state = c .before in
+    let head = state .before .before .before in
+    let a = head .before .before .args in
+    fields-at (a .bytes .now) (a .at) _ _ _ (head .word-at .ensures) (state .state-of .ensures)
+    (c .entries-at .ensures)
 
 pub rule-at-spec : {M : Type 1} → statement M
 rule-at-spec =
@@ -37,9 +42,10 @@ rule-at-spec =
     (tie.spec
     add-word-at
     word-at-requires
+    add-count
+    shared-slice-read-count
+    add-negatives
+    shared-slice-read-negatives
+    state-of-requires
     entries-at-requires
-    add-t5
-    shared-slice-read-t8
-    add-t9
-    shared-slice-read-t11
     returns)

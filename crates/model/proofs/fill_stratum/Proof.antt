@@ -7,14 +7,13 @@ use mathlib.Core.Path.{_≡_, refl, sym, _∙_}
 use lib.ListN.{length, getD}
 use Rattle.theory.specs.Limits.{document}
 use Rattle.theory.proofs.Lists.{not-true, not-false}
-use Rattle.theory.proofs.Strata.{exact-strata}
 use Rattle.theory.proofs.Found.{found-filled}
-use Rattle.table.specs.Rules.{programOf, pastRule}
+use Rattle.table.specs.Rules.{activeOf, pastRule}
 use Rattle.table.specs.Sets.{member, number}
 use Rattle.model.proofs.Visits.{Left, left-start, left-idle, left-stop, left-add, left-rest, waits-missing}
 use Rattle.model.proofs.Visits.{NoneFrom, Seen, seen-start, seen-over, seen-here, seen-mark, seen-end}
 use Rattle.model.proofs.Rounds.{Going, going-start, going-few, room-of, head-below}
-use Rattle.model.proofs.Rounds.{stratum-next, stratum-end}
+use Rattle.model.proofs.Rounds.{strata-given, stratum-next, stratum-end}
 use borrow.Author.Needs.{needs}
 use Rattle.model.proofs.fill_stratum.Statement.{statement}
 use Rattle.model.proofs.fill_stratum.Tie as tie
@@ -29,7 +28,7 @@ abbrev μ-loop2 : tie.MeasureT-loop2
 
 abbrev Inv-loop : tie.InvT-loop
 Inv-loop strata k found₀ rules rounds₀ end₀ found rounds end =
-    Going (programOf rules) (number strata) k (member found₀) (member found) rounds
+    Going (activeOf rules) (number strata) k (member found₀) (member found) rounds
     × (length found ≡ length found₀) × NoneFrom (number strata) k rules found end × (end ≤ document .slots)
 
 abbrev μ-loop : tie.MeasureT-loop
@@ -42,7 +41,7 @@ round-of c = c .before
 loop-holds : tie.Need-loop-holds Inv-loop2 μ-loop2 Inv-loop μ-loop
 loop-holds c =
     let len : length (c .args .t1) ≡ document .slots = search needs in
-    let L = exact-strata _ _ (c .pre .stratified .exact) in
+    let L = strata-given (c .args .t1) _ (c .pre .stratified) in
     (going-start _ _ _ _ (found-filled _ _ L (c .pre .below)), refl, λ z l r. absurd (omega (arith, len)), omega arith)
 
 loop2-holds : tie.Need-loop2-holds Inv-loop2 μ-loop2 Inv-loop μ-loop
@@ -170,7 +169,7 @@ loop-again c =
     let past = c .before .loop2-test .left in
     let R = left-rest _ _ (s .args .t1) _ (t .i) _ _ (λ z l r. t .inv .1 .outer z (omega arith) r) (t .inv .0) in
     let more = not-false _ (c .if3 .left) in (
-      stratum-next (s .args .t1) _ _ _ _ _ _ _ (G .0) R (exact-strata _ _ (s .pre .stratified .exact)) more,
+      stratum-next (s .args .t1) _ _ _ _ _ _ _ (G .0) R (strata-given (s .args .t1) _ (s .pre .stratified)) more,
       R .size ∙ G .1,
       seen-end _ _ (s .args .t1) _ _ _ (t .i) (t .inv .1) past,
       omega (arith, t .inv .1 .low, t .inv .0 .place),

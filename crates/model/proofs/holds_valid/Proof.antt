@@ -1,12 +1,11 @@
 -- `model::holds_valid` answers whether a slot holds a valid rule. Assumes nothing.
 use mathlib.Core.Path.{_∙_}
-use Rattle.model.proofs.Visits.{rule-decides}
-use borrow.Author.Needs.{needs}
+use Rattle.model.proofs.Visits.{none-valid, rule-decides}
 use Rattle.model.proofs.holds_valid.Statement.{statement}
 use Rattle.model.proofs.holds_valid.Tie as tie
 
 returns : tie.Need-returns
-returns c = search needs
+returns c = none-valid _ (c .before .before .args .rule) (c .if1 .taken)
 
 valid-requires : tie.Need-valid-requires
 valid-requires c κs = tt

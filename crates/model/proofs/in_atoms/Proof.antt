@@ -5,7 +5,7 @@ use native.Mathlib.Omega.{arith}
 use mathlib.Core.Path.{_≡_, refl}
 use lib.ListN.{length}
 use Rattle.theory.specs.Limits.{document}
-use Rattle.table.specs.Rules.{programOf}
+use Rattle.table.specs.Rules.{bookOf}
 use Rattle.table.specs.Sets.{number}
 use Rattle.model.proofs.Rounds.{Between, between-start, between-next, between-end, stratum-room}
 use borrow.Author.Needs.{needs}
@@ -14,7 +14,7 @@ use Rattle.model.proofs.in_atoms.Tie as tie
 
 abbrev Inv-loop : tie.InvT-loop
 Inv-loop rules strata top found₀ rounds₀ k₀ found rounds k =
-    Between (programOf rules) (number strata) top k found rounds
+    Between (bookOf rules) (number strata) top k found rounds
 
 abbrev μ-loop : tie.MeasureT-loop
 μ-loop rules strata top found₀ rounds₀ k₀ found rounds k = top - k

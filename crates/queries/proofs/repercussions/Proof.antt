@@ -2,10 +2,11 @@
 use mathlib.Core.Path.{_≡_}
 use lib.ListN.{length, length-map}
 use Rattle.theory.specs.Limits.{document}
+use Rattle.theory.specs.Rules.{active}
 use Rattle.theory.specs.Explanations.{Repercussion}
 use Rattle.calls.specs.Contracts.{held}
 use Rattle.calls.proofs.Asking.{ask-passed}
-use Rattle.queries.proofs.Ends.{sound-bounded, flags-model, flags-supports, set-refused, set-ends}
+use Rattle.queries.proofs.Ends.{active-low, flags-model, flags-supports, set-refused, set-ends}
 use borrow.Author.Needs.{needs}
 use Rattle.queries.proofs.repercussions.Statement.{statement}
 use Rattle.queries.proofs.repercussions.Tie as tie
@@ -37,7 +38,7 @@ reached-requires c κs =
     let s = ask .before .before in
     let t = s .args .table in
     let is-sound = ask-passed t (s .args .atom) _ (ask .ask .ensures) _ (asked .asked2 .given .1) .sound in
-    (sound-bounded t is-sound, flags-supports t (rules-long s) (labels-long s) is-sound _ (keep .keep .ensures))
+    (active-low t is-sound, flags-supports t (rules-long s) (labels-long s) is-sound _ (keep .keep .ensures))
 
 slice-aggregate-write-marked : tie.Need-slice-aggregate-write-marked
 slice-aggregate-write-marked c = search needs
@@ -51,7 +52,8 @@ returns c =
     let ask = asked .before .before in
     let s = ask .before .before in
     let t = s .args .table in
-    set-refused t (s .args .atom) _ (ask .ask .ensures) (λ M. Repercussion (held t) M) _ (asked .asked .given .1) _
+    set-refused t (s .args .atom) _ (ask .ask .ensures) (λ M. Repercussion (active (held t)) M) _
+    (asked .asked .given .1) _
 
 same-length : tie.Need-same-length
 same-length c = search needs
@@ -66,7 +68,8 @@ returns-2 c =
     let s = ask .before .before in
     let t = s .args .table in
     let passes = ask-passed t (s .args .atom) _ (ask .ask .ensures) _ (asked .asked2 .given .1) in
-    set-ends t (s .args .atom) _ (ask .ask .ensures) (λ M. Repercussion (held t) M) _ (asked .asked2 .given .1) _
+    set-ends t (s .args .atom) _ (ask .ask .ensures) (λ M. Repercussion (active (held t)) M) _
+    (asked .asked2 .given .1) _
     (flags-model t (rules-long s) (labels-long s) (passes .sound) _ (keep .keep .ensures))
     (find .reached .result) (find .reached .ensures) _ _ _ (write .write-marked .ensures)
 

@@ -30,8 +30,8 @@ rule-in-requires c κs = tt
 keep-requires : tie.Need-keep-requires
 keep-requires c κs = tt
 
-tell-spoiler-requires : tie.Need-tell-spoiler-requires
-tell-spoiler-requires c κs = tt
+tell-rule-requires : tie.Need-tell-rule-requires
+tell-rule-requires c κs = tt
 
 returns : tie.Need-returns
 returns c =
@@ -49,7 +49,7 @@ returns-2 c =
     let s = ask .before in
     let passes = slot-passed (s .args .table) (s .args .slot) _ (ask .ask-slot .ensures) _ (asked .asked2 .given .1) in
     spoiler-ends (s .args .table) (rules-long s) (labels-long s) (passes .sound) (keep .keep .result)
-    (keep .keep .ensures) (s .args .slot) _ passes _ (read .rule-in .ensures) _ (c .tell-spoiler .ensures)
+    (keep .keep .ensures) (s .args .slot) _ passes _ (read .rule-in .ensures) _ (c .tell-rule .ensures)
 
 pub spoiler-spec : {M : Type 1} → statement M
 spoiler-spec =
@@ -60,6 +60,6 @@ spoiler-spec =
     enum-known-asked-2
     rule-in-requires
     keep-requires
-    tell-spoiler-requires
+    tell-rule-requires
     returns
     returns-2)

@@ -2,6 +2,7 @@
 use Prim.Native.Nat.{ℕ}
 use mathlib.Core.Path.{_≡_, sym, subst}
 use mathlib.Core.Option.{none}
+use Rattle.theory.specs.Rules.{all}
 use Rattle.theory.specs.Questions.{first-no, slot-questions}
 use Rattle.theory.specs.Limits.{document}
 use Rattle.theory.proofs.Questions.{first-no-before}
@@ -35,7 +36,7 @@ replace-held-requires c κs =
     let s = start ask in
     let Q = slot-passed _ _ _ (ask .ask-slot .ensures) _ (asked .asked2 .given .1) in (
       Q .sound,
-      subst (λ (k : ℕ). first-no (slot-questions document (held (s .args .table)) k) ≡ none) (sym (Q .slot))
+      subst (λ (k : ℕ). first-no (slot-questions document (all (held (s .args .table))) k) ≡ none) (sym (Q .slot))
           (Q .yes),
     )
 
@@ -46,7 +47,7 @@ returns c =
     let s = start ask in
     handed-back (s .args .table) (s .args .slot) _ _ _ (c .keep .ensures)
     (change-refused (s .args .table) (s .args .slot) _ (ask .ask-slot .ensures) _ (refused .asked .given .1) _ _
-    (λ k no. first-no-before (slot-questions document (held (s .args .table)) (s .args .slot)) _ k no))
+    (λ k no. first-no-before (slot-questions document (all (held (s .args .table))) (s .args .slot)) _ k no))
 
 returns-2 : tie.Need-returns-2
 returns-2 c =

@@ -4,7 +4,7 @@ use mathlib.Core.Path.{_≡_, sym, _∙_}
 use mathlib.Core.Bool.{Bool, false}
 use mathlib.Core.Option.{none}
 use lib.ListN.{set}
-use Rattle.theory.specs.Rules.{any-rule, same}
+use Rattle.theory.specs.Rules.{all, any-rule, same}
 use Rattle.theory.specs.Rules as theory
 use Rattle.theory.specs.Questions.{first-no, rule-questions}
 use Rattle.theory.specs.Limits.{document}
@@ -38,7 +38,7 @@ start c = made c .before .before .before .before .before
 
 held-elsewhere :
     (c : tie.After-holds-rule) (v : Bool) → c .holds-rule .result ≡ v
-    → any-rule (same (named (start c))) (set (held (start c .args .table)) (start c .args .slot .0) none) ≡ v
+    → any-rule (same (named (start c))) (set (all (held (start c .args .table))) (start c .args .slot .0) none) ≡ v
 held-elsewhere c v e =
     let s = start c in
     rest-told (s .args .table) (s .pre .0) (s .args .slot .0) (s .pre .1) (named s) (pass (made c .before)) _

@@ -4,15 +4,15 @@ use native.Mathlib.Omega.{arith}
 use mathlib.Core.Path.{_≡_}
 use lib.ListN.{length}
 use Rattle.theory.specs.Limits.{document}
-use Rattle.table.specs.Rules.{programOf}
-use Rattle.table.proofs.Programs.{program-length}
+use Rattle.table.specs.Rules.{bookOf}
+use Rattle.table.proofs.Programs.{book-length}
 use Rattle.saving.proofs.Held.{Noting, note-start, note-next, note-over}
 use borrow.Author.Needs.{needs}
 use Rattle.saving.proofs.held_slots.Statement.{statement}
 use Rattle.saving.proofs.held_slots.Tie as tie
 
 abbrev Inv-loop : tie.InvT-loop
-Inv-loop rules slots₀ count₀ i₀ slots count i = (i ≤ document .slots) × Noting (programOf rules) i count slots
+Inv-loop rules slots₀ count₀ i₀ slots count i = (i ≤ document .slots) × Noting (bookOf rules) i count slots
 
 abbrev μ-loop : tie.MeasureT-loop
 μ-loop rules slots₀ count₀ i₀ slots count i = document .slots - i
@@ -59,7 +59,7 @@ returns c =
     let l = c .before .loop in
     let rules = c .before .before .args .t1 in
     let long : length rules ≡ document .slots = search needs in
-    note-over (programOf rules) (l .i) _ _ (omega (arith, program-length rules)) (l .inv .0) (l .inv .1)
+    note-over (bookOf rules) (l .i) _ _ (omega (arith, book-length rules)) (l .inv .0) (l .inv .1)
 
 pub held-slots-spec : {M : Type 1} → statement M
 held-slots-spec =

@@ -17,6 +17,11 @@ add-write-word c = omega arith
 write-word-requires-2 : tie.Need-write-word-requires-2
 write-word-requires-2 c κs = omega arith
 
+count-byte-requires : tie.Need-count-byte-requires
+count-byte-requires c κs =
+    let s = c .before .before .before .before .before .before .before .before .before in
+    omega (arith, s .pre .0 .fits)
+
 add-out : tie.Need-add-out
 add-out c = omega arith
 
@@ -38,15 +43,16 @@ write-entries-requires c κs = simp length-set (omega arith)
 returns : tie.Need-returns
 returns c =
     let rest = c .before .before in
-    let second = rest .before .before .before .before .before in
+    let count = rest .before .before .before in
+    let second = count .before .before .before in
     let first = second .before .before .before .before in
     let s = first .before .before .before in
     let long : length (s .args .rule .entries) ≡ document .entries =
     simp length-map at (s .good .1 .1 .1 .0 .1 .1 .1 .1 .1 .1 .0 .1 .0 .1) in
     let slot = first .write-word .ensures in
     let head = second .write-word2 .ensures in
-    wrote-record (s .args .rule) long (s .pre .0) (s .args .at) (s .args .slot) (s .pre .1)
-    (wrote-to _ (slot .place) slot) (wrote-to _ (omega (arith, head .place)) head)
+    wrote-record (s .args .rule) long (s .pre .0) (s .args .at) (s .args .slot) _ (s .pre .1)
+    (count .count-byte .ensures) (wrote-to _ (slot .place) slot) (wrote-to _ (omega (arith, head .place)) head)
     (wrote-to _ (omega arith) (rest .write-entries .ensures))
 
 same-length : tie.Need-same-length
@@ -59,6 +65,7 @@ write-record-spec =
     write-word-requires
     add-write-word
     write-word-requires-2
+    count-byte-requires
     add-out
     slice-write-out
     add-out-2

@@ -1,12 +1,12 @@
 -- `supports::ready` meets its contract. Assumes nothing.
 use mathlib.Core.Path.{sym, _∙_}
 use Rattle.theory.proofs.Lists.{not-true, not-false}
-use Rattle.supports.proofs.Slots.{ready-free, ready-high, ready-valid}
+use Rattle.supports.proofs.Slots.{ready-none, ready-high, ready-valid}
 use Rattle.supports.proofs.ready.Statement.{statement}
 use Rattle.supports.proofs.ready.Tie as tie
 
 returns : tie.Need-returns
-returns c = ready-free _ _ _ (c .before .before .args .rule) (c .if1 .taken)
+returns c = ready-none _ _ _ (c .before .before .args .rule) (c .if1 .taken)
 
 below-requires : tie.Need-below-requires
 below-requires c κs = tt

@@ -5,17 +5,17 @@ use mathlib.Core.Path.{_≡_}
 use lib.ListN.{length, getD}
 use Rattle.theory.specs.Limits.{document}
 use Rattle.table.specs.Sets.{member}
-use Rattle.table.specs.Rules.{programOf, slotOf, pastRule}
+use Rattle.table.specs.Rules.{activeOf, activeIn, pastRule}
 use Rattle.depths.proofs.Slots.{slot-head}
 use Rattle.supports.proofs.Claims.{Scan, scan-start, scan-next, scan-end}
-use Rattle.table.proofs.Programs.{program-at, program-length}
+use Rattle.table.proofs.Programs.{active-place, active-length}
 use borrow.Author.Needs.{needs}
 use Rattle.supports.proofs.supports.Statement.{statement}
 use Rattle.supports.proofs.supports.Tie as tie
 
 abbrev Inv-loop : tie.InvT-loop
 Inv-loop model depths rules slots₀ found₀ i₀ slots found i =
-    (i ≤ document .slots) × Scan (programOf rules) (member model) (document .atoms) i found slots
+    (i ≤ document .slots) × Scan (activeOf rules) (member model) (document .atoms) i found slots
 
 abbrev μ-loop : tie.MeasureT-loop
 μ-loop model depths rules slots₀ found₀ i₀ slots found i = document .slots - i
@@ -47,7 +47,8 @@ loop-again c =
     let at = c .before .before .before .before .before .loop in
     let here = getD (s .args .t1) (at .i) pastRule in (
       omega arith,
-      scan-next _ _ (s .pre .1) _ (s .pre .2) (at .i) (slotOf here) (here .head .0) (program-at (s .args .t1) (at .i))
+      scan-next _ _ (s .pre .1) _ (s .pre .2) (at .i) (activeIn here) (here .head .0)
+          (active-place (s .args .t1) (at .i))
           (slot-head here) _ (s .pre .0) _ _ (at .inv .1) _ _ (c .claim .ensures),
     )
 
@@ -56,7 +57,7 @@ returns c =
     let s = c .before .before in
     let at = c .before .loop in
     let len : length (s .args .t1) ≡ document .slots = search needs in
-    scan-end _ _ (s .pre .1) _ (s .pre .2) _ (at .i) _ _ (omega (arith, program-length (s .args .t1))) (at .inv .1)
+    scan-end _ _ (s .pre .1) _ (s .pre .2) _ (at .i) _ _ (omega (arith, active-length (s .args .t1))) (at .inv .1)
 
 pub supports-spec : {M : Type 1} → statement M
 supports-spec =

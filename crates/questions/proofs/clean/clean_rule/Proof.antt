@@ -3,7 +3,7 @@ use mathlib.Core.Path.{_≡_}
 use lib.ListN.{length, length-map}
 use borrow.Author.Needs.{needs}
 use Rattle.theory.specs.Limits.{document}
-use Rattle.questions.proofs.Cleanness.{too-many, not-empty, held-clean, unknown, free-counts, free-head}
+use Rattle.questions.proofs.Cleanness.{too-many, not-empty, held-clean, free-counts, free-head}
 use Rattle.questions.proofs.clean.clean_rule.Statement.{statement}
 use Rattle.questions.proofs.clean.clean_rule.Tie as tie
 
@@ -36,38 +36,29 @@ returns-2 c =
 
 returns-3 : tie.Need-returns-3
 returns-3 c =
-    let c2 = c .before .before in
+    let c2 = c .before .before .before in
     let c1 = c2 .before .before in
     let s = c1 .before .before .before in
     held-clean (s .args .rule) (long s) (c1 .if1 .left) _ (c2 .before .empty-from .ensures) (c2 .if2 .left)
-    (c .if3 .taken)
+    (c .before .if3 .taken)
 
 returns-4 : tie.Need-returns-4
 returns-4 c =
-    let c3 = c .before .before in
+    let c3 = c .before in
     let c2 = c3 .before .before in
     let c1 = c2 .before .before in
     let s = c1 .before .before .before in
-    unknown (s .args .rule) (long s) (c1 .if1 .left) _ (c2 .before .empty-from .ensures) (c2 .if2 .left)
+    free-counts (s .args .rule) (long s) (c1 .if1 .left) _ (c2 .before .empty-from .ensures) (c2 .if2 .left)
     (c3 .if3 .left) (c .if4 .taken)
 
 returns-5 : tie.Need-returns-5
 returns-5 c =
-    let c4 = c .before in
-    let c2 = c4 .before .before .before .before in
-    let c1 = c2 .before .before in
-    let s = c1 .before .before .before in
-    free-counts (s .args .rule) (long s) (c1 .if1 .left) _ (c2 .before .empty-from .ensures) (c2 .if2 .left)
-    (c4 .if4 .left) (c .if5 .taken)
-
-returns-6 : tie.Need-returns-6
-returns-6 c =
-    let c4 = c .before .before in
-    let c2 = c4 .before .before .before .before in
+    let c3 = c .before .before in
+    let c2 = c3 .before .before in
     let c1 = c2 .before .before in
     let s = c1 .before .before .before in
     free-head (s .args .rule) (long s) (c1 .if1 .left) _ (c2 .before .empty-from .ensures) (c2 .if2 .left)
-    (c4 .if4 .left) (c .before .if5 .left)
+    (c3 .if3 .left) (c .before .if4 .left)
 
 pub clean-rule-spec : {M : Type 1} → statement M
 clean-rule-spec =
@@ -81,5 +72,4 @@ clean-rule-spec =
     returns-2
     returns-3
     returns-4
-    returns-5
-    returns-6)
+    returns-5)

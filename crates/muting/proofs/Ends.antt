@@ -1,0 +1,149 @@
+-- How muting a rule of a sound table ends, from the answers of its questions. Assumes nothing.
+use Prim.Native.Nat.{ℕ, _<_}
+use native.Mathlib.Omega.{arith}
+use mathlib.Core.Path.{_≡_, refl, sym, _∙_, ap, ap₂, subst}
+use mathlib.Core.Bool.{Bool, true, false}
+use mathlib.Core.List.{List}
+use mathlib.Core.Option.{none, some, Option·some-injective}
+use lib.ListN.{length, getD, set}
+use Rattle.theory.specs.Rules.{all, rule-on, with-mark, Held, Ascending, Bounded}
+use Rattle.theory.specs.Rules as theory
+use Rattle.theory.specs.Dependencies.{NegativeCycle}
+use Rattle.theory.specs.Questions.{first-no, rule-questions}
+use Rattle.theory.specs.Limits.{document}
+use Rattle.theory.proofs.Pages.{mark-keeps-rules, page-held, set-mark}
+use Rattle.theory.proofs.Sameness.{same-refl}
+use Rattle.table.specs.declared.Rule.{Rule}
+use Rattle.table.specs.declared.Slot.{Slot}
+use Rattle.table.specs.declared.Table.{Table}
+use Rattle.table.specs.Rules.{bookOf, pageOf, pastRule, programOf, ruleOf, slotOf}
+use Rattle.table.specs.Clean.{CleanRule, freeRule}
+use Rattle.table.specs.Sound.{Sound}
+use Rattle.table.proofs.Entries.{there as there-too}
+use Rattle.table.proofs.Programs.{book-length}
+use Rattle.calls.specs.declared.ChangeAnswer.the-variants as changed
+use Rattle.calls.specs.Contracts as contract
+use Rattle.calls.specs.Contracts.{held, Sized, MuteEnds}
+use Rattle.calls.proofs.Asking.{PassesSlot, slot-low, slot-holds}
+use Rattle.labels.specs.declared.Labelling.{Labelling}
+use Rattle.labels.specs.Labelling.{LabellingOf}
+use Rattle.changes.proofs.OneSlot.{book-after, bounded-after, sound-after, sized-after}
+use Rattle.muting.specs.Marks.{slotMarked}
+
+-- The mark as the code sets it.
+module _ (m : Bool) (r : Rule) where
+  pub mark-on : m ≡ true → slotMarked true r ≡ slotMarked m r
+  mark-on e = ap (λ b. slotMarked b r) (sym e)
+
+  pub mark-off : m ≡ false → slotMarked false r ≡ slotMarked m r
+  mark-off e = ap (λ b. slotMarked b r) (sym e)
+
+  -- What the slot holds then, and that it is clean where the slot was.
+  page-marked : pageOf (slotMarked m r) ≡ some (record { rule = ruleOf r; muted = m })
+  page-marked = go m
+    where
+      go : (b : Bool) → pageOf (slotMarked b r) ≡ some (record { rule = ruleOf r; muted = b })
+      go true = refl
+      go false = refl
+
+  clean-marked : CleanRule r → CleanRule (slotMarked m r)
+  clean-marked C = go m
+    where
+      go : (b : Bool) → CleanRule (slotMarked b r)
+      go true = record { known = omega arith; free = λ e. absurd (omega arith); fits = C .fits; filler = C .filler }
+      go false = record { known = omega arith; free = λ e. absurd (omega arith); fits = C .fits; filler = C .filler }
+
+-- The rule r in slot s of the table t, which passed questions 8 and 9, gets the mark m.
+module _
+    (t : Table) (s : ℕ) (x : Slot) (Q : PassesSlot t s x) (r : Rule) (is : r ≡ getD (t .rules) s freeRule) (m : Bool)
+  where
+    abbrev S : Sound t
+    S = Q .sound
+
+    abbrev new : Rule
+    new = slotMarked m r
+
+    inside : s < document .slots
+    inside = slot-low t s x Q
+
+    there : Held (all (held t)) s (ruleOf r)
+    there = slot-holds t s r is (Q .yes)
+
+    clean-there : CleanRule r
+    clean-there =
+        subst CleanRule (sym (is ∙ there-too (t .rules) s freeRule pastRule (omega (arith, inside, long))))
+        (S .clean .rules s inside)
+      where
+        long : length (t .rules) ≡ document .slots
+        long = sym (book-length (t .rules)) ∙ S .labels .slots
+
+    -- the slot holds that rule
+    one : (p : theory.Rule) → slotOf new ≡ some p → ruleOf r ≡ p
+    one p h = Option·some-injective (ruleOf r) p (sym (ap rule-on (page-marked m r)) ∙ h)
+
+    passes : (p : theory.Rule) → slotOf new ≡ some p → first-no (rule-questions document p) ≡ none
+    passes p h = subst (λ (q : theory.Rule). first-no (rule-questions document q) ≡ none) (one p h)
+        (S .labels .passes s (ruleOf r) there)
+
+    ascending : (p : theory.Rule) → slotOf new ≡ some p → Ascending p
+    ascending p h = subst Ascending (one p h) (S .labels .ascending s (ruleOf r) there)
+
+    fresh : (k : ℕ) (p : theory.Rule) → (k ≡ s → ⊥) → slotOf new ≡ some p → Held (all (held t)) k p → ⊥
+    fresh k p n h i =
+        n (S .labels .single k s p p i (subst (Held (all (held t)) s) (one p h) there) (same-refl p))
+
+    -- The pages are those with the mark set.
+    pages-marked : bookOf (set (t .rules) s new) ≡ with-mark (held t) s m
+    pages-marked =
+        let w = page-held (held t) s (ruleOf r) there in
+        book-after t S s inside new
+        ∙ ap (set (held t) s) (page-marked m r
+        ∙ ap (λ (q : theory.Rule). some (record { rule = q; muted = m })) (sym (w .2))
+        ∙ ap (set-mark m) (sym (w .1)))
+
+    -- So every rule held stays.
+    all-stay : programOf (set (t .rules) s new) ≡ all (held t)
+    all-stay = ap all pages-marked ∙ mark-keeps-rules (held t) s m
+
+    module _ (slots : List Rule) (put : slots ≡ set (t .rules) s new) where
+      bounded-marked : Bounded (programOf slots) (document .atoms)
+      bounded-marked =
+          rw put (bounded-after t S s inside new (clean-marked m r clean-there) passes ascending fresh)
+
+      mute-ends :
+          (l : Labelling) → LabellingOf (bookOf slots) l → Sized t → length (r .entries) ≡ document .entries
+          → length (l .labels) ≡ document .atoms
+          → MuteEnds t s m changed.Accepted (record { rules = slots; labels = l .labels })
+      mute-ends l L Z n k =
+          let L′ : LabellingOf (bookOf (set (t .rules) s new)) l = rw put at L in
+          let w = L′ .acyclic (not-cyclic (l .acyclic) refl L′) in
+          rw put
+          (contract.accepted _ S (Q .yes) (sized-after t S s inside new Z n (l .labels) k) pages-marked
+          (sound-after t S s inside new (clean-marked m r clean-there) passes ascending fresh (l .labels) (w .0)
+          (w .1 .0) (w .1 .1)))
+        where
+          not-cyclic :
+              (b : Bool) → l .acyclic ≡ b → LabellingOf (bookOf (set (t .rules) s new)) l → l .acyclic ≡ true
+          not-cyclic true e K = e
+          not-cyclic false e K = absurd (S .labels .acyclic (subst NegativeCycle all-stay (K .cyclic e)))
+
+-- The same of what the code reads and puts: h is what slot x holds, o that with the mark.
+module _
+    (t : Table) (s : ℕ) (x : Slot) (Q : PassesSlot t s x) (m : Bool) (h o : Rule)
+    (read : h ≡ getD (t .rules) (x .0) freeRule) (mark : o ≡ slotMarked m h) (slots : List Rule)
+    (put : slots ≡ set (t .rules) (x .0) o)
+  where
+    is-there : h ≡ getD (t .rules) s freeRule
+    is-there = read ∙ ap (λ (k : ℕ). getD (t .rules) k freeRule) (Q .slot)
+
+    is-put : slots ≡ set (t .rules) s (slotMarked m h)
+    is-put = put ∙ ap₂ (λ (k : ℕ) (r : Rule). set (t .rules) k r) (Q .slot) mark
+
+    pub bounded-after-mark : Bounded (programOf slots) (document .atoms)
+    bounded-after-mark = bounded-marked t s x Q h is-there m slots is-put
+
+    pub muted-ends :
+        (l : Labelling) → LabellingOf (bookOf slots) l → Sized t → length (h .entries) ≡ document .entries
+        → length (l .labels) ≡ document .atoms
+        → MuteEnds t s m changed.Accepted (record { rules = slots; labels = l .labels })
+    muted-ends = mute-ends t s x Q h is-there m slots is-put

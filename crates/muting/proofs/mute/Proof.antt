@@ -1,0 +1,76 @@
+-- `muting::mute` ends as its contract says. Assumes nothing.
+use Rattle.calls.proofs.Asking.{slot-passed, change-refused}
+use Rattle.calls.proofs.Sizes.{rule-sized, table-sized}
+use Rattle.changes.proofs.Sizes.{labels-sized}
+use Rattle.muting.proofs.Ends.{bounded-after-mark, muted-ends}
+use borrow.Author.Needs.{needs}
+use Rattle.muting.proofs.mute.Statement.{statement}
+use Rattle.muting.proofs.mute.Tie as tie
+
+ask-slot-requires : tie.Need-ask-slot-requires
+ask-slot-requires c κs = tt
+
+enum-known-asked : tie.Need-enum-known-asked
+enum-known-asked c = search needs
+
+enum-known-asked-2 : tie.Need-enum-known-asked-2
+enum-known-asked-2 c = search needs
+
+rule-in-requires : tie.Need-rule-in-requires
+rule-in-requires c κs = tt
+
+marked-requires : tie.Need-marked-requires
+marked-requires c κs = tt
+
+with-rule-requires : tie.Need-with-rule-requires
+with-rule-requires c κs = tt
+
+labels-of-requires : tie.Need-labels-of-requires
+labels-of-requires c κs =
+    let mark = c .before in
+    let read = mark .before in
+    let asked = read .before .before .before in
+    let ask = asked .before .before in
+    let s = ask .before in
+    bounded-after-mark (s .args .table) (s .args .slot) _
+    (slot-passed _ _ _ (ask .ask-slot .ensures) _ (asked .asked2 .given .1)) (s .args .muted) _ _
+    (read .rule-in .ensures)
+    (mark .marked .ensures) _ (c .with-rule .ensures)
+
+returns : tie.Need-returns
+returns c =
+    let asked = c .before in
+    let ask = asked .before .before in
+    let s = ask .before in
+    change-refused (s .args .table) (s .args .slot) _ (ask .ask-slot .ensures) _ (asked .asked .given .1) _ _
+    (λ k no. no)
+
+returns-2 : tie.Need-returns-2
+returns-2 c =
+    let told = c .before in
+    let put = told .before in
+    let mark = put .before in
+    let read = mark .before in
+    let asked = read .before .before .before in
+    let ask = asked .before .before in
+    let s = ask .before in
+    muted-ends (s .args .table) (s .args .slot) _
+    (slot-passed _ _ _ (ask .ask-slot .ensures) _ (asked .asked2 .given .1)) (s .args .muted) _ _
+    (read .rule-in .ensures)
+    (mark .marked .ensures) _ (put .with-rule .ensures) (told .labels-of .result) (told .labels-of .ensures)
+    (table-sized _ _ (s .good .0)) (rule-sized (read .rule-in .result) _ (read .rule-in .ok))
+    (labels-sized (told .labels-of .result) _ (told .labels-of .ok))
+
+pub mute-spec : {M : Type 1} → statement M
+mute-spec =
+    tie.close
+    (tie.spec
+    ask-slot-requires
+    enum-known-asked
+    enum-known-asked-2
+    rule-in-requires
+    marked-requires
+    with-rule-requires
+    labels-of-requires
+    returns
+    returns-2)

@@ -1,0 +1,17 @@
+-- `queries::answers::tell_rule` meets its contract. Assumes nothing.
+use Rattle.queries.proofs.Told.{told-muted, told-unmuted}
+use Rattle.queries.proofs.answers.tell_rule.Statement.{statement}
+use Rattle.queries.proofs.answers.tell_rule.Tie as tie
+
+returns : tie.Need-returns
+returns c = told-muted (c .before .before .args .rule) _ (c .if1 .taken)
+
+tell-spoiler-requires : tie.Need-tell-spoiler-requires
+tell-spoiler-requires c κs = tt
+
+returns-2 : tie.Need-returns-2
+returns-2 c =
+    told-unmuted (c .before .before .before .args .rule) _ (c .before .if1 .left) _ (c .tell-spoiler .ensures)
+
+pub tell-rule-spec : {M : Type 1} → statement M
+tell-rule-spec = tie.close (tie.spec returns tell-spoiler-requires returns-2)
