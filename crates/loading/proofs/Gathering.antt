@@ -21,10 +21,10 @@ use Rattle.theory.proofs.Lists.{leb-le, le-leb, ltb-lt, lt-ltb, le-or-lt, entry
 use Rattle.table.specs.declared.Atom.{Atom}
 use Rattle.table.specs.declared.Rule.{Rule}
 use Rattle.table.specs.declared.Table.{Table}
-use Rattle.table.specs.Rules.{bookOf, noAtom, numbers, page-in, pageOf, pastRule, ruleOf, slotOf}
+use Rattle.table.specs.Rules.{bookOf, noAtom, numbers, pageOf, pastRule, ruleOf, slotOf, stateOf}
 use Rattle.table.specs.Clean.{freeRule, emptyTable, WellFormed}
 use Rattle.table.proofs.Entries.{numbers-take, numbers-drop}
-use Rattle.table.proofs.Programs.{book-set, slot-state}
+use Rattle.table.proofs.Programs.{book-set, page-stated, slot-state}
 use Rattle.table.proofs.Empty.{free-clean, free-book}
 use Rattle.blocks.specs.Words.{wordAt}
 use Rattle.blocks.specs.Places.{pageIn, Place, placeAt, ruleIn}
@@ -33,7 +33,7 @@ use Rattle.blocks.specs.Questions.{pagesWith}
 use Rattle.blocks.proofs.Reading.{place-at, word-drop}
 use Rattle.blocks.proofs.Records.{ascends-sorted}
 use Rattle.loading.specs.declared.Records.{Records}
-use Rattle.loading.specs.Reading.{atom, stateOf, slotFrom, Stands, allRight, ReadFrom}
+use Rattle.loading.specs.Reading.{atom, slotFrom, Stands, allRight, ReadFrom}
 
 -- Atoms made of numbers have these numbers.
 numbers-atoms : (xs : List ℕ) → numbers (map atom xs) ≡ xs
@@ -54,12 +54,8 @@ rule-from p = λ i. record {
 -- And its mark: the page of the slot is the place's.
 pub page-from : (p : Place) → pageOf (slotFrom p) ≡ some (pageIn p)
 page-from p =
-    marked (ruleOf (slotFrom p)) (p .muted)
+    page-stated (ruleOf (slotFrom p)) (p .muted)
     ∙ ap (λ (r : theory.Rule). some (record { rule = r; muted = p .muted })) (rule-from p)
-  where
-    marked : (r : theory.Rule) (m : Bool) → page-in (stateOf m) r ≡ some (record { rule = r; muted = m })
-    marked r true = refl
-    marked r false = refl
 
 slot-from : (p : Place) → slotOf (slotFrom p) ≡ some (ruleIn p)
 slot-from p = ap rule-on (page-from p)

@@ -13,11 +13,12 @@ use Rattle.theory.proofs.Lists.{le-leb, leb-le, unless}
 use Rattle.table.specs.declared.Atom.{Atom}
 use Rattle.table.specs.declared.Rule.{Rule}
 use Rattle.table.specs.Clean.{WellFormed}
+use Rattle.table.specs.Rules.{stateOf}
 use Rattle.questions.proofs.Cleanness.{is-not}
 use Rattle.blocks.specs.Words.{wordAt, wordsIn}
 use Rattle.blocks.specs.Places.{placeAt}
 use Rattle.blocks.proofs.Reading.{word-drop}
-use Rattle.loading.specs.Reading.{Stands, atom, stateOf, slotFrom}
+use Rattle.loading.specs.Reading.{Stands, atom, slotFrom}
 
 module _ (slot least : ℕ) (rule : Rule) where
   pub stands-behind : slot < least → (false ≡ true) ↔ Stands slot least rule

@@ -2,7 +2,7 @@
 -- nothing.
 use Prim.Native.Nat.{ℕ, _<_, _≤_}
 use mathlib.Core.Path.{_≡_}
-use mathlib.Core.Bool.{Bool, true, cond, _&&_}
+use mathlib.Core.Bool.{Bool, true, _&&_}
 use mathlib.Core.List.{List, map}
 use lib.Dec.{eqb, ltb}
 use lib.ListN.{length, getD}
@@ -10,7 +10,7 @@ use Rattle.theory.specs.Lists.{every}
 use Rattle.theory.specs.Limits.{document}
 use Rattle.table.specs.declared.Atom.{Atom}
 use Rattle.table.specs.declared.Rule.{Rule}
-use Rattle.table.specs.Rules.{bookOf, pastRule}
+use Rattle.table.specs.Rules.{stateOf, bookOf, pastRule}
 use Rattle.table.specs.Clean.{WellFormed}
 use Rattle.blocks.specs.Words.{wordAt}
 use Rattle.blocks.specs.Places.{Place}
@@ -34,12 +34,9 @@ pub record CheckedOf (bs : List ℕ) (r : Checked) : Type 0 where
   pub numbered : r .numbered ≡ numbered (blockCount bs) 0 (blocks bs)
   pub filled : r .filled ≡ every filled (blocks bs)
 
--- An atom by its number; the state of a slot by the mark; the slot that a place records.
+-- An atom by its number; the slot that a place records.
 abbrev pub atom : ℕ → Atom
 atom x = record { 0 = x }
-
-abbrev pub stateOf : Bool → ℕ
-stateOf muted = cond muted 2 1
 
 abbrev pub slotFrom : Place → Rule
 slotFrom p =

@@ -24,7 +24,8 @@ ghost use Rattle.blocks.specs.Words.{wordAt, wordsIn};
 ghost use Rattle.blocks.specs.Places.{placeAt, ENTRIES};
 ghost use Rattle.blocks.specs.Places as format;
 ghost use Rattle.blocks.specs.Questions.{blocks, blockCount, placesOf, whole, summed, counted, numbered, filled};
-ghost use Rattle.loading.specs.Reading.{blockNumbered, CheckedNext, CheckedOf, atom, stateOf, slotFrom};
+ghost use Rattle.loading.specs.Reading.{blockNumbered, CheckedNext, CheckedOf, atom, slotFrom};
+ghost use Rattle.table.specs.Rules.{stateOf};
 ghost use Rattle.loading.specs.Reading.{Stands, ReadFrom};
 
 // What the questions of blocks are answered: sums (17), index and numbers (18), filler (19).

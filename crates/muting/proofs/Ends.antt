@@ -20,7 +20,7 @@ use Rattle.table.specs.Rules.{bookOf, pageOf, pastRule, programOf, ruleOf, slot
 use Rattle.table.specs.Clean.{CleanRule, freeRule}
 use Rattle.table.specs.Sound.{Sound}
 use Rattle.table.proofs.Entries.{there as there-too}
-use Rattle.table.proofs.Programs.{book-length}
+use Rattle.table.proofs.Programs.{book-length, page-stated}
 use Rattle.calls.specs.declared.ChangeAnswer.the-variants as changed
 use Rattle.calls.specs.Contracts as contract
 use Rattle.calls.specs.Contracts.{held, Sized, MuteEnds}
@@ -40,11 +40,7 @@ module _ (m : Bool) (r : Rule) where
 
   -- What the slot holds then, and that it is clean where the slot was.
   page-marked : pageOf (slotMarked m r) ≡ some (record { rule = ruleOf r; muted = m })
-  page-marked = go m
-    where
-      go : (b : Bool) → pageOf (slotMarked b r) ≡ some (record { rule = ruleOf r; muted = b })
-      go true = refl
-      go false = refl
+  page-marked = page-stated (ruleOf r) m
 
   clean-marked : CleanRule r → CleanRule (slotMarked m r)
   clean-marked C = go m

@@ -1,12 +1,13 @@
 -- Private: a slot with its mark set. Assumes nothing.
-use mathlib.Core.Bool.{Bool, cond}
+use mathlib.Core.Bool.{Bool}
 use Rattle.table.specs.declared.Rule.{Rule}
+use Rattle.table.specs.Rules.{stateOf}
 
--- The slot as it is, but for its state: 2 if the rule is muted, 1 if not.
+-- The slot as it is, but for its state, which is that of the mark.
 abbrev pub slotMarked : Bool → Rule → Rule
 slotMarked m r =
     record {
-      state = cond m 2 1;
+      state = stateOf m;
       head = r .head;
       positives = r .positives;
       negatives = r .negatives;

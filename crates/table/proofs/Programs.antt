@@ -2,6 +2,7 @@
 use Prim.Native.Nat.{ℕ, zero, suc, _<_}
 use native.Mathlib.Omega.{arith}
 use mathlib.Core.Path.{_≡_, refl, sym, _∙_, ap}
+use mathlib.Core.Bool.{Bool, true, false}
 use mathlib.Core.List.{List}
 use mathlib.Core.Option.{none, some, Option·none-ne-some, Option·some-injective}
 use lib.ListN.{length, getD, set, length-map, List·getD-map}
@@ -12,11 +13,16 @@ use Rattle.theory.proofs.Pages.{active-at, all-at, all-length, all-set, map-set
 use Rattle.table.specs.declared.Rule.{Rule}
 use Rattle.table.specs.declared.Label.{Label}
 use Rattle.table.specs.Rules.{activeIn, activeOf, bookOf, page-in, pageOf, pastRule, programOf, ruleOf, slotOf}
+use Rattle.table.specs.Rules.{stateOf}
 use Rattle.table.specs.Labels.{labelOf, label-in}
 
 -- A slot by its state: what it holds, and what it holds unmuted.
 pub slot-free : (r : Rule) → r .state ≡ 0 → slotOf r ≡ none
 slot-free r e = ap (λ n. rule-on (page-in n (ruleOf r))) e
+
+pub page-stated : (r : theory.Rule) (m : Bool) → page-in (stateOf m) r ≡ some (record { rule = r; muted = m })
+page-stated r true = refl
+page-stated r false = refl
 
 pub slot-held : (r : Rule) → (r .state ≡ 0 → ⊥) → slotOf r ≡ some (ruleOf r)
 slot-held r h = some-of (r .state) h

@@ -1,6 +1,6 @@
 -- A slot of the table as the theory's rule, and what the calls on one rule answer. Assumes nothing.
 use Prim.Native.Nat.{ℕ, zero, suc}
-use mathlib.Core.Bool.{true, false}
+use mathlib.Core.Bool.{Bool, true, false, cond}
 use mathlib.Core.List.{List, [], map}
 use mathlib.Core.Option.{Option, none, some}
 use lib.ListN.{take, drop}
@@ -32,6 +32,10 @@ abbrev pub page-in : ℕ → theory.Rule → Option Page
 page-in zero r = none
 page-in (suc zero) r = some (record { rule = r; muted = false })
 page-in (suc (suc n)) r = some (record { rule = r; muted = true })
+
+-- The state of a slot that holds a rule with this mark.
+abbrev pub stateOf : Bool → ℕ
+stateOf muted = cond muted 2 1
 
 abbrev pub pageOf : Rule → Option Page
 pageOf r = page-in (r .state) (ruleOf r)
