@@ -34,8 +34,9 @@ extern "C" {
 #define YEQONTUR_FILE_BYTES 6144
 
 /* A slot: free (state 0) or with one rule (state 1): the head is in if every positive entry is in and no negative one
- * is. A muted rule (state 2) is held and gives nothing. The entries are the positive list, then the negative list, each
- * ascending, in whatever order the call named it. To be read; rules are changed by the calls. */
+ * is. A muted rule (state 2) is held and gives nothing. A table with any other state is not sound. The entries are the
+ * positive list, then the negative list, each ascending, in whatever order the call named it. To be read; rules are
+ * changed by the calls. */
 typedef struct {
     uint16_t state;
     uint16_t head;
@@ -204,8 +205,10 @@ yeqontur_loaded yeqontur_load(const uint8_t *bytes, size_t length);
  * The rules alone say how many files there are. So yeqontur_remove of the last file's slot, where that file has no mark
  * and is not the only one, leaves a checklist of one file less, which may then be complete; and yeqontur_add of the
  * next file's rule, where it comes to its slot, makes one of one file more, up to 60. The same do yeqontur_replace of
- * the last file's rule by a mark of another file, and of a mark in the next file's slot by the rule of that file. Who
- * counts on a list changes it by the calls below alone, never by yeqontur_add, yeqontur_remove or yeqontur_replace. */
+ * the last file's rule by a mark of another file, and of a mark in the next file's slot by the rule of that file. And
+ * while a mark is muted, yeqontur_label answers as if it were not there: of a skipped file whose skip is muted it may
+ * say that it is good. The calls below then say 15. Who counts on a list changes it by the calls below alone, never by
+ * yeqontur_add, yeqontur_remove, yeqontur_replace or yeqontur_mute. */
 
 /* The atoms, for a file on the list: a huge number wraps. GOOD(0) is atom 0. */
 #define YEQONTUR_SENT(i) (3 * (uint32_t)(i) - 2)

@@ -109,14 +109,16 @@ fn compared(raw: &RawTable) -> Result<Option<Expected>, String> {
     difference.map_or(Ok(expected), Err)
 }
 
-/// From so many tables on, one of five must have a muted rule, and of these one of five must be sound and one not.
+/// From so many tables on, one of five must have a muted rule, and of these one of five must be sound and one not; and
+/// one of fifty must have a rule with a mark that is none.
 const MANY: usize = 1_000;
 
-/// How many tables had a muted rule, and how many of them are sound.
+/// How many tables had a muted rule, and how many of them are sound; how many had a slot with a state past the last.
 #[derive(Default)]
 struct Muted {
     tables: usize,
     sound: usize,
+    no_state: usize,
 }
 
 impl Muted {
@@ -125,6 +127,8 @@ impl Muted {
             self.tables += 1;
             self.sound += usize::from(sound::sound(raw));
         }
+        let has_no_state = raw.rules.iter().any(|rule| rule.state > MUTED);
+        self.no_state += usize::from(has_no_state);
     }
 
     fn is_enough(&self, count: usize) -> bool {
@@ -133,6 +137,7 @@ impl Muted {
             || one_of_five(self.tables, count)
                 && one_of_five(self.sound, self.tables)
                 && one_of_five(self.tables - self.sound, self.tables)
+                && 50 * self.no_state >= count
     }
 }
 
@@ -175,12 +180,12 @@ pub fn compare(seed: u64, count: usize) -> bool {
         reached.layers, reached.tables, reached.most_layers, reached.most_rounds
     );
     println!(
-        "tables with a muted rule: {}, of them sound: {}",
-        muted.tables, muted.sound
+        "tables with a muted rule: {}, of them sound: {}; with a mark that is none: {}",
+        muted.tables, muted.sound, muted.no_state
     );
     let passed = count - failed;
     if !muted.is_enough(count) {
-        println!("too few tables with a muted rule");
+        println!("too few tables with a muted rule, or with a mark that is none");
         failed += 1;
     }
     println!("tables compared with the slow engine: {passed} passed, {failed} failed");

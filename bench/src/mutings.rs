@@ -88,12 +88,10 @@ mod tests {
     use super::{shapes, Case};
     use crate::boundary::from_slow;
     use crate::plain;
-    use oracle::calls::{Call, Lent};
+    use oracle::calls::Call;
     use oracle::generate::again::pages_of;
-    use oracle::generate::calls::Calls;
+    use oracle::generate::lists::follow_lists;
     use oracle::generate::muting_kinds::{Seen, BY_RULES, REFUSALS};
-    use oracle::generate::{mixed_table, sound_table};
-    use oracle::questions::Refusal;
     use oracle::random::Random;
     use oracle::table::RawTable;
     use yeqontur::raw;
@@ -121,25 +119,10 @@ mod tests {
     fn plain_rust_mutes_the_same() {
         let mut random = Random::seeded(1);
         let mut seen = Seen::default();
-        let mut lent = Lent {
-            numbers: vec![0; 256],
-            bytes: vec![0; 12 * 512],
-        };
-        for round in 0..300 {
-            let mut table = match round % 3 {
-                0 => mixed_table(&mut random),
-                1 => sound_table(&mut random),
-                _ => RawTable::empty(),
-            };
-            let mut calls = Calls::on(&table, 40, 80);
-            for _ in 0..60 {
-                let call = calls.call(&mut random);
-                same(&call, &table);
-                let pages = pages_of(&table);
-                let answer = call.make(&mut table, &mut lent);
-                seen.note(&pages, &call, answer.err().map_or(0, Refusal::number));
-            }
-        }
+        follow_lists(&mut random, 300, 60, |table, call, refused| {
+            same(call, table);
+            seen.note(&pages_of(table), call, refused);
+        });
         let refusals = [&REFUSALS[..], &[15]].concat();
         assert!(seen.is_enough(&refusals, &BY_RULES, 5), "{seen}");
     }

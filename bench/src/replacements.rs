@@ -134,11 +134,10 @@ mod tests {
     use super::{shapes, Case};
     use crate::boundary::from_slow;
     use crate::plain;
-    use oracle::calls::{Call, Lent};
+    use oracle::calls::Call;
     use oracle::generate::again::pages_of;
-    use oracle::generate::calls::Calls;
+    use oracle::generate::lists::follow_lists;
     use oracle::generate::replacement_kinds::{Seen, REFUSALS};
-    use oracle::generate::{mixed_table, sound_table};
     use oracle::random::Random;
     use oracle::table::RawTable;
     use yeqontur::raw;
@@ -150,9 +149,9 @@ mod tests {
         }
     }
 
-    /// A replacement by plain Rust and by the library: the same answer, the same table after it. Answers the refusal,
-    /// or 0; `None` for other calls.
-    fn same(call: &Call, table: &RawTable) -> Option<u32> {
+    /// A replacement by plain Rust and by the library: the same answer, the same table after it. Other calls are not
+    /// made.
+    fn same(call: &Call, table: &RawTable) {
         let Call::Replace {
             slot,
             head,
@@ -160,35 +159,23 @@ mod tests {
             negatives,
         } = call
         else {
-            return None;
+            return;
         };
         let mut ours = from_slow(table);
         let expected = raw::replace(&ours, *slot, *head, positives, negatives);
         let told = plain::replace(&mut ours, *slot, *head, positives, negatives);
         assert_eq!(told.err().unwrap_or(0), expected.refused, "{call:?}");
         assert!(ours == expected.table, "{call:?}: another table");
-        Some(expected.refused)
     }
 
     #[test]
     fn plain_rust_replaces_the_same() {
         let mut random = Random::seeded(1);
         let mut seen = Seen::default();
-        for round in 0..200 {
-            let mut table = match round % 3 {
-                0 => mixed_table(&mut random),
-                1 => sound_table(&mut random),
-                _ => RawTable::empty(),
-            };
-            let mut calls = Calls::on(&table, 40, 80);
-            for _ in 0..40 {
-                let call = calls.call(&mut random);
-                if let Some(refused) = same(&call, &table) {
-                    seen.note(&pages_of(&table), &call, refused);
-                }
-                let _ = call.make(&mut table, &mut Lent::default());
-            }
-        }
+        follow_lists(&mut random, 200, 40, |table, call, refused| {
+            same(call, table);
+            seen.note(&pages_of(table), call, refused);
+        });
         let refusals = [&REFUSALS[..], &[15]].concat();
         assert!(seen.is_enough(&refusals, 10), "{seen}");
     }

@@ -2,6 +2,7 @@
 #include "yeqontur.h"
 
 #include "expect.h"
+#include "tables.h"
 
 #include <string.h>
 
@@ -11,10 +12,6 @@ static file_call *const calls[] = {yeqontur_checklist_sent, yeqontur_checklist_s
 
 #define CALLS 3
 #define WITHDRAW 2
-
-static int same(const yeqontur_table *one, const yeqontur_table *other) {
-    return memcmp(one, other, sizeof *one) == 0;
-}
 
 static yeqontur_table opened(uint32_t files) {
     const yeqontur_accepted answer = yeqontur_checklist_open(files);
@@ -33,17 +30,6 @@ static void refused(file_call *call, yeqontur_table table, uint32_t file, uint32
     const yeqontur_accepted answer = call(table, file);
     expect(answer.refused == number, what);
     expect(same(&answer.table, &table), "a refused call hands the table back as it came");
-}
-
-static yeqontur_table added(yeqontur_table table, uint32_t head, const uint32_t *positives, size_t positive_count,
-                            const uint32_t *negatives, size_t negative_count) {
-    const yeqontur_change change = yeqontur_add(table, head, positives, positive_count, negatives, negative_count);
-    expect(change.refused == 0, "an accepted addition");
-    return change.table;
-}
-
-static yeqontur_table fact(yeqontur_table table, uint32_t atom) {
-    return added(table, atom, NULL, 0, NULL, 0);
 }
 
 /* The rule of a file is added; it comes to the lowest free slot. */

@@ -27,12 +27,17 @@ static size_t length(const file *f) {
     return strlen(f->folder) * f->deep + strlen(f->name);
 }
 
-/* The table after a call that has to be accepted. */
-static yeqontur_table accepted(yeqontur_accepted answer) {
-    if (answer.refused != 0) {
-        fprintf(stderr, "refused %u\n", answer.refused);
+/* Ends the program where a call was refused that has to be accepted. */
+static void must_be_accepted(uint32_t refused) {
+    if (refused != 0) {
+        fprintf(stderr, "refused %u\n", refused);
         exit(1);
     }
+}
+
+/* The table after such a call. */
+static yeqontur_table accepted(yeqontur_accepted answer) {
+    must_be_accepted(answer.refused);
     return answer.table;
 }
 
@@ -71,6 +76,9 @@ static void show_why(const yeqontur_table *table) {
     uint32_t atom = YEQONTUR_GOOD(FILES);
     while (atom % 3 == 0 && yeqontur_label(*table, atom).state == 1) {
         const yeqontur_spoiler_answer stop = yeqontur_spoiler(*table, atom / 3);
+        if (stop.spoiled != 1 && stop.spoiled != 2) {
+            return; /* muted, and no entry is named: a checklist has no such rule */
+        }
         printf("  ");
         print_name(atom);
         printf(stop.spoiled == 2 ? " is blocked by " : " needs ");
@@ -84,7 +92,10 @@ static void show_why(const yeqontur_table *table) {
 static void show(const yeqontur_table *table) {
     uint32_t missing[YEQONTUR_MOST_FILES];
     const yeqontur_list_answer list = yeqontur_checklist_missing(*table, missing, YEQONTUR_MOST_FILES);
-    printf(yeqontur_checklist_complete(*table).complete ? "complete: yes" : "complete: no.");
+    must_be_accepted(list.refused);
+    const yeqontur_complete_answer all = yeqontur_checklist_complete(*table);
+    must_be_accepted(all.refused);
+    printf(all.complete ? "complete: yes" : "complete: no.");
     for (size_t i = 0; i < list.count; i++) {
         const int skipped = yeqontur_label(*table, YEQONTUR_SKIPPED(missing[i])).state == 2;
         printf(" File %u %s.", missing[i], skipped ? "was skipped" : "has not been sent");

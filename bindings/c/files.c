@@ -2,6 +2,7 @@
 #include "yeqontur.h"
 
 #include "expect.h"
+#include "tables.h"
 
 #include <string.h>
 
@@ -15,18 +16,11 @@ typedef struct {
     size_t length;
 } file;
 
-static yeqontur_table added(yeqontur_table table, uint32_t head, const uint32_t *positives, size_t positive_count,
-                            const uint32_t *negatives, size_t negative_count) {
-    const yeqontur_change change = yeqontur_add(table, head, positives, positive_count, negatives, negative_count);
-    expect(change.refused == 0, "an accepted addition");
-    return change.table;
-}
-
 /* A table of so many facts, in the slots from 0. */
 static yeqontur_table facts(uint32_t count) {
     yeqontur_table table = yeqontur_empty();
     for (uint32_t atom = 0; atom < count; atom++) {
-        table = added(table, atom, NULL, 0, NULL, 0);
+        table = fact(table, atom);
     }
     return table;
 }

@@ -2,26 +2,12 @@
 #include "yeqontur.h"
 
 #include "expect.h"
+#include "tables.h"
 
 #include <string.h>
 
 /* Where the first block of a file has a record's positive count, whose top bit says that the rule is muted. */
 #define POSITIVE_COUNT(place) (6 + 22 * (size_t)(place) + 4)
-
-static int same(const yeqontur_table *one, const yeqontur_table *other) {
-    return memcmp(one, other, sizeof *one) == 0;
-}
-
-static yeqontur_table added(yeqontur_table table, uint32_t head, const uint32_t *p, size_t np, const uint32_t *n,
-                            size_t nn) {
-    const yeqontur_change change = yeqontur_add(table, head, p, np, n, nn);
-    expect(change.refused == 0, "an accepted addition");
-    return change.table;
-}
-
-static yeqontur_table fact(yeqontur_table table, uint32_t atom) {
-    return added(table, atom, NULL, 0, NULL, 0);
-}
 
 static yeqontur_table set(yeqontur_table table, uint32_t slot, uint32_t muted) {
     const yeqontur_accepted answer = yeqontur_mute(table, slot, muted);

@@ -153,7 +153,10 @@ fn proved_change(call: &Call, table: &mut raw::Table) -> Option<Told> {
         Call::Remove { slot } => {
             let change = raw::remove(table, *slot);
             *table = change.table;
-            Some(told(change.refused, vec![]))
+            // The slot that was freed is told again; any other is a difference.
+            let is_freed = change.refused == 0 && change.slot == *slot;
+            let values = if is_freed { vec![] } else { vec![change.slot] };
+            Some(told(change.refused, values))
         }
         _ => None,
     }

@@ -19,20 +19,28 @@ use yeqontur::raw;
 /// How many differences are shown; the rest are counted.
 const SHOWN: usize = 10;
 
-/// From so many calls on, each call must be accepted so often, and refused as well.
-const MANY: usize = 20_000;
+/// From so many calls on, each of the calls below must be accepted so often, and refused as well, and each of the
+/// others below must be met so often.
+const MANY: usize = 100_000;
 const OFTEN: usize = 20;
 
-/// A call that comes to both ends in these lists. An opening may be rare.
-const BOTH_ENDS: [&str; 7] = [
+/// The calls that change a table, save it or speak of a checklist. An opening may be rare.
+const BOTH_ENDS: [&str; 11] = [
+    "add",
+    "remove",
     "replace",
     "mute",
+    "save",
+    "load",
     "file sent",
     "file skipped",
     "skip withdrawn",
     "missing",
     "complete",
 ];
+
+/// What calls meet of muted rules in these lists.
+const MUTED: [Met; 3] = [Met::Checklist, Met::Saved, Met::Loaded];
 
 /// An entry that no list of files has, to see which entries were written.
 const UNWRITTEN: u32 = 1_000_000;
@@ -105,15 +113,15 @@ impl Seen {
             && rest.iter().all(|&entry| entry == UNWRITTEN)
     }
 
-    /// Was each call met often enough, was anything ever complete, was an opening refused among calls on files, and did
-    /// checklists meet 15 for their muted rules alone?
+    /// Was each call met often enough, was anything ever complete, was an opening refused among calls on files, did
+    /// checklists meet 15 for their muted rules alone, and were muted rules saved and loaded?
     fn is_enough(&self) -> bool {
         let often = |&name: &&str| {
             let times = self.calls.get(name).copied().unwrap_or_default();
             times.accepted >= OFTEN && times.made - times.accepted >= OFTEN
         };
-        let muted = self.mutings.times(Kind::Met(Met::Checklist));
-        let enough = self.closed > 0 && muted >= OFTEN && BOTH_ENDS.iter().all(often);
+        let muted = |&met: &Met| self.mutings.times(Kind::Met(met)) >= OFTEN;
+        let enough = self.closed > 0 && MUTED.iter().all(muted) && BOTH_ENDS.iter().all(often);
         self.complete > 0 && (self.made < MANY || enough)
     }
 

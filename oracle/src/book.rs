@@ -54,7 +54,8 @@ const QUESTIONS: [Question; 7] = [
         each_once(named.positives) && each_once(named.negatives)
     }),
     (5, |book, named| {
-        book.rules().all(|rule| *rule != named.rule())
+        let new = named.rule();
+        book.rules().all(|rule| *rule != new)
     }),
     (6, |book, _| book.pages.contains(&None)),
     (7, |book, named| {

@@ -16,7 +16,7 @@ const HEADER_BYTES: usize = 6;
 const RECORD_BYTES: usize = 6 + 2 * ENTRIES;
 
 /// What the top bit of a positive count adds to it: the mark of a muted rule.
-const MARK: u8 = 128;
+pub const MARK: u8 = 128;
 
 /// The bytes that A and B are of: all before them.
 const SUMMED_BYTES: usize = BLOCK_BYTES - 4;

@@ -122,7 +122,7 @@ impl Refusal {
             Refusal::SameRule => (
                 5,
                 "the table has the same rule already",
-                "if it is muted, unmute it, or it gives nothing; if it was to replace another rule, remove that one",
+                "nothing to add, but if it is muted, unmute it; if it was to replace another rule, remove that one",
             ),
             Refusal::TableFull => (
                 6,
@@ -162,7 +162,7 @@ impl Refusal {
             Refusal::TableUnsound => (
                 15,
                 "the table handed in is not sound, or not a checklist where the call asks for one",
-                "begin again, or load a copy: the bytes are not this library's, or a checklist's rules were changed",
+                "begin again, or load a copy; of a checklist with a muted or changed rule: unmute it, or undo the change",
             ),
             Refusal::WrongLength => (
                 16,

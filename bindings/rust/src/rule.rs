@@ -17,7 +17,7 @@ pub struct Rule {
     pub positives: Vec<u32>,
     /// Ascending.
     pub negatives: Vec<u32>,
-    /// Muted by [`Table::mute`], and not unmuted since.
+    /// Whether it is muted: by [`Table::mute`], now or before the table was saved.
     pub muted: bool,
 }
 

@@ -128,8 +128,8 @@ impl Table {
         self.set_muted(slot, 1)
     }
 
-    /// Unmutes the rule in a slot: it gives its head again, as if it had never been muted. Since muted rules count for
-    /// loops, this never meets 7. What is not muted may be unmuted. A refused call leaves the table as it was.
+    /// Unmutes the rule in a slot: it counts for all labels again, as if it had never been muted. Since muted rules
+    /// count for loops, this never meets 7. What is not muted may be unmuted. A refused call leaves the table as it was.
     pub fn unmute(&mut self, slot: u32) -> Result<(), Refusal> {
         self.set_muted(slot, 0)
     }

@@ -20,8 +20,8 @@ use Rattle.blocks.proofs.Bytes.{All, all-map}
 use Rattle.blocks.proofs.Written.{padded-back}
 
 -- A page is read as it was recorded: its rule, and its mark.
-pub rule-in : (s : ℕ) (p : Page) → ruleIn (recorded s p) ≡ p .rule
-rule-in s p =
+pub rule-recorded : (s : ℕ) (p : Page) → ruleIn (recorded s p) ≡ p .rule
+rule-recorded s p =
     let r = p .rule in
     let zs : List ℕ = replicate (8 - length (entries r)) 0 in
     let e : padded 8 (entries r) ≡ r .positives ++ (r .negatives ++ zs) =
@@ -34,8 +34,8 @@ rule-in s p =
     ∙ take-append-seam (r .negatives) zs in
     λ i. record { head = r .head; positives = a i; negatives = n i }
 
-pub page-in : (s : ℕ) (p : Page) → pageIn (recorded s p) ≡ p
-page-in s p = λ i. record { rule = rule-in s p i; muted = p .muted }
+pub page-recorded : (s : ℕ) (p : Page) → pageIn (recorded s p) ≡ p
+page-recorded s p = λ i. record { rule = rule-recorded s p i; muted = p .muted }
 
 -- A place whose counts are within its eight entries, the others being zero, is recorded as it was read.
 pub recorded-back :
@@ -137,7 +137,7 @@ module _ (limits : Limits) where
   pages-records F (some p ∷ B) =
       ap (λ (Q : Pages). recordedOn limits Q (recordsFrom (suc (length F)) B))
       (set-append-seam F none (replicate (length B) none) (some (pageIn (recorded (length F) p)))
-      ∙ ap (λ (q : Page). F ++ some q ∷ replicate (length B) none) (page-in (length F) p))
+      ∙ ap (λ (q : Page). F ++ some q ∷ replicate (length B) none) (page-recorded (length F) p))
       ∙ pages-more F B (some p) (pages-records (F ++ (some p ∷ [])) B)
 
   -- The records of the pages of records are the records, if their slots ascend and they are read as recorded.

@@ -25,7 +25,7 @@ use Rattle.blocks.specs.Places.{Place, recorded, records, recordsFrom, r
 use Rattle.blocks.specs.Questions.{ascends, distinctRules, pagesWith, recordedOn, recordsRight, right}
 use Rattle.blocks.proofs.Bytes.{All, all-append, all-every, all-replicate, every-all, Fits}
 use Rattle.blocks.proofs.Written.{length-padded, padded-rest}
-use Rattle.blocks.proofs.Pages.{pages-records, rule-in}
+use Rattle.blocks.proofs.Pages.{pages-records, rule-recorded}
 
 -- What holds of the record of each page with a rule holds of every record.
 
@@ -64,7 +64,7 @@ pub records-rules : (s : ℕ) (B : Pages) → map ruleIn (recordsFrom s B) ≡ r
 unfolding recordsFrom rules
 records-rules s [] = refl
 records-rules s (none ∷ B) = records-rules (suc s) B
-records-rules s (some p ∷ B) = λ i. rule-in s p i ∷ records-rules (suc s) B i
+records-rules s (some p ∷ B) = λ i. rule-recorded s p i ∷ records-rules (suc s) B i
 
 -- A rule that is held again behind the first page is the same as the first.
 held-again :
@@ -184,7 +184,7 @@ module _ (limits : Limits) (few : limits .entries ≤ 8) where
       (padded-rest 8 (length (r .positives) + length (r .negatives)) (entries r)
       (length-append (r .positives) (r .negatives)))
       (ap (λ (q : Rule). not (is-some (first-no (rule-questions limits q)))
-      && (ascends 0 (q .positives) && ascends 0 (q .negatives))) (rule-in s p)
+      && (ascends 0 (q .positives) && ascends 0 (q .negatives))) (rule-recorded s p)
       ∙ and-of _ _ (ap (λ (o : Option ℕ). not (is-some o)) e)
       (and-of _ _
       (ascends-sorted (r .positives) .1 (a .positives))

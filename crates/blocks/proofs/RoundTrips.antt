@@ -1,5 +1,5 @@
 -- Reading a written table gives the same table, and each accepted file is the one that its table writes (request #103).
--- Assumes nothing.
+-- The rules of an accepted file have no loop through a negation. Assumes nothing.
 use Prim.Native.Nat.{ℕ, _+_, _*_, _%_, _≤_, _<_}
 use native.Mathlib.Omega.{arith}
 use mathlib.Core.Path.{_≡_, refl, sym, _∙_, ap, subst}
@@ -12,16 +12,18 @@ use lib.ListN.{getD, length, drop}
 use Rattle.theory.specs.Lists.{every}
 use Rattle.theory.specs.Limits.{document, Limits}
 use Rattle.theory.specs.Rules.{all, Held, Page, Pages, Rule}
+use Rattle.theory.specs.Dependencies.{NegativeCycle}
 use Rattle.theory.specs.Labels.{Label}
 use Rattle.theory.specs.Questions.{first-no, rule-questions}
 use Rattle.theory.specs.Sound.{SoundLabels}
+use Rattle.theory.proofs.Cycles.{stratified-iff}
 use Rattle.theory.proofs.Lists.{and-l, and-of, and-r, eqb-of, leb-le, le-leb, le-or-lt, lt-ltb, ltb-lt}
 use Rattle.theory.proofs.Pages.{held-page}
 use Rattle.theory.proofs.Questions.{first-no-none, first-no-yes}
-use Rattle.blocks.specs.Places.{pageIn, Place, recorded, records, recordsFrom}
+use Rattle.blocks.specs.Places.{pageIn, Place, recorded, records, recordsFrom, ruleIn}
 use Rattle.blocks.specs.Files.{BLOCK, blocksFor, blocksFrom, fileOf, fileWith}
-use Rattle.blocks.specs.Questions.{ascends, blockCount, blocks, blocksIn, file-questions, filled, pagesOf}
-use Rattle.blocks.specs.Questions.{pagesWith, placesOf, recordsRight, right, whole}
+use Rattle.blocks.specs.Questions.{ascends, blockCount, blocks, blocksIn, distinctRules, file-questions, filled}
+use Rattle.blocks.specs.Questions.{pagesOf, pagesWith, placesOf, recordsRight, right, whole}
 use Rattle.blocks.proofs.Bytes.{All, all-both, all-every, Bytes, every-all, Fits}
 use Rattle.blocks.proofs.Reading.{places-blocks, whole-parts}
 use Rattle.blocks.proofs.Sequences.{blocks-back, blocks-bytes, blocks-pass, Eight, length-blocks, Passes}
@@ -160,6 +162,16 @@ module _ (limits : Limits) (few : limits .entries ≤ 8) where
         ∙ blocks-back n n 0 bs (omega arith) (whole-parts bs (one .0) .length) w (two .0) (three .0)
         (and-l (every filled (blocks bs)) _ (four .0))
 
+  records-acyclic :
+      (ps : List Place) → recordsRight limits ps ≡ true → NegativeCycle (all (pagesWith limits ps)) → ⊥
+  unfolding recordsRight
+  records-acyclic ps t =
+      let up = ascends 0 (map (λ p. p .slot) ps) in
+      let low = every (λ p. ltb (p .slot) (limits .slots)) ps in
+      stratified-iff (all (pagesWith limits ps)) .0
+      (and-r (distinctRules (map ruleIn ps)) _
+      (and-r (every (right limits) ps) _ (and-r low _ (and-r up _ t))))
+
 -- With the document's limits.
 
 module _
@@ -188,3 +200,11 @@ pub pages-file :
     → fileOf (pagesOf document bs) ≡ bs
 pages-file bs w e =
     file-back document (omega arith) bs (every-all _ (λ b. ltb b 256) (λ b t. ltb-lt b 256 t) bs w) e
+
+-- The rules of an accepted file, muted or not, have no loop through a negation.
+pub pages-acyclic :
+    (bs : List ℕ) → first-no (file-questions document bs) ≡ none → NegativeCycle (all (pagesOf document bs)) → ⊥
+pages-acyclic bs e =
+    let three = first-no-none _ _ (first-no-none _ _ (first-no-none _ _ e .1) .1) in
+    records-acyclic document (omega arith) (placesOf (blocks bs))
+    (and-r (every filled (blocks bs)) _ (first-no-none _ _ (three .1) .0))

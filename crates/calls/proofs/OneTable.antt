@@ -25,7 +25,7 @@ use Rattle.table.specs.declared.Atom.{Atom}
 use Rattle.table.specs.declared.Rule.{Rule}
 use Rattle.table.specs.declared.Label.{Label}
 use Rattle.table.specs.declared.Table.{Table}
-use Rattle.table.specs.Rules.{numbers, ruleOf, page-in, pageOf, noAtom, pastRule}
+use Rattle.table.specs.Rules.{numbers, ruleOf, page-in, pageOf, stateOf, noAtom, pastRule}
 use Rattle.table.specs.Labels.{labelOf, labelAt, absentLabel}
 use Rattle.table.specs.Clean.{CleanRule, CleanLabel}
 use Rattle.table.specs.Sound.{Sound}
@@ -80,7 +80,7 @@ module _ (r : Rule) (C : CleanRule r) (L : length (r .entries) ≡ document .ent
 -- The state of a slot, as far as its page tells it.
 state-of : Option Page → ℕ
 state-of none = 0
-state-of (some p) = elim (p .muted) [ false ↦ 1 | true ↦ 2 ]
+state-of (some p) = stateOf (p .muted)
 
 page-state : (n : ℕ) (r : theory.Rule) → state-of (page-in n r) ≡ min n 2
 unfolding state-of

@@ -1,9 +1,9 @@
 -- A sound table with one slot changed: what its rules keep, and that it is sound with their labels. Assumes nothing.
 use Prim.Native.Nat.{ℕ, _<_}
 use native.Mathlib.Omega.{arith}
-use mathlib.Core.Path.{_≡_, sym, _∙_, ap, subst}
+use mathlib.Core.Path.{_≡_, refl, sym, _∙_, ap, subst}
 use mathlib.Core.Logic.{_⊎_, inl, inr, ⊎-elim}
-use mathlib.Core.Bool.{true, false}
+use mathlib.Core.Bool.{Bool, true, false}
 use mathlib.Core.List.{List}
 use mathlib.Core.Option.{none, some}
 use lib.Dec.{eqb}
@@ -13,7 +13,7 @@ use Rattle.theory.specs.Rules.{Program, all, Held, Ascending, Bounded, same}
 use Rattle.theory.specs.Rules as theory
 use Rattle.theory.specs.Models.{AtomSet}
 use Rattle.theory.specs.Dependencies.{NegativeCycle}
-use Rattle.theory.specs.Questions.{first-no, rule-questions}
+use Rattle.theory.specs.Questions.{Question, first-no, rule-questions}
 use Rattle.theory.specs.Limits.{document}
 use Rattle.theory.proofs.Lists.{test, clash, eqb-eq, eqb-of}
 use Rattle.theory.proofs.Pages.{all-length}
@@ -26,8 +26,11 @@ use Rattle.table.specs.Rules.{bookOf, programOf, pageOf, slotOf, pastRule}
 use Rattle.table.specs.Clean.{CleanRule}
 use Rattle.table.specs.Sound.{Sound}
 use Rattle.table.proofs.Programs.{book-length, book-set, program-set}
-use Rattle.calls.specs.Contracts.{held, Sized}
-use Rattle.labels.specs.Labelling.{Labels}
+use Rattle.calls.specs.declared.ChangeAnswer.the-variants as changed
+use Rattle.calls.specs.Contracts as contract
+use Rattle.calls.specs.Contracts.{held, Sized, ChangeEnds}
+use Rattle.labels.specs.declared.Labelling.{Labelling}
+use Rattle.labels.specs.Labelling.{LabellingOf, Labels}
 
 -- The table t, with r in slot s.
 module _ (t : Table) (S : Sound t) (s : ℕ) (inside : s < document .slots) (r : Rule) where
@@ -60,6 +63,23 @@ module _ (t : Table) (S : Sound t) (s : ℕ) (inside : s < document .slots) (r :
     where
       now-held : Held (set (all (held t)) s (slotOf r)) k q
       now-held = subst (λ (P : Program). Held P k q) program-after h
+
+  -- The arrays keep their lengths.
+  pub sized-after :
+      Sized t → length (r .entries) ≡ document .entries → (labels : List Label) → length labels ≡ document .atoms
+      → Sized (record { rules = after; labels = labels })
+  sized-after Z e labels l = record {
+    slots = length-set (t .rules) s r ∙ Z .slots;
+    atoms = l;
+    entries = λ k m. ⊎-elim
+        (λ (u : eqb k s ≡ true). (let q = eqb-eq k s u in
+        ap (λ (x : Rule). length (x .entries)) (ap (λ (z : ℕ). getD after z pastRule) q
+        ∙ getD-set-same (t .rules) s r pastRule (omega (arith, Z .slots))) ∙ e))
+        (λ (u : eqb k s ≡ false).
+        ap (λ (x : Rule). length (x .entries))
+        (getD-set-other (t .rules) s k r pastRule (λ q. clash (eqb-of k s q) u)) ∙ Z .entries k m)
+        (test (eqb k s));
+  }
 
   -- What is put is clean, passes questions 1 to 4, has ascending lists and is not held by another slot, if it is a rule
   -- at all.
@@ -122,19 +142,18 @@ module _ (t : Table) (S : Sound t) (s : ℕ) (inside : s < document .slots) (r :
       clean = record { rules = clean-after; labels = L .clean };
     }
 
-  -- The arrays keep their lengths.
-  pub sized-after :
-      Sized t → length (r .entries) ≡ document .entries → (labels : List Label) → length labels ≡ document .atoms
-      → Sized (record { rules = after; labels = labels })
-  sized-after Z e labels l = record {
-    slots = length-set (t .rules) s r ∙ Z .slots;
-    atoms = l;
-    entries = λ k m. ⊎-elim
-        (λ (u : eqb k s ≡ true). (let q = eqb-eq k s u in
-        ap (λ (x : Rule). length (x .entries)) (ap (λ (z : ℕ). getD after z pastRule) q
-        ∙ getD-set-same (t .rules) s r pastRule (omega (arith, Z .slots))) ∙ e))
-        (λ (u : eqb k s ≡ false).
-        ap (λ (x : Rule). length (x .entries))
-        (getD-set-other (t .rules) s k r pastRule (λ q. clash (eqb-of k s q) u)) ∙ Z .entries k m)
-        (test (eqb k s));
-  }
+    -- A change of this slot alone, whose questions are answered yes and by which no loop through a negation comes, ends
+    -- accepted.
+    pub accepted-after :
+        (questions : List Question) → first-no questions ≡ none → (NegativeCycle (programOf after) → ⊥)
+        → (l : Labelling) → LabellingOf (bookOf after) l → Sized t → length (r .entries) ≡ document .entries
+        → length (l .labels) ≡ document .atoms
+        → ChangeEnds questions (bookOf after) t changed.Accepted (record { rules = after; labels = l .labels })
+    accepted-after questions asked free l L Z e n =
+        let w = L .acyclic (not-cyclic (l .acyclic) refl) in
+        contract.accepted _ S asked (sized-after Z e (l .labels) n) refl
+        (sound-after (l .labels) (w .0) (w .1 .0) (w .1 .1))
+      where
+        not-cyclic : (b : Bool) → l .acyclic ≡ b → l .acyclic ≡ true
+        not-cyclic true i = i
+        not-cyclic false i = absurd (free (L .cyclic i))

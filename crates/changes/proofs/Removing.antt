@@ -1,12 +1,11 @@
 -- How a removal from a sound table ends, from the answers of its questions. Assumes nothing.
 use Prim.Native.Nat.{ℕ, _<_}
-use mathlib.Core.Path.{_≡_, refl, _∙_, ap₂}
+use mathlib.Core.Path.{_≡_, refl, _∙_, ap₂, subst}
 use mathlib.Core.Logic.{⊎-elim}
-use mathlib.Core.Bool.{Bool, true, false}
 use mathlib.Core.List.{List}
 use mathlib.Core.Option.{none, some, Option·none-ne-some}
 use lib.ListN.{length, set}
-use Rattle.theory.specs.Rules.{all, Held, Ascending, Bounded}
+use Rattle.theory.specs.Rules.{Pages, all, Held, Ascending, Bounded}
 use Rattle.theory.specs.Rules as theory
 use Rattle.theory.specs.Dependencies.{NegativeCycle}
 use Rattle.theory.specs.Questions.{first-no, rule-questions, slot-questions}
@@ -20,12 +19,11 @@ use Rattle.table.specs.Clean.{freeRule}
 use Rattle.table.specs.Sound.{Sound}
 use Rattle.table.proofs.Empty.{free-clean}
 use Rattle.calls.specs.declared.ChangeAnswer.the-variants as changed
-use Rattle.calls.specs.Contracts as contract
-use Rattle.calls.specs.Contracts.{held, Sized, RemoveEnds}
+use Rattle.calls.specs.Contracts.{held, Sized, ChangeEnds, RemoveEnds}
 use Rattle.calls.proofs.Asking.{PassesSlot, slot-low}
 use Rattle.labels.specs.declared.Labelling.{Labelling}
 use Rattle.labels.specs.Labelling.{LabellingOf}
-use Rattle.changes.proofs.OneSlot.{book-after, held-after, bounded-after, sound-after, sized-after}
+use Rattle.changes.proofs.OneSlot.{accepted-after, book-after, held-after, bounded-after}
 
 -- A removal of the rule in slot s of the table t.
 module _ (t : Table) (S : Sound t) (s : ℕ) (inside : s < document .slots) where
@@ -54,14 +52,10 @@ module _ (t : Table) (S : Sound t) (s : ℕ) (inside : s < document .slots) wher
       → LabellingOf (bookOf (set (t .rules) s freeRule)) l → Sized t → length (l .labels) ≡ document .atoms
       → RemoveEnds t s changed.Accepted (record { rules = set (t .rules) s freeRule; labels = l .labels })
   freed asked l L Z m =
-      let w = L .acyclic (not-cyclic (l .acyclic) refl) in
-      contract.accepted _ S asked (sized-after t S s inside freeRule Z refl (l .labels) m)
+      let u : Table = record { rules = set (t .rules) s freeRule; labels = l .labels } in
+      subst (λ (B : Pages). ChangeEnds (slot-questions document (all (held t)) s) B t changed.Accepted u)
       (book-after t S s inside freeRule)
-      (sound-after t S s inside freeRule free-clean passes ascending fresh (l .labels) (w .0) (w .1 .0) (w .1 .1))
-    where
-      not-cyclic : (b : Bool) → l .acyclic ≡ b → l .acyclic ≡ true
-      not-cyclic true e = e
-      not-cyclic false e = absurd (rest-acyclic (L .cyclic e))
+      (accepted-after t S s inside freeRule free-clean passes ascending fresh _ asked rest-acyclic l L Z refl m)
 
 -- The slots left, where slot x, which passed its questions, holds what a free slot does.
 module _

@@ -6,8 +6,8 @@ use mathlib.Core.Option.{Option, none, some}
 use lib.ListN.{set, replicate}
 use Rattle.theory.specs.Rules.{Pages, all, new-page}
 use Rattle.theory.specs.Limits.{Limits}
-use Rattle.theory.specs.Questions.{first-no, lowest-free, put-in}
-use Rattle.theory.specs.Book.{Answer, refused, accepted, empty}
+use Rattle.theory.specs.Questions.{first-no}
+use Rattle.theory.specs.Book.{Answer, refused, accepted, empty, with-page}
 use Rattle.frame.specs.Frame.{sent, skipped, fact, frame, files, first-slot}
 use Rattle.checklist.specs.Questions.{FileCall, file-sent, file-skipped, skip-withdrawn, mark-questions}
 use Rattle.checklist.specs.Questions.{open-questions}
@@ -17,9 +17,9 @@ pub data Call : Type 0 where
   opening : ℕ → Call
   of-file : FileCall → Call
 
--- The pages with a fact added: on the lowest free page, unmuted.
+-- The pages with a fact added.
 abbrev pub with-fact : Pages → ℕ → Pages
-with-fact B a = put-in B (lowest-free (all B)) (new-page (fact a))
+with-fact B a = with-page B (fact a)
 
 -- File sent and file skipped add that fact, skip withdrawn removes it.
 abbrev pub marks-changed : Pages → FileCall → Pages

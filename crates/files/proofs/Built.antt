@@ -18,7 +18,6 @@ use Rattle.theory.specs.Book.{empty}
 use Rattle.theory.specs.Limits.{document}
 use Rattle.theory.proofs.Lists.{and-l, and-r}
 use Rattle.theory.proofs.Questions.{first-no-none}
-use Rattle.theory.proofs.Cycles.{stratified-iff}
 use Rattle.theory.proofs.Pages.{active-acyclic}
 use Rattle.theory.proofs.Models.{exactly-one-model}
 use Rattle.theory.proofs.Labels.{label-exists}
@@ -35,7 +34,8 @@ use Rattle.sound.proofs.Soundness.{sound-labelled}
 use Rattle.blocks.specs.Places.{Place, recorded, records}
 use Rattle.blocks.specs.Questions.{blocks, placesOf, filled, right, recordsRight, file-questions, pagesOf}
 use Rattle.blocks.proofs.Bytes.{All, every-all}
-use Rattle.blocks.proofs.Pages.{page-in}
+use Rattle.blocks.proofs.Pages.{page-recorded}
+use Rattle.blocks.proofs.RoundTrips.{pages-acyclic}
 use Rattle.blocks.proofs.Sequences.{Eight, places-eight}
 use Rattle.loading.specs.Reading.{atom, slotFrom}
 use Rattle.loading.proofs.Gathering.{page-from, right-well, free-well}
@@ -49,7 +49,7 @@ slotFor (some p) = slotFrom (recorded 0 p)
 
 slot-for : (o : Option Page) → pageOf (slotFor o) ≡ o
 slot-for none = refl
-slot-for (some p) = page-from (recorded 0 p) ∙ ap some (page-in 0 p)
+slot-for (some p) = page-from (recorded 0 p) ∙ ap some (page-recorded 0 p)
 
 book-for : (B : Pages) → bookOf (map slotFor B) ≡ B
 book-for [] = refl
@@ -118,7 +118,7 @@ module _ (bs : List ℕ) (e : first-no (file-questions document bs) ≡ none) wh
   long = pages-length (empty document) ps ∙ length-replicate {A = Option Page} (document .slots) none
 
   acyclic : NegativeCycle (all B) → ⊥
-  acyclic = stratified-iff (all B) .0 (split ps asked .2)
+  acyclic = pages-acyclic bs e
 
   pub model : (M : AtomSet) × OnlyModel (active B) M
   model = exactly-one-model (active B) (active-acyclic B acyclic)

@@ -17,8 +17,9 @@ use Rattle.theory.proofs.Pages.{active-at, active-held, held-page, page-held}
 use Rattle.theory.proofs.Questions.{held-below}
 use Rattle.table.specs.declared.Atom.{Atom}
 use Rattle.table.specs.declared.Rule.{Rule}
-use Rattle.table.specs.Rules.{numbers, page-in, pageOf, activeIn, ruleOf, bookOf, activeOf, noAtom, pastRule}
-use Rattle.table.proofs.Programs.{active-rule, active-some, active-state, active-place, book-at, program-length}
+use Rattle.table.specs.Rules.{numbers, pageOf, activeIn, ruleOf, bookOf, activeOf, noAtom, pastRule}
+use Rattle.table.proofs.Programs.{active-rule, active-some, active-state, active-place, book-at, page-free}
+use Rattle.table.proofs.Programs.{page-there, program-length}
 use Rattle.frame.specs.Frame.{MarkFact, Checklist, fact, frame, is-mark, files-of, none-muted, unmuted-on}
 use Rattle.frame.specs.Parts.{FreeOrMark, FrameRun, MarksBehind, count-of}
 use Rattle.frame.proofs.Unmuted.{active-all, active-page, page-active, unmuted-of, unmuted-page}
@@ -150,21 +151,11 @@ module _ (r : Rule) (i : ℕ) (long : length (r .entries) ≡ 8) (l : 1 ≤ i) w
 
 -- A free slot has no rule to ask about; a held one has the page of its rule, by which it is told.
 pub free-passes : (n : ℕ) (r : Rule) → r .state ≡ 0 → FreeOrMark n (pageOf r)
-free-passes n r e p h = absurd (Option·none-ne-some p (sym (ap (λ (k : ℕ). page-in k (ruleOf r)) e) ∙ h))
-
-page-there : (r : Rule) → (r .state ≡ 0 → ⊥) → (p : Page) × (pageOf r ≡ some p) × (p .rule ≡ ruleOf r)
-page-there r = go (r .state)
-  where
-    go : (k : ℕ) → (k ≡ 0 → ⊥) → (p : Page) × (page-in k (ruleOf r) ≡ some p) × (p .rule ≡ ruleOf r)
-    go zero h = absurd (h refl)
-    go (suc zero) h = (_, refl, refl)
-    go (suc (suc k)) h = (_, refl, refl)
+free-passes n r e p h = absurd (Option·none-ne-some p (sym (page-free r e) ∙ h))
 
 module _ (n : ℕ) (r : Rule) (there : r .state ≡ 0 → ⊥) where
   pub no-mark : (is-mark n (r .head .0) ≡ false) → FreeOrMark n (pageOf r) → ⊥
-  no-mark f w =
-      let p = page-there r there in
-      clash (ap (λ (q : theory.Rule). is-mark n (q .head)) (sym (p .2)) ∙ w (p .0) (p .1) .1 .0) f
+  no-mark f w = clash (w _ (page-there r there) .1 .0) f
 
   pub mark-told :
       (b : Bool) → is-mark n (r .head .0) ≡ true → (b ≡ true) ↔ (activeIn r ≡ some (fact (r .head .0)))
@@ -174,10 +165,8 @@ module _ (n : ℕ) (r : Rule) (there : r .state ≡ 0 → ⊥) where
         let w = active-page p (fact (r .head .0)) (ap active-on (sym e) ∙ told .0 t) in
         (w .0, subst (MarkFact n) (sym (w .1)) (m, refl))),
     λ w. (
-        let p = page-there r there in
-        let v = w (p .0) (p .1) in
-        told .1 (ap active-on (p .1) ∙ page-active (p .0) (v .0)
-        ∙ ap some (v .1 .1 ∙ ap (λ (q : theory.Rule). fact (q .head)) (p .2)))),
+        let v = w _ (page-there r there) in
+        told .1 (ap active-on (page-there r there) ∙ page-active _ (v .0) ∙ ap some (v .1 .1))),
   )
 
 -- The frame of n files stands from slot 0 on.

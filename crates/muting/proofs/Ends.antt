@@ -1,15 +1,15 @@
 -- How muting a rule of a sound table ends, from the answers of its questions. Assumes nothing.
 use Prim.Native.Nat.{ℕ, _<_}
 use native.Mathlib.Omega.{arith}
-use mathlib.Core.Path.{_≡_, refl, sym, _∙_, ap, ap₂, subst}
+use mathlib.Core.Path.{_≡_, sym, _∙_, ap, ap₂, subst}
 use mathlib.Core.Bool.{Bool, true, false}
 use mathlib.Core.List.{List}
 use mathlib.Core.Option.{none, some, Option·some-injective}
 use lib.ListN.{length, getD, set}
-use Rattle.theory.specs.Rules.{all, rule-on, with-mark, Held, Ascending, Bounded}
+use Rattle.theory.specs.Rules.{Pages, all, rule-on, with-mark, Held, Ascending, Bounded}
 use Rattle.theory.specs.Rules as theory
 use Rattle.theory.specs.Dependencies.{NegativeCycle}
-use Rattle.theory.specs.Questions.{first-no, rule-questions}
+use Rattle.theory.specs.Questions.{first-no, rule-questions, slot-questions}
 use Rattle.theory.specs.Limits.{document}
 use Rattle.theory.proofs.Pages.{mark-keeps-rules, page-held, set-mark}
 use Rattle.theory.proofs.Sameness.{same-refl}
@@ -22,12 +22,11 @@ use Rattle.table.specs.Sound.{Sound}
 use Rattle.table.proofs.Entries.{there as there-too}
 use Rattle.table.proofs.Programs.{book-length, page-stated}
 use Rattle.calls.specs.declared.ChangeAnswer.the-variants as changed
-use Rattle.calls.specs.Contracts as contract
-use Rattle.calls.specs.Contracts.{held, Sized, MuteEnds}
+use Rattle.calls.specs.Contracts.{held, Sized, ChangeEnds, MuteEnds}
 use Rattle.calls.proofs.Asking.{PassesSlot, slot-low, slot-holds}
 use Rattle.labels.specs.declared.Labelling.{Labelling}
 use Rattle.labels.specs.Labelling.{LabellingOf}
-use Rattle.changes.proofs.OneSlot.{book-after, bounded-after, sound-after, sized-after}
+use Rattle.changes.proofs.OneSlot.{accepted-after, book-after, bounded-after}
 use Rattle.muting.specs.Marks.{slotMarked}
 
 -- The mark as the code sets it.
@@ -111,17 +110,13 @@ module _
           → length (l .labels) ≡ document .atoms
           → MuteEnds t s m changed.Accepted (record { rules = slots; labels = l .labels })
       mute-ends l L Z n k =
+          let u : Table = record { rules = set (t .rules) s new; labels = l .labels } in
           let L′ : LabellingOf (bookOf (set (t .rules) s new)) l = rw put at L in
-          let w = L′ .acyclic (not-cyclic (l .acyclic) refl L′) in
           rw put
-          (contract.accepted _ S (Q .yes) (sized-after t S s inside new Z n (l .labels) k) pages-marked
-          (sound-after t S s inside new (clean-marked m r clean-there) passes ascending fresh (l .labels) (w .0)
-          (w .1 .0) (w .1 .1)))
-        where
-          not-cyclic :
-              (b : Bool) → l .acyclic ≡ b → LabellingOf (bookOf (set (t .rules) s new)) l → l .acyclic ≡ true
-          not-cyclic true e K = e
-          not-cyclic false e K = absurd (S .labels .acyclic (subst NegativeCycle all-stay (K .cyclic e)))
+          (subst (λ (B : Pages). ChangeEnds (slot-questions document (all (held t)) s) B t changed.Accepted u)
+          pages-marked
+          (accepted-after t S s inside new (clean-marked m r clean-there) passes ascending fresh _ (Q .yes)
+          (λ c. S .labels .acyclic (subst NegativeCycle all-stay c)) l L′ Z n k))
 
 -- The same of what the code reads and puts: h is what slot x holds, o that with the mark.
 module _

@@ -5,7 +5,7 @@ use native.Mathlib.Omega.{arith}
 use mathlib.Core.Path.{_≡_, refl, sym, _∙_, ap, ap₂, subst}
 use mathlib.Core.Bool.{Bool, true, false}
 use mathlib.Core.List.{[], _∷_, map}
-use mathlib.Core.Option.{Option, none, some, Option·map}
+use mathlib.Core.Option.{Option, none, some}
 use lib.ListN.{length, getD, set}
 use lib.Seq.{getD-set-same, set-set}
 use Rattle.theory.specs.Lists.{every}
@@ -50,7 +50,7 @@ any-marks-acyclic t S B e = active-acyclic B (subst (λ (P : Program). NegativeC
 
 -- With every mark off, the unmuted rules are all rules held: these have no loop through a negation either.
 abbrev pub all-unmuted : Pages → Pages
-all-unmuted = map (Option·map (λ p. record { rule = p .rule; muted = false }))
+all-unmuted = map (set-mark false)
 
 pub unmuted-rules : (B : Pages) → active (all-unmuted B) ≡ all B
 unmuted-rules [] = refl

@@ -7,15 +7,14 @@ use mathlib.Core.Logic.{⊎-elim}
 use mathlib.Core.Bool.{Bool, false}
 use mathlib.Core.List.{List, [], _∷_, _++_, map, map-append, append-nil}
 use mathlib.Core.Option.{none, some, Option·none-ne-some, Option·some-injective}
-use lib.Dec.{leb}
 use lib.ListN.{length, getD, take, set, length-append, length-set, List·getD-map}
 use lib.Seq.{take-suc, take-suc-set, take-set-le, take-all, getD-take, length-take-le}
 use Rattle.theory.specs.Limits.{document}
 use Rattle.theory.specs.Rules.{Page, Pages}
-use Rattle.theory.proofs.Lists.{le-leb, le-or-lt}
+use Rattle.theory.proofs.Lists.{le-or-lt}
 use Rattle.table.specs.declared.Rule.{Rule}
-use Rattle.table.specs.Rules.{bookOf, page-in, pageOf, pastRule, ruleOf}
-use Rattle.table.proofs.Programs.{book-at, book-length}
+use Rattle.table.specs.Rules.{bookOf, pageOf, pastRule}
+use Rattle.table.proofs.Programs.{book-at, book-length, page-free, page-there}
 use Rattle.blocks.specs.Places.{Place, recorded, recordsFrom, records}
 use Rattle.blocks.proofs.Pages.{records-append}
 use Rattle.blocks.proofs.Records.{page-below}
@@ -23,24 +22,11 @@ use Rattle.saving.specs.declared.HeldSlots.{HeldSlots}
 use Rattle.saving.specs.Held.{HeldIn}
 use Rattle.saving.specs.Bytes.{heldPage}
 
--- A slot by its state: free, or with a page.
-
-page-free : (r : Rule) → r .state ≡ 0 → pageOf r ≡ none
-page-free r e = ap (λ n. page-in n (ruleOf r)) e
-
-page-there : (r : Rule) → 0 < r .state → pageOf r ≡ some (heldPage r)
-page-there r l = some-of (r .state) l
-  where
-    some-of : (n : ℕ) → 0 < n → page-in n (ruleOf r) ≡ some (record { rule = ruleOf r; muted = leb 2 n })
-    some-of zero k = absurd (omega arith)
-    some-of (suc zero) k = refl
-    some-of (suc (suc n)) k =
-        ap (λ (m : Bool). some (record { rule = ruleOf r; muted = m })) (sym (le-leb 2 (suc (suc n)) (omega arith)))
-
+-- What a page of a slot is.
 page-of : (r : Rule) (p : Page) → pageOf r ≡ some p → p ≡ heldPage r
 page-of r p e = ⊎-elim
     (λ (z : r .state ≤ 0). absurd (Option·none-ne-some p (sym (page-free r (omega arith)) ∙ e)))
-    (λ (z : 0 < r .state). sym (Option·some-injective (heldPage r) p (sym (page-there r z) ∙ e)))
+    (λ (z : 0 < r .state). sym (Option·some-injective (heldPage r) p (sym (page-there r (λ i. omega arith)) ∙ e)))
     (le-or-lt (r .state) 0)
 
 -- Of the first i slots, those that hold rules are noted.
@@ -115,7 +101,7 @@ note-next rules i count n slots below room told N =
     (λ (z : 0 < getD rules i pastRule .state). (
     let e : n ≡ 1 = omega arith in
     rw e (note-held (bookOf rules) i count slots low room N _
-    (book-at rules i ∙ page-there (getD rules i pastRule) z))))
+    (book-at rules i ∙ page-there (getD rules i pastRule) (λ i. omega arith)))))
     (le-or-lt (getD rules i pastRule .state) 0)
 
 -- All slots are noted.

@@ -5,10 +5,12 @@ use mathlib.Core.Path.{_≡_, refl, sym, _∙_, ap}
 use mathlib.Core.Bool.{Bool, true, false}
 use mathlib.Core.List.{List}
 use mathlib.Core.Option.{none, some, Option·none-ne-some, Option·some-injective}
+use lib.Dec.{leb}
 use lib.ListN.{length, getD, set, length-map, List·getD-map}
 use Rattle.theory.specs.Rules.{active-on, all, Held, rule-on}
 use Rattle.theory.specs.Rules as theory
 use Rattle.theory.specs.Labels.{absent, out, in-at}
+use Rattle.theory.proofs.Lists.{le-leb}
 use Rattle.theory.proofs.Pages.{active-at, all-at, all-length, all-set, map-set}
 use Rattle.table.specs.declared.Rule.{Rule}
 use Rattle.table.specs.declared.Label.{Label}
@@ -16,21 +18,29 @@ use Rattle.table.specs.Rules.{activeIn, activeOf, bookOf, page-in, pageO
 use Rattle.table.specs.Rules.{stateOf}
 use Rattle.table.specs.Labels.{labelOf, label-in}
 
--- A slot by its state: what it holds, and what it holds unmuted.
-pub slot-free : (r : Rule) → r .state ≡ 0 → slotOf r ≡ none
-slot-free r e = ap (λ n. rule-on (page-in n (ruleOf r))) e
+-- A slot by its state: what it holds, muted from state 2 on, and what it holds unmuted.
+pub page-free : (r : Rule) → r .state ≡ 0 → pageOf r ≡ none
+page-free r e = ap (λ n. page-in n (ruleOf r)) e
+
+pub page-there :
+    (r : Rule) → (r .state ≡ 0 → ⊥) → pageOf r ≡ some (record { rule = ruleOf r; muted = leb 2 (r .state) })
+page-there r h = some-of (r .state) h
+  where
+    some-of : (n : ℕ) → (n ≡ 0 → ⊥) → page-in n (ruleOf r) ≡ some (record { rule = ruleOf r; muted = leb 2 n })
+    some-of zero k = absurd (k refl)
+    some-of (suc zero) k = refl
+    some-of (suc (suc n)) k =
+        ap (λ (m : Bool). some (record { rule = ruleOf r; muted = m })) (sym (le-leb 2 (suc (suc n)) (omega arith)))
 
 pub page-stated : (r : theory.Rule) (m : Bool) → page-in (stateOf m) r ≡ some (record { rule = r; muted = m })
 page-stated r true = refl
 page-stated r false = refl
 
+pub slot-free : (r : Rule) → r .state ≡ 0 → slotOf r ≡ none
+slot-free r e = ap rule-on (page-free r e)
+
 pub slot-held : (r : Rule) → (r .state ≡ 0 → ⊥) → slotOf r ≡ some (ruleOf r)
-slot-held r h = some-of (r .state) h
-  where
-    some-of : (n : ℕ) → (n ≡ 0 → ⊥) → rule-on (page-in n (ruleOf r)) ≡ some (ruleOf r)
-    some-of zero k = absurd (k refl)
-    some-of (suc zero) k = refl
-    some-of (suc (suc n)) k = refl
+slot-held r h = ap rule-on (page-there r h)
 
 pub active-none : (r : Rule) → (r .state ≡ 1 → ⊥) → activeIn r ≡ none
 active-none r h = none-of (r .state) h
@@ -105,15 +115,6 @@ state-held rules s h = program-at rules s ∙ slot-held (getD rules s pastRule) 
 pub unmuted-rule :
     (rules : List Rule) (s : ℕ) (q : theory.Rule) → Held (activeOf rules) s q → ruleOf (getD rules s pastRule) ≡ q
 unmuted-rule rules s q h = active-rule (getD rules s pastRule) q (sym (active-place rules s) ∙ h)
-
-pub unmuted-state :
-    (rules : List Rule) (s : ℕ) (q : theory.Rule) → Held (activeOf rules) s q → getD rules s pastRule .state ≡ 1
-unmuted-state rules s q h = active-state (getD rules s pastRule) q (sym (active-place rules s) ∙ h)
-
-pub state-unmuted :
-    (rules : List Rule) (s : ℕ) → getD rules s pastRule .state ≡ 1
-    → Held (activeOf rules) s (ruleOf (getD rules s pastRule))
-state-unmuted rules s h = active-place rules s ∙ active-some (getD rules s pastRule) h
 
 -- A label by its state.
 pub label-absent : (l : Label) → l .state ≡ 0 → labelOf l ≡ absent

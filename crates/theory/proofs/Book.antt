@@ -12,7 +12,7 @@ use Rattle.theory.specs.Limits.{Limits}
 use Rattle.theory.specs.Questions.{add-questions, first-no, is-some, lowest-free, put-in, replace-questions}
 use Rattle.theory.specs.Questions.{slot-questions}
 use Rattle.theory.specs.Book.{accepted, add, answer, Call, changed, granted, mute, refusal, refused, remove}
-use Rattle.theory.specs.Book.{replace, slot, slot-answer}
+use Rattle.theory.specs.Book.{replace, slot}
 use Rattle.theory.proofs.Questions.{first-no-none}
 
 refused-other : {k : ℕ} → refused k ≡ accepted → ⊥
@@ -35,7 +35,7 @@ free-slot limits P r e =
     let five = first-no-none _ _ (four .1) in
     first-no-none _ _ (five .1) .0
 
-taken : (o : Option ℕ) → is-some o ≡ true → slot-answer o ≡ accepted → ⊥
+taken : (o : Option ℕ) → is-some o ≡ true → elim o [ none ↦ accepted | some s ↦ slot s ] ≡ accepted → ⊥
 taken none t e = true≢false (sym t)
 taken (some s) t e = slot-other e
 
@@ -78,7 +78,7 @@ module _ (limits : Limits) where
 
   module _ (B : Pages) where
     -- The page that a call changes, if it is accepted.
-    abbrev own : Call → Option ℕ
+    abbrev pub own : Call → Option ℕ
     own (add r) = lowest-free (all B)
     own (remove s) = some s
     own (replace s r) = some s

@@ -22,12 +22,13 @@ pub data Answer : Type 0 where
   slot : ℕ → Answer
   accepted : Answer
 
-abbrev pub slot-answer : Option ℕ → Answer
-slot-answer o = elim o [ none ↦ accepted | some s ↦ slot s ]
-
 -- All pages are free at first.
 abbrev pub empty : Limits → Pages
 empty limits = replicate (limits .slots) none
+
+-- The pages with a rule added: as it is kept, on the lowest free page, unmuted.
+abbrev pub with-page : Pages → Rule → Pages
+with-page B r = put-in B (lowest-free (all B)) (new-page r)
 
 module _ (limits : Limits) where
   -- The first question that is answered no. They are asked of all rules held, muted or not.
@@ -37,16 +38,16 @@ module _ (limits : Limits) where
   refusal B (replace s r) = first-no (replace-questions limits (all B) s r)
   refusal B (mute s m) = first-no (slot-questions limits (all B) s)
 
-  -- What an accepted call answers, and what it leaves: the rule, as it is kept, on the lowest free page; the page free;
-  -- the rule, as it is kept, on that page; that page with its mark set.
+  -- What an accepted call answers, and what it leaves: the rule on the lowest free page; the page free; the rule, as it
+  -- is kept, on that page, unmuted; that page with its mark set.
   abbrev pub granted : Pages → Call → Answer
-  granted B (add r) = slot-answer (lowest-free (all B))
+  granted B (add r) = elim (lowest-free (all B)) [ none ↦ accepted | some s ↦ slot s ]
   granted B (remove s) = accepted
   granted B (replace s r) = accepted
   granted B (mute s m) = accepted
 
   abbrev pub changed : Pages → Call → Pages
-  changed B (add r) = put-in B (lowest-free (all B)) (new-page r)
+  changed B (add r) = with-page B r
   changed B (remove s) = set B s none
   changed B (replace s r) = set B s (some (new-page r))
   changed B (mute s m) = with-mark B s m

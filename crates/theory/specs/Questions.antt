@@ -86,7 +86,7 @@ module _ (limits : Limits) where
       ∷ asks 7 (stratified (with-added P r))
       ∷ [])
 
-  -- Remove, and Spoiler of a slot. 8: Is the slot number below 256?  9: Does the slot hold a rule?
+  -- Remove, Mute, and Spoiler of a slot. 8: Is the slot number below 256?  9: Does the slot hold a rule?
   abbrev pub slot-questions : Program → ℕ → List Question
   slot-questions P s = asks 8 (ltb s (limits .slots)) ∷ asks 9 (is-some (getD P s none)) ∷ []
 

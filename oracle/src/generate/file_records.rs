@@ -1,6 +1,6 @@
 //! What can be wrong with the records of a file. Where none has room for it, nothing is done.
 
-use crate::file::Record;
+use crate::file::{Record, MARK};
 use crate::limits::{ATOMS, ENTRIES};
 use crate::random::Random;
 
@@ -16,9 +16,6 @@ fn any_that<'a>(
     }
     Some(those.swap_remove(random.below(those.len())))
 }
-
-/// The top bit of a positive count.
-const MARK: u8 = 128;
 
 /// How many entries its counts name.
 fn used(record: &Record) -> usize {

@@ -10,6 +10,7 @@ mod file_bytes;
 mod file_records;
 pub mod files;
 pub mod lines;
+pub mod lists;
 mod mark_faults;
 pub mod marks;
 pub mod muting_kinds;

@@ -8,7 +8,7 @@ use crate::file;
 use crate::generate::marks::{all_unmuted, without_muted};
 use crate::labels::{Label, Labelled};
 use crate::loops::has_loop_through_negation;
-use crate::relations::spoiler;
+use crate::relations::{reason, repercussions, spoiler};
 use crate::rules::{muted, occurring, unmuted, Page, Program, Rule};
 use std::collections::BTreeMap;
 use std::fmt;
@@ -67,6 +67,10 @@ pub enum Met {
     Justification,
     /// The atom is an entry of a muted rule.
     Consequence,
+    /// With the spoilers of muted rules among the supports there would be more repercussions.
+    Repercussion,
+    /// With no rule muted the reason would be another.
+    Reason,
     Saved,
     Loaded,
     /// 15: the rules would be a checklist's if none were muted.
@@ -84,7 +88,7 @@ pub const BY_CHANGES: [Met; 6] = [
 ];
 
 /// What the calls that know of no checklist can meet.
-pub const BY_RULES: [Met; 11] = [
+pub const BY_RULES: [Met; 13] = [
     Met::Same,
     Met::Loop,
     Met::Removed,
@@ -94,6 +98,8 @@ pub const BY_RULES: [Met; 11] = [
     Met::Label,
     Met::Justification,
     Met::Consequence,
+    Met::Repercussion,
+    Met::Reason,
     Met::Saved,
     Met::Loaded,
 ];
@@ -260,6 +266,8 @@ impl Met {
             Call::Consequences { atom } => {
                 any(&|rule| rule.entries().any(|entry| entry == *atom)).then_some(Met::Consequence)
             }
+            Call::Repercussions { atom } => spoils_muted(pages, *atom).then_some(Met::Repercussion),
+            Call::Reason { atom } => moves_reason(pages, *atom).then_some(Met::Reason),
             Call::Save => has_muted(pages).then_some(Met::Saved),
             _ => None,
         }
@@ -281,6 +289,21 @@ fn told(pages: &Program, rule: &Rule) -> Met {
 /// Does the atom occur, and in muted rules alone?
 fn silent_alone(pages: &Program, atom: u32) -> bool {
     occurring(pages).contains(atom) && !occurring(&without_muted(pages)).contains(atom)
+}
+
+/// Does the atom spoil a muted rule whose head is out and not among its repercussions?
+fn spoils_muted(pages: &Program, atom: u32) -> bool {
+    let labelled = Labelled::of(pages.clone());
+    let told = repercussions(&labelled, atom);
+    let more = |rule: &Rule| !labelled.is_in(rule.head) && !told.contains(&rule.head);
+    let spoils = |rule: &Rule| spoiler(&labelled, rule).is_some_and(|by| by.atom == atom);
+    muted(pages).any(|(_, rule)| more(rule) && spoils(rule))
+}
+
+/// Would the atom have another reason with no rule muted?
+fn moves_reason(pages: &Program, atom: u32) -> bool {
+    let told = |pages| reason(&Labelled::of(pages), atom);
+    has_muted(pages) && told(pages.clone()) != told(all_unmuted(pages))
 }
 
 /// How often each kind came up.

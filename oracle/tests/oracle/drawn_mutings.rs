@@ -5,8 +5,8 @@ use oracle::book::Book;
 use oracle::calls::{Call, Lent};
 use oracle::checklist;
 use oracle::generate::again::pages_of;
-use oracle::generate::calls::Calls;
 use oracle::generate::checklists::Checklists;
+use oracle::generate::lists::{follow, follow_lists};
 use oracle::generate::marks::{marked, Marks, MARKS};
 use oracle::generate::muting_kinds::{How, Kind, Met, Seen, BY_CHANGES, BY_RULES, HOWS, REFUSALS};
 use oracle::generate::mutings::{muting, Flavour, FLAVOURS};
@@ -105,33 +105,13 @@ fn tables_have_muted_rules_and_damaged_marks() {
     assert!(good > 200 && bad > 200 && no_state > 30, "{counts:?}");
 }
 
-/// Makes drawn calls on a table and counts what they come to.
-fn follow(random: &mut Random, table: &mut RawTable, seen: &mut Seen, count: usize) {
-    let mut drawn = Calls::on(table, 40, 80);
-    let mut lent = Lent {
-        numbers: vec![0; 256],
-        bytes: vec![0; 12 * 512],
-    };
-    for _ in 0..count {
-        let call = drawn.call(random);
-        let pages = pages_of(table);
-        let answer = call.make(table, &mut lent);
-        seen.note(&pages, &call, answer.err().map_or(0, Refusal::number));
-    }
-}
-
 #[test]
 fn lists_of_calls_meet_every_kind() {
     let mut random = Random::seeded(514);
     let mut seen = Seen::default();
-    for round in 0..600 {
-        let mut table = match round % 3 {
-            0 => mixed_table(&mut random),
-            1 => sound_table(&mut random),
-            _ => RawTable::empty(),
-        };
-        follow(&mut random, &mut table, &mut seen, 40);
-    }
+    follow_lists(&mut random, 600, 40, |table, call, refused| {
+        seen.note(&pages_of(table), call, refused);
+    });
     let refusals = [&REFUSALS[..], &[15]].concat();
     assert!(seen.is_enough(&refusals, &BY_RULES, 10), "{seen}");
     for number in [5, 6, 7] {
@@ -145,8 +125,10 @@ fn a_kind_that_never_came_up_is_not_enough() {
     let mut seen = Seen::default();
     assert!(!seen.is_enough(&[], &[], 1));
     for _ in 0..150 {
-        let mut table = sound_table(&mut random);
-        follow(&mut random, &mut table, &mut seen, 40);
+        let table = sound_table(&mut random);
+        follow(&mut random, table, 40, |table, call, refused| {
+            seen.note(&pages_of(table), call, refused);
+        });
     }
     assert!(seen.is_enough(&REFUSALS, &BY_RULES, 1), "{seen}");
     assert!(!seen.is_enough(&[15], &[], 1) && !seen.is_enough(&[], &[Met::Checklist], 1));

@@ -1,20 +1,18 @@
 //! The generators draw replacements of every flavour, and each comes to what it was drawn for.
 
 use oracle::book::Book;
-use oracle::calls::{Call, Lent};
+use oracle::calls::Call;
 use oracle::generate::again::pages_of;
-use oracle::generate::calls::Calls;
 use oracle::generate::checklists::Checklists;
+use oracle::generate::lists::{follow, follow_lists};
 use oracle::generate::replacement_kinds::{Kind, Seen, REFUSALS};
 use oracle::generate::replacements::{replacement, Flavour, FLAVOURS};
 use oracle::generate::sheets::{self, sheet};
+use oracle::generate::sound_table;
 use oracle::generate::words::{list, Ending};
-use oracle::generate::{mixed_table, sound_table};
-use oracle::questions::Refusal;
 use oracle::random::Random;
 use oracle::replay::calls;
 use oracle::sound::sound_rules;
-use oracle::table::RawTable;
 
 /// What a flavour comes to; `None` where it may come to several ends.
 fn end(flavour: Flavour) -> Option<Kind> {
@@ -60,30 +58,13 @@ fn each_flavour_is_drawn_often_and_comes_to_its_end() {
     }
 }
 
-/// Makes drawn calls on a table and counts the replacements among them.
-fn follow(random: &mut Random, table: &mut RawTable, seen: &mut Seen, count: usize) {
-    let mut drawn = Calls::on(table, 40, 80);
-    let mut lent = Lent::default();
-    for _ in 0..count {
-        let call = drawn.call(random);
-        let pages = pages_of(table);
-        let answer = call.make(table, &mut lent);
-        seen.note(&pages, &call, answer.err().map_or(0, Refusal::number));
-    }
-}
-
 #[test]
 fn lists_of_calls_meet_every_kind() {
     let mut random = Random::seeded(402);
     let mut seen = Seen::default();
-    for round in 0..300 {
-        let mut table = match round % 3 {
-            0 => mixed_table(&mut random),
-            1 => sound_table(&mut random),
-            _ => RawTable::empty(),
-        };
-        follow(&mut random, &mut table, &mut seen, 40);
-    }
+    follow_lists(&mut random, 300, 40, |table, call, refused| {
+        seen.note(&pages_of(table), call, refused);
+    });
     let refusals = [&REFUSALS[..], &[15]].concat();
     assert!(seen.is_enough(&refusals, 20), "{seen}");
     assert_eq!(seen.times(Kind::Refused(6)), 0, "{seen}");
@@ -95,8 +76,10 @@ fn a_kind_that_never_came_up_is_not_enough() {
     let mut seen = Seen::default();
     assert!(!seen.is_enough(&[], 1));
     for _ in 0..150 {
-        let mut table = sound_table(&mut random);
-        follow(&mut random, &mut table, &mut seen, 40);
+        let table = sound_table(&mut random);
+        follow(&mut random, table, 40, |table, call, refused| {
+            seen.note(&pages_of(table), call, refused);
+        });
     }
     assert!(seen.is_enough(&REFUSALS, 1), "{seen}");
     assert!(!seen.is_enough(&[6], 1) && !seen.is_enough(&[15], 1));
