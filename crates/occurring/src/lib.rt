@@ -1,4 +1,4 @@
-// Which atoms occur: the head and the entries of each rule are marked.
+// Which atoms occur: the head and the entries of each rule, muted or not, come into a set.
 use rule::negative_end;
 use table::Atom;
 use table::Rule;

@@ -1,4 +1,4 @@
-// Slots and labels by themselves: each well formed, and no two rules equal.
+// Slots and labels by themselves: each well formed, and no two rules equal, muted or not.
 use questions::clean::clean_label;
 use questions::clean::well_formed;
 use rule::equal;

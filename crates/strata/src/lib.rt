@@ -1,4 +1,4 @@
-// The strata of a table's rules: for each atom the most negative steps on a path of dependencies from it.
+// The strata of a table's rules, muted or not: for each atom the most negative steps on a path of dependencies from it.
 use rule::negative_end;
 use rule::positive_end;
 use table::Atom;
