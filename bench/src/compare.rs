@@ -110,10 +110,10 @@ fn compared(raw: &RawTable) -> Result<Option<Expected>, String> {
 }
 
 /// From so many tables on, one of five must have a muted rule, and of these one of five must be sound and one not; and
-/// one of fifty must have a rule with a mark that is none.
+/// one of fifty must have a slot with a state past 2.
 const MANY: usize = 1_000;
 
-/// How many tables had a muted rule, and how many of them are sound; how many had a slot with a state past the last.
+/// How many tables had a muted rule, and how many of them are sound; how many had a slot with a state past 2.
 #[derive(Default)]
 struct Muted {
     tables: usize,
@@ -180,12 +180,12 @@ pub fn compare(seed: u64, count: usize) -> bool {
         reached.layers, reached.tables, reached.most_layers, reached.most_rounds
     );
     println!(
-        "tables with a muted rule: {}, of them sound: {}; with a mark that is none: {}",
+        "tables with a muted rule: {}, of them sound: {}; with a state past 2: {}",
         muted.tables, muted.sound, muted.no_state
     );
     let passed = count - failed;
     if !muted.is_enough(count) {
-        println!("too few tables with a muted rule, or with a mark that is none");
+        println!("too few tables with a muted rule, or with a state past 2");
         failed += 1;
     }
     println!("tables compared with the slow engine: {passed} passed, {failed} failed");

@@ -77,7 +77,7 @@ static void show_why(const yeqontur_table *table) {
     while (atom % 3 == 0 && yeqontur_label(*table, atom).state == 1) {
         const yeqontur_spoiler_answer stop = yeqontur_spoiler(*table, atom / 3);
         if (stop.spoiled != 1 && stop.spoiled != 2) {
-            return; /* muted, and no entry is named: a checklist has no such rule */
+            return; /* no entry is named: the rule is muted, as none of a checklist is */
         }
         printf("  ");
         print_name(atom);

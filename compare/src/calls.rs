@@ -111,7 +111,9 @@ pub fn compare(seed: u64, count: usize) -> usize {
     let passed = run.made - run.failed;
     println!("{}\n{}", run.replacements, run.mutings);
     if count >= MANY && !run.is_enough() {
-        println!("replacements or mutings came too rarely to one of their ends");
+        println!(
+            "too rare: an end of replacements or mutings, or muted rules that other calls met"
+        );
         run.failed += 1;
     }
     println!(

@@ -19,8 +19,8 @@ use yeqontur::raw;
 /// How many differences are shown; the rest are counted.
 const SHOWN: usize = 10;
 
-/// From so many calls on, each of the calls below must be accepted so often, and refused as well, and each of the
-/// others below must be met so often.
+/// From so many calls on, each call of `BOTH_ENDS` must be accepted so often, and refused as well, and each kind of
+/// `MUTED` must be met so often.
 const MANY: usize = 100_000;
 const OFTEN: usize = 20;
 
@@ -207,7 +207,7 @@ pub fn compare(seed: u64, count: usize) -> usize {
     }
     seen.print();
     if !seen.is_enough() {
-        println!("a call came to one of its ends too rarely, or nothing was ever complete");
+        println!("too rare: an end of a call, a refused opening, muted rules met, or a complete checklist");
         seen.failed += 1;
     }
     println!(

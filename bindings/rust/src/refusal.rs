@@ -162,7 +162,7 @@ impl Refusal {
             Refusal::TableUnsound => (
                 15,
                 "the table handed in is not sound, or not a checklist where the call asks for one",
-                "begin again, or load a copy; of a checklist with a muted or changed rule: unmute it, or undo the change",
+                "begin again, or load a copy; of a checklist: unmute its muted rule, or undo the change",
             ),
             Refusal::WrongLength => (
                 16,

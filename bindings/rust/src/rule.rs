@@ -17,7 +17,7 @@ pub struct Rule {
     pub positives: Vec<u32>,
     /// Ascending.
     pub negatives: Vec<u32>,
-    /// Whether it is muted: by [`Table::mute`], now or before the table was saved.
+    /// Whether it is muted ([`Table::mute`]); a file keeps it.
     pub muted: bool,
 }
 

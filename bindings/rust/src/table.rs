@@ -129,7 +129,8 @@ impl Table {
     }
 
     /// Unmutes the rule in a slot: it counts for all labels again, as if it had never been muted. Since muted rules
-    /// count for loops, this never meets 7. What is not muted may be unmuted. A refused call leaves the table as it was.
+    /// count for loops, this never meets 7. What is not muted may be unmuted. A refused call leaves the table as it
+    /// was.
     pub fn unmute(&mut self, slot: u32) -> Result<(), Refusal> {
         self.set_muted(slot, 0)
     }

@@ -162,6 +162,8 @@ module _ (limits : Limits) (few : limits .entries ≤ 8) where
         ∙ blocks-back n n 0 bs (omega arith) (whole-parts bs (one .0) .length) w (two .0) (three .0)
         (and-l (every filled (blocks bs)) _ (four .0))
 
+-- Records that pass 19 have no loop through a negation.
+module _ (limits : Limits) where
   records-acyclic :
       (ps : List Place) → recordsRight limits ps ≡ true → NegativeCycle (all (pagesWith limits ps)) → ⊥
   unfolding recordsRight
@@ -206,5 +208,5 @@ pub pages-acyclic :
     (bs : List ℕ) → first-no (file-questions document bs) ≡ none → NegativeCycle (all (pagesOf document bs)) → ⊥
 pages-acyclic bs e =
     let three = first-no-none _ _ (first-no-none _ _ (first-no-none _ _ e .1) .1) in
-    records-acyclic document (omega arith) (placesOf (blocks bs))
+    records-acyclic document (placesOf (blocks bs))
     (and-r (every filled (blocks bs)) _ (first-no-none _ _ (three .1) .0))

@@ -5,8 +5,7 @@ use mathlib.Core.Path.{_≡_, refl, sym, _∙_, ap, subst}
 use mathlib.Core.Bool.{true}
 use mathlib.Core.List.{List, [], _∷_, map}
 use mathlib.Core.Option.{Option, none, some}
-use lib.Dec.{ltb}
-use lib.ListN.{length, getD, set, replicate, length-map, length-set, length-replicate, List·getD-map}
+use lib.ListN.{length, getD, length-map, length-replicate, List·getD-map}
 use Rattle.theory.specs.Lists.{every}
 use Rattle.theory.specs.Rules.{active, all, Page, Pages}
 use Rattle.theory.specs.Models.{AtomSet, Admissible, OnlyModel}
@@ -16,7 +15,7 @@ use Rattle.theory.specs.Labels as theory
 use Rattle.theory.specs.Questions.{first-no}
 use Rattle.theory.specs.Book.{empty}
 use Rattle.theory.specs.Limits.{document}
-use Rattle.theory.proofs.Lists.{and-l, and-r}
+use Rattle.theory.proofs.Lists.{and-r}
 use Rattle.theory.proofs.Questions.{first-no-none}
 use Rattle.theory.proofs.Pages.{active-acyclic}
 use Rattle.theory.proofs.Models.{exactly-one-model}

@@ -17,8 +17,9 @@ use Rattle.theory.specs.Questions.{Question, first-no, atom-questions, put-in}
 use Rattle.theory.specs.Questions.{asks}
 use Rattle.theory.specs.Book as book
 use Rattle.theory.specs.Book.{add, remove, replace, mute, Answer, refused, accepted, empty, answer, after, answers}
-use Rattle.theory.specs.Book.{accepted, after-all, refusal, granted, changed, slot}
+use Rattle.theory.specs.Book.{after-all, refusal, granted, changed}
 use Rattle.theory.specs.Limits.{document}
+use Rattle.theory.proofs.Book.{slot-answer}
 use Rattle.theory.proofs.Lists.{test, clash, lt-ltb}
 use Rattle.theory.proofs.Rules.{valid-positive}
 use Rattle.theory.proofs.Questions.{first-no-yes, passed-bounded}
@@ -165,7 +166,7 @@ step-follows {t} S (adds {r} (contract.refused f T e)) = record {
   still = S;
 }
 step-follows {t} S (adds {r} (contract.accepted s u T e l Z h U)) = record {
-  said = sym (answer-yes (held t) (add r) e ∙ ap (λ (o : Option ℕ). elim o [ none ↦ accepted | some k ↦ slot k ]) l);
+  said = sym (answer-yes (held t) (add r) e ∙ ap slot-answer l);
   holds = h ∙ sym (after-yes (held t) (add r) e ∙ ap (λ (o : Option ℕ). put-in (held t) o (new-page r)) l);
   still = U;
 }

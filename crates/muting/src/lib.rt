@@ -14,7 +14,7 @@ ghost use Rattle.calls.specs.Contracts.{MuteEnds};
 ghost use Rattle.muting.specs.Marks.{slotMarked};
 
 // The slot with the mark set, on or off.
-fn marked(slot: Rule, muted: bool) -> Rule
+fn with_mark(slot: Rule, muted: bool) -> Rule
     ensures { λ r. ⌜ r ≡ slotMarked muted slot ⌝ }
 {
     let mut changed = slot;
@@ -36,7 +36,7 @@ pub fn mute(table: Table, slot: u32, muted: bool) -> Changed
         AskedSlot::Passed(s) => {
             let rules = table.rules;
             let held = rule_in(rules, s);
-            let other = marked(held, muted);
+            let other = with_mark(held, muted);
             let changed = with_rule(rules, s, other);
             let found = labels_of(changed);
             let relabelled = found.labels;

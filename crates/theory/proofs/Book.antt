@@ -11,8 +11,8 @@ use Rattle.theory.specs.Rules.{all, kept, new-page, Pages, Program, Rule
 use Rattle.theory.specs.Limits.{Limits}
 use Rattle.theory.specs.Questions.{add-questions, first-no, is-some, lowest-free, put-in, replace-questions}
 use Rattle.theory.specs.Questions.{slot-questions}
-use Rattle.theory.specs.Book.{accepted, add, answer, Call, changed, granted, mute, refusal, refused, remove}
-use Rattle.theory.specs.Book.{replace, slot}
+use Rattle.theory.specs.Book.{accepted, add, Answer, answer, Call, changed, granted, mute, refusal, refused}
+use Rattle.theory.specs.Book.{remove, replace, slot}
 use Rattle.theory.proofs.Questions.{first-no-none}
 
 refused-other : {k : ℕ} → refused k ≡ accepted → ⊥
@@ -35,7 +35,11 @@ free-slot limits P r e =
     let five = first-no-none _ _ (four .1) in
     first-no-none _ _ (five .1) .0
 
-taken : (o : Option ℕ) → is-some o ≡ true → elim o [ none ↦ accepted | some s ↦ slot s ] ≡ accepted → ⊥
+-- What an accepted addition is answered, by the lowest free slot.
+abbrev pub slot-answer : Option ℕ → Answer
+slot-answer o = elim o [ none ↦ accepted | some s ↦ slot s ]
+
+taken : (o : Option ℕ) → is-some o ≡ true → slot-answer o ≡ accepted → ⊥
 taken none t e = true≢false (sym t)
 taken (some s) t e = slot-other e
 

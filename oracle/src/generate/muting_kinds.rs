@@ -67,7 +67,7 @@ pub enum Met {
     Justification,
     /// The atom is an entry of a muted rule.
     Consequence,
-    /// With the spoilers of muted rules among the supports there would be more repercussions.
+    /// The atom spoils a muted rule whose head would be one repercussion more.
     Repercussion,
     /// With no rule muted the reason would be another.
     Reason,

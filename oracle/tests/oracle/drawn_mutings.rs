@@ -4,6 +4,7 @@
 use oracle::book::Book;
 use oracle::calls::{Call, Lent};
 use oracle::checklist;
+use oracle::file::write;
 use oracle::generate::again::pages_of;
 use oracle::generate::checklists::Checklists;
 use oracle::generate::lists::{follow, follow_lists};
@@ -239,6 +240,24 @@ fn addition(head: u32, positives: &[u32], negatives: &[u32]) -> Call {
     }
 }
 
+/// The rule in a slot is replaced by a fact that no table here has.
+fn replacement(slot: u32) -> Call {
+    Call::Replace {
+        slot,
+        head: 9,
+        positives: vec![],
+        negatives: vec![],
+    }
+}
+
+/// The file of these rules is loaded.
+fn loading(texts: &[&str]) -> Call {
+    let pages = pages_of(&crate::notation::table(texts));
+    Call::Load {
+        bytes: write(&pages),
+    }
+}
+
 #[test]
 fn what_other_calls_meet_is_told_from_the_pages_and_the_answer() {
     let rules = ["~1 < 2", "3 < 1", "~4 <", "4 < !5"];
@@ -262,6 +281,14 @@ fn what_other_calls_meet_is_told_from_the_pages_and_the_answer() {
     meets(Call::Justifications { atom: 3 }, None);
     meets(Call::Consequences { atom: 2 }, Some(Met::Consequence));
     meets(Call::Consequences { atom: 1 }, None);
+    meets(Call::Repercussions { atom: 2 }, Some(Met::Repercussion));
+    meets(Call::Repercussions { atom: 1 }, None);
+    meets(Call::Reason { atom: 4 }, Some(Met::Reason));
+    meets(Call::Reason { atom: 3 }, None);
+    meets(replacement(0), Some(Met::Replaced));
+    meets(replacement(1), None);
+    meets(loading(&["1 <", "~2 < 1"]), Some(Met::Loaded));
+    meets(loading(&["1 <"]), None);
     meets(Call::Save, Some(Met::Saved));
     meets(Call::Missing, None);
     let muted_frame = met(&["0 <", "~3 < 0 1 !2"], Call::Complete);

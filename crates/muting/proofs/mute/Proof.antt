@@ -19,8 +19,8 @@ enum-known-asked-2 c = search needs
 rule-in-requires : tie.Need-rule-in-requires
 rule-in-requires c κs = tt
 
-marked-requires : tie.Need-marked-requires
-marked-requires c κs = tt
+with-mark-requires : tie.Need-with-mark-requires
+with-mark-requires c κs = tt
 
 with-rule-requires : tie.Need-with-rule-requires
 with-rule-requires c κs = tt
@@ -35,7 +35,7 @@ labels-of-requires c κs =
     bounded-after-mark (s .args .table) (s .args .slot) _
     (slot-passed _ _ _ (ask .ask-slot .ensures) _ (asked .asked2 .given .1)) (s .args .muted) _ _
     (read .rule-in .ensures)
-    (mark .marked .ensures) _ (c .with-rule .ensures)
+    (mark .with-mark .ensures) _ (c .with-rule .ensures)
 
 returns : tie.Need-returns
 returns c =
@@ -57,7 +57,7 @@ returns-2 c =
     muted-ends (s .args .table) (s .args .slot) _
     (slot-passed _ _ _ (ask .ask-slot .ensures) _ (asked .asked2 .given .1)) (s .args .muted) _ _
     (read .rule-in .ensures)
-    (mark .marked .ensures) _ (put .with-rule .ensures) (told .labels-of .result) (told .labels-of .ensures)
+    (mark .with-mark .ensures) _ (put .with-rule .ensures) (told .labels-of .result) (told .labels-of .ensures)
     (table-sized _ _ (s .good .0)) (rule-sized (read .rule-in .result) _ (read .rule-in .ok))
     (labels-sized (told .labels-of .result) _ (told .labels-of .ok))
 
@@ -69,7 +69,7 @@ mute-spec =
     enum-known-asked
     enum-known-asked-2
     rule-in-requires
-    marked-requires
+    with-mark-requires
     with-rule-requires
     labels-of-requires
     returns
