@@ -1,11 +1,29 @@
 -- `muting::mute` ends as its contract says. Assumes nothing.
-use Rattle.calls.proofs.Asking.{slot-passed, change-refused}
+use Rattle.calls.proofs.Asking.{PassesSlot, slot-passed, change-refused}
 use Rattle.calls.proofs.Sizes.{rule-sized, table-sized}
 use Rattle.changes.proofs.Sizes.{labels-sized}
 use Rattle.muting.proofs.Ends.{bounded-after-mark, muted-ends}
 use borrow.Author.Needs.{needs}
 use Rattle.muting.proofs.mute.Statement.{statement}
 use Rattle.muting.proofs.mute.Tie as tie
+
+-- From where the slot with its mark has been put back to where it was marked, where it was read, and to the start.
+abbrev mark-of : tie.After-with-rule → tie.After-with-mark
+mark-of c = c .before
+
+abbrev read-of : tie.After-with-rule → tie.After-rule-in
+read-of c = mark-of c .before
+
+abbrev start : tie.After-with-rule → tie.Start
+start c = read-of c .before .before .before .before .before .before
+
+-- The slot passed its questions.
+passed :
+    (c : tie.After-with-rule)
+    → PassesSlot (start c .args .table) (start c .args .slot) (read-of c .before .before .before .asked2 .given .0 .0)
+passed c =
+    let asked = read-of c .before .before .before in
+    slot-passed _ _ _ (asked .before .before .ask-slot .ensures) _ (asked .asked2 .given .1)
 
 ask-slot-requires : tie.Need-ask-slot-requires
 ask-slot-requires c κs = tt
@@ -27,15 +45,9 @@ with-rule-requires c κs = tt
 
 labels-of-requires : tie.Need-labels-of-requires
 labels-of-requires c κs =
-    let mark = c .before in
-    let read = mark .before in
-    let asked = read .before .before .before in
-    let ask = asked .before .before in
-    let s = ask .before in
-    bounded-after-mark (s .args .table) (s .args .slot) _
-    (slot-passed _ _ _ (ask .ask-slot .ensures) _ (asked .asked2 .given .1)) (s .args .muted) _ _
-    (read .rule-in .ensures)
-    (mark .with-mark .ensures) _ (c .with-rule .ensures)
+    let s = start c in
+    bounded-after-mark (s .args .table) (s .args .slot) _ (passed c) (s .args .muted) _ _ (read-of c .rule-in .ensures)
+    (mark-of c .with-mark .ensures) _ (c .with-rule .ensures)
 
 returns : tie.Need-returns
 returns c =
@@ -49,16 +61,10 @@ returns-2 : tie.Need-returns-2
 returns-2 c =
     let told = c .before in
     let put = told .before in
-    let mark = put .before in
-    let read = mark .before in
-    let asked = read .before .before .before in
-    let ask = asked .before .before in
-    let s = ask .before in
-    muted-ends (s .args .table) (s .args .slot) _
-    (slot-passed _ _ _ (ask .ask-slot .ensures) _ (asked .asked2 .given .1)) (s .args .muted) _ _
-    (read .rule-in .ensures)
-    (mark .with-mark .ensures) _ (put .with-rule .ensures) (told .labels-of .result) (told .labels-of .ensures)
-    (table-sized _ _ (s .good .0)) (rule-sized (read .rule-in .result) _ (read .rule-in .ok))
+    let s = start put in
+    muted-ends (s .args .table) (s .args .slot) _ (passed put) (s .args .muted) _ _ (read-of put .rule-in .ensures)
+    (mark-of put .with-mark .ensures) _ (put .with-rule .ensures) (told .labels-of .result) (told .labels-of .ensures)
+    (table-sized _ _ (s .good .0)) (rule-sized (read-of put .rule-in .result) _ (read-of put .rule-in .ok))
     (labels-sized (told .labels-of .result) _ (told .labels-of .ok))
 
 pub mute-spec : {M : Type 1} → statement M
