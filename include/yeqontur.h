@@ -11,7 +11,8 @@
  * Nothing is allocated or kept, so any number of threads may call at once; a thread with 128 KB of stack can make any
  * call.
  *
- * Link target/staticlib/libyeqontur.a (made by `rt staticlib yeqontur`; x86-64).
+ * The library is for x86-64. Build with `pkg-config --cflags --libs yeqontur` where it is installed (./install PREFIX);
+ * in the repository with -Iinclude and target/staticlib/libyeqontur.a, which `rt staticlib yeqontur` makes.
  */
 #ifndef YEQONTUR_H
 #define YEQONTUR_H
@@ -21,6 +22,23 @@
 
 #ifdef __cplusplus
 extern "C" {
+#endif
+
+/* The version of this header: two digits each for major, minor and patch. yeqontur_version() is that of the library that
+ * the program runs with. */
+#define YEQONTUR_VERSION 200
+#define YEQONTUR_VERSION_TEXT "0.2.0"
+
+/* The layout of a table and of the answers, as this header declares them: the number changes when the size or the place
+ * of any field does. A program that meets the library as a shared one, or the bytes of a table that another program
+ * kept, asks whether yeqontur_layout() is this number. */
+#define YEQONTUR_LAYOUT 1
+
+/* The compiler warns where the answer of a call is dropped that changes a table, or hands one or a file over. */
+#if defined(__GNUC__)
+#define YEQONTUR_KEEP __attribute__((warn_unused_result))
+#else
+#define YEQONTUR_KEEP
 #endif
 
 #define YEQONTUR_SLOTS 256
@@ -33,10 +51,12 @@ extern "C" {
 /* The most bytes that a saved table has: 256 rules, 22 to a block, are 12 blocks of 512 bytes. */
 #define YEQONTUR_FILE_BYTES 6144
 
-/* A slot: free (state 0) or with one rule (state 1): the head is in if every positive entry is in and no negative one
- * is. A muted rule (state 2) is held and gives nothing. A table with any other state is not sound. The entries are the
- * positive list, then the negative list, each ascending, in whatever order the call named it. To be read; rules are
- * changed by the calls. */
+/* What `state` of a slot can be. A table with any other is not sound. */
+enum { YEQONTUR_RULE_FREE = 0, YEQONTUR_RULE_HELD = 1, YEQONTUR_RULE_MUTED = 2 };
+
+/* A slot: free, or with one rule: the head is in if every positive entry is in and no negative one is. A muted rule is
+ * held and gives nothing. The entries are the positive list, then the negative list, each ascending, in whatever order
+ * the call named it. To be read; rules are changed by the calls. */
 typedef struct {
     uint16_t state;
     uint16_t head;
@@ -45,7 +65,10 @@ typedef struct {
     uint16_t entries[YEQONTUR_ENTRIES];
 } yeqontur_rule;
 
-/* What is kept of an atom: absent (state 0), out (1), or in (2) with depth and supporting slot. */
+/* What `state` of a label can be: the atom stands in no rule, or is out, or in. */
+enum { YEQONTUR_LABEL_ABSENT = 0, YEQONTUR_LABEL_OUT = 1, YEQONTUR_LABEL_IN = 2 };
+
+/* What is kept of an atom; of one that is in, its depth and the supporting slot. */
 typedef struct {
     uint16_t state;
     uint16_t depth;
@@ -62,32 +85,117 @@ typedef struct {
     yeqontur_kept_label labels[YEQONTUR_ATOMS];
 } yeqontur_table;
 
-/* In every answer `refused` is 0, or the number of the refusal:
- *    1  the head is not below 256
- *    2  the two lists together have more than 8 entries
- *    3  an entry is not below 256
- *    4  an atom stands twice in one list
- *    5  the table has the same rule already, muted or not (where one is replaced, in another slot): heads are equal,
- *       and each list holds the same atoms, in any order; a muted one gives nothing until it is unmuted
- *    6  no slot is free
- *    7  the rule would close a loop through a negation, muted rules included
- *    8  the slot number is not below 256
- *    9  the slot holds no rule
- *   10  the atom number is not below 256
- *   11  the buffer is too short (`count` says how many entries, or bytes of a file, are needed)
- *   12  the atom is not in
- *   15  the table handed in is not sound, or not a checklist where the call asks for one: its rules are then not those
- *       that the marks of 1 to 60 files give, or one of them is muted
- *   16  the file's length is not 512 bytes times 1 to 12
- *   17  a block's checksum is wrong: one of its two, which are the A and B of the format; one changed byte, anywhere in
- *       a saved file, is always told so
- *   18  a block's index, block count or record count is wrong
- *   19  unused bytes are not 0, slots do not ascend below 256, or the records are not the rules of a table: one fails 1
- *       to 5 or 7, or has a list that does not ascend
- *   20  the file number is not on the list: it is 0, or more than the checklist has files
- *   21  the number of files is not 1 to 60
- *   22  the file is marked so already, or has no skip to withdraw
- */
+/* The refusals: number, name, what is the matter, and what to do about it. In every answer `refused` is 0, which is
+ * YEQONTUR_ACCEPTED, or one of these numbers, of which the first is YEQONTUR_REFUSED_HEAD_TOO_LARGE. 13 and 14 are what
+ * the sheet program says of a line; no call answers them. The list is a macro, so that the names and the words below,
+ * and a table of your own, all come from it:
+ *
+ * Of 5: muted or not, and where a rule is replaced, in another slot; rules are the same if heads are equal and each list
+ * holds the same atoms, in any order. Of 7: muted rules included. Of 11: `count` says how many entries, or bytes of a
+ * file, are needed. Of 15: a checklist's rules are those that the marks of 1 to 60 files give, none of them muted. Of
+ * 17: one of the block's two, which are the A and B of the format; one changed byte, anywhere in a saved file, is always
+ * told so. Of 19: a record fails 1 to 5 or 7, or has a list that does not ascend. Of 20: it is 0, or more than the
+ * checklist has files. */
+#define YEQONTUR_REFUSALS(EACH) \
+    EACH(1, HEAD_TOO_LARGE, \
+         "the head is not below 256", \
+         "number your atoms from 0 to 255") \
+    EACH(2, TOO_MANY_ENTRIES, \
+         "the two lists together have more than 8 entries", \
+         "give a helper atom a rule with some of them, and name the helper instead") \
+    EACH(3, ENTRY_TOO_LARGE, \
+         "an entry is not below 256", \
+         "number your atoms from 0 to 255") \
+    EACH(4, REPEATED_ENTRY, \
+         "an atom stands twice in one list", \
+         "name each atom once in a list") \
+    EACH(5, SAME_RULE, \
+         "the table has the same rule already", \
+         "nothing to add, but if it is muted, unmute it; if it was to replace another rule, remove that one") \
+    EACH(6, TABLE_FULL, \
+         "no slot is free", \
+         "remove a rule that is no longer needed, or open a second table") \
+    EACH(7, NEGATIVE_CYCLE, \
+         "the rule would close a loop through a negation", \
+         "leave this rule out, or first remove another rule of the loop; to mute it is not enough") \
+    EACH(8, SLOT_TOO_LARGE, \
+         "the slot number is not below 256", \
+         "pass a slot that an addition answered") \
+    EACH(9, SLOT_FREE, \
+         "the slot holds no rule", \
+         "look at the rules held now: this one was removed, or never added") \
+    EACH(10, ATOM_TOO_LARGE, \
+         "the atom number is not below 256", \
+         "number your atoms from 0 to 255") \
+    EACH(11, BUFFER_TOO_SHORT, \
+         "the buffer is too short", \
+         "lend a buffer of the count that is answered; 256 entries, or 6144 bytes of a file, always do") \
+    EACH(12, ATOM_NOT_IN, \
+         "the atom is not in", \
+         "ask for its label first: only an in atom has a reason") \
+    EACH(13, NOT_A_COMMAND, \
+         "the line is not a command of a sheet", \
+         "write A, P, R, W or L as the guide shows; a line ends with a newline alone, not with CR LF") \
+    EACH(14, LINE_TOO_LONG, \
+         "the line has more than 120 bytes", \
+         "write single blanks between the parts: every rule that a table can take then fits") \
+    EACH(15, TABLE_UNSOUND, \
+         "the table handed in is not sound, or not a checklist where the call asks for one", \
+         "begin again, or load a copy; of a checklist: unmute its muted rule, or undo the change") \
+    EACH(16, WRONG_LENGTH, \
+         "the file's length is not 512 bytes times 1 to 12", \
+         "it was cut short, or is no saved table: keep it aside, and load a copy or add the rules again") \
+    EACH(17, WRONG_CHECKSUM, \
+         "a block's checksum is wrong", \
+         "it was damaged, or is no saved table: keep it aside, and load a copy or add the rules again") \
+    EACH(18, WRONG_BLOCK, \
+         "a block's index, block count or record count is wrong", \
+         "likely blocks are missing or of other files: keep it aside, and load a copy or add the rules again") \
+    EACH(19, WRONG_RECORD, \
+         "unused bytes are not 0, slots do not ascend below 256, or the records are not the rules of a table", \
+         "likely another version or program wrote it: keep it aside, and load it with the one that did") \
+    EACH(20, FILE_NOT_LISTED, \
+         "the file number is not on the list", \
+         "number the files from 1, in the order in which the checklist was opened for them") \
+    EACH(21, WRONG_FILE_COUNT, \
+         "the number of files is not 1 to 60", \
+         "give each folder, or each 60 files, a checklist of its own; for no file open none") \
+    EACH(22, MARK_UNCHANGED, \
+         "the file is marked so already, or has no skip to withdraw", \
+         "nothing to do: the checklist says it already")
+
+enum {
+    YEQONTUR_ACCEPTED = 0,
+#define YEQONTUR_NAME(number, name, words, advice) YEQONTUR_REFUSED_##name = number,
+    YEQONTUR_REFUSALS(YEQONTUR_NAME)
+#undef YEQONTUR_NAME
+};
+
+/* What is the matter, in words. */
+static inline const char *yeqontur_words(uint32_t refused) {
+    switch (refused) {
+    case YEQONTUR_ACCEPTED:
+        return "accepted";
+#define YEQONTUR_CASE(number, name, words, advice) case number: return words;
+        YEQONTUR_REFUSALS(YEQONTUR_CASE)
+#undef YEQONTUR_CASE
+    default:
+        return "a number that this header does not know";
+    }
+}
+
+/* What to do about it. */
+static inline const char *yeqontur_advice(uint32_t refused) {
+    switch (refused) {
+    case YEQONTUR_ACCEPTED:
+        return "nothing to do";
+#define YEQONTUR_CASE(number, name, words, advice) case number: return advice;
+        YEQONTUR_REFUSALS(YEQONTUR_CASE)
+#undef YEQONTUR_CASE
+    default:
+        return "build the program with the header of the library that it runs with";
+    }
+}
 
 typedef struct {
     uint32_t refused;
@@ -97,17 +205,25 @@ typedef struct {
 
 typedef struct {
     uint32_t refused;
-    uint32_t state; /* 0 absent, 1 out, 2 in */
+    uint32_t state; /* YEQONTUR_LABEL_ABSENT, _OUT or _IN */
     uint32_t depth;
     uint32_t slot;
 } yeqontur_label_answer;
 
+/* What is said of a rule: it is valid; it needs an atom, which is out; it is blocked by one, which is in; it is muted. */
+enum {
+    YEQONTUR_SPOILER_NONE = 0,
+    YEQONTUR_SPOILER_NEEDS = 1,
+    YEQONTUR_SPOILER_BLOCKED_BY = 2,
+    YEQONTUR_SPOILER_MUTED = 3
+};
+
 typedef struct {
     uint32_t refused;
-    uint32_t spoiled; /* 0 valid; 1: the rule needs `atom`, which is out; 2: it is blocked by `atom`, which is in;
-                         3: it is muted */
-    uint32_t atom;
-    uint32_t place; /* of that entry in the positive (1) or the negative list (2), as the slot keeps it, from 0 */
+    uint32_t spoiled; /* one of these */
+    uint32_t atom;    /* which it needs, or is blocked by */
+    uint32_t place;   /* of that entry in the positive list (needs) or the negative one (blocked by), as the slot keeps
+                         it, from 0 */
 } yeqontur_spoiler_answer;
 
 /* To be read by its fields: 4 bytes between these two are padding. */
@@ -130,6 +246,10 @@ typedef struct {
     uint32_t complete; /* 1 or 0; 0 where refused */
 } yeqontur_complete_answer;
 
+/* YEQONTUR_VERSION and YEQONTUR_LAYOUT of the library that the program runs with. */
+uint32_t yeqontur_version(void);
+uint32_t yeqontur_layout(void);
+
 /* The table in which every slot is free. */
 yeqontur_table yeqontur_empty(void);
 
@@ -138,10 +258,12 @@ yeqontur_table yeqontur_empty(void);
 /* Adds a rule, not muted, to the lowest free slot and answers that slot; with both lists empty it is a fact. The lists
  * may come in any order; the slot keeps each ascending. Here and below every other slot keeps its rule, and with it
  * whether that is muted, and all labels are right for the rules now held. Asks 15, 1, 2, 3, 4, 5, 6, 7. */
+YEQONTUR_KEEP
 yeqontur_change yeqontur_add(yeqontur_table table, uint32_t head, const uint32_t *positives, size_t positive_count,
                              const uint32_t *negatives, size_t negative_count);
 
 /* Frees a slot, whether its rule is muted or not. Asks 15, 8, 9. */
+YEQONTUR_KEEP
 yeqontur_change yeqontur_remove(yeqontur_table table, uint32_t slot);
 
 /* Replaces the rule in a slot by another, in one step: where the new one is refused, the old one still stands. The new
@@ -150,6 +272,7 @@ yeqontur_change yeqontur_remove(yeqontur_table table, uint32_t slot);
  * with the other rules alone; and 6 cannot come, also of a full table. The lists are those of yeqontur_add. The new
  * rule is not muted, whether the old one was or not: a muted rule that is replaced by itself is unmuted. Asks 15, 8, 9,
  * 1, 2, 3, 4, 5, 7. */
+YEQONTUR_KEEP
 yeqontur_accepted yeqontur_replace(yeqontur_table table, uint32_t slot, uint32_t head, const uint32_t *positives,
                                    size_t positive_count, const uint32_t *negatives, size_t negative_count);
 
@@ -160,6 +283,7 @@ yeqontur_accepted yeqontur_replace(yeqontur_table table, uint32_t slot, uint32_t
  * close a loop with it (7); so unmuting closes none and never meets 7. What is set already may be set again, which
  * changes nothing; a rule that was not muted, muted and unmuted again, leaves the table byte for byte as it was. Asks
  * 15, 8, 9. */
+YEQONTUR_KEEP
 yeqontur_accepted yeqontur_mute(yeqontur_table table, uint32_t slot, uint32_t muted);
 
 /* The label of an atom: absent, out, or in with its least depth and supporting slot, which is never that of a muted
@@ -187,11 +311,13 @@ yeqontur_list_answer yeqontur_reason(yeqontur_table table, uint32_t atom, uint32
  * bytes for each 22 rules begun, at least one. Labels are not in it. Equal tables have equal files. A version that
  * knows no muting refuses a file with a muted rule (19). The bytes go to the start of the buffer and `count` is how
  * many; later ones stay. Refused, no byte is written. YEQONTUR_FILE_BYTES are never too short. Asks 15, 11. */
+YEQONTUR_KEEP
 yeqontur_list_answer yeqontur_save(yeqontur_table table, uint8_t *bytes, size_t length);
 
 /* The table of a file, of any bytes and any length: each rule stands in its slot again, muted if it was, and all labels
  * are found anew. What save wrote gives the saved table, byte for byte; and a file that is accepted is the one that
  * save writes of its table. Asks 16, 17, 18, 19, each of the whole file before the next. */
+YEQONTUR_KEEP
 yeqontur_loaded yeqontur_load(const uint8_t *bytes, size_t length);
 
 /* A checklist is a table of 1 to 60 files, numbered from 1. Atom 0 is a fact, in slot 0. Each file has three atoms, and
@@ -216,12 +342,16 @@ yeqontur_loaded yeqontur_load(const uint8_t *bytes, size_t length);
 #define YEQONTUR_GOOD(i) (3 * (uint32_t)(i))
 
 /* A checklist of so many files, none of them sent or skipped. Asks 21. */
+YEQONTUR_KEEP
 yeqontur_accepted yeqontur_checklist_open(uint32_t files);
 
 /* The file was sent; it was skipped; its skip is withdrawn. A skipped file may be sent and a sent one skipped: both
  * marks then stand. Each asks 15, 20, 22. */
+YEQONTUR_KEEP
 yeqontur_accepted yeqontur_checklist_sent(yeqontur_table table, uint32_t file);
+YEQONTUR_KEEP
 yeqontur_accepted yeqontur_checklist_skipped(yeqontur_table table, uint32_t file);
+YEQONTUR_KEEP
 yeqontur_accepted yeqontur_checklist_withdraw(yeqontur_table table, uint32_t file);
 
 /* The files that are unsent or have a skip standing, ascending; where it is not refused, none exactly if the checklist
@@ -230,6 +360,84 @@ yeqontur_list_answer yeqontur_checklist_missing(yeqontur_table table, uint32_t *
 
 /* Whether every file was sent and no skip stands. Asks 15. */
 yeqontur_complete_answer yeqontur_checklist_complete(yeqontur_table table);
+
+/* The calls that change a table, on one in place: each answers `refused`, and changes `*table` only where it is accepted,
+ * loading and opening too. `slot` takes the slot that the rule went to; it may be NULL. */
+
+static inline uint32_t yeqontur_kept(yeqontur_table *table, const yeqontur_accepted *answer) {
+    if (answer->refused == YEQONTUR_ACCEPTED) {
+        *table = answer->table;
+    }
+    return answer->refused;
+}
+
+YEQONTUR_KEEP
+static inline uint32_t yeqontur_add_to(yeqontur_table *table, uint32_t head, const uint32_t *positives,
+                                       size_t positive_count, const uint32_t *negatives, size_t negative_count,
+                                       uint32_t *slot) {
+    const yeqontur_change answer = yeqontur_add(*table, head, positives, positive_count, negatives, negative_count);
+    if (answer.refused == YEQONTUR_ACCEPTED) {
+        *table = answer.table;
+        if (slot != NULL) {
+            *slot = answer.slot;
+        }
+    }
+    return answer.refused;
+}
+
+YEQONTUR_KEEP
+static inline uint32_t yeqontur_remove_from(yeqontur_table *table, uint32_t slot) {
+    const yeqontur_change answer = yeqontur_remove(*table, slot);
+    if (answer.refused == YEQONTUR_ACCEPTED) {
+        *table = answer.table;
+    }
+    return answer.refused;
+}
+
+YEQONTUR_KEEP
+static inline uint32_t yeqontur_replace_in(yeqontur_table *table, uint32_t slot, uint32_t head,
+                                           const uint32_t *positives, size_t positive_count,
+                                           const uint32_t *negatives, size_t negative_count) {
+    const yeqontur_accepted answer =
+        yeqontur_replace(*table, slot, head, positives, positive_count, negatives, negative_count);
+    return yeqontur_kept(table, &answer);
+}
+
+YEQONTUR_KEEP
+static inline uint32_t yeqontur_mute_in(yeqontur_table *table, uint32_t slot, uint32_t muted) {
+    const yeqontur_accepted answer = yeqontur_mute(*table, slot, muted);
+    return yeqontur_kept(table, &answer);
+}
+
+YEQONTUR_KEEP
+static inline uint32_t yeqontur_load_into(yeqontur_table *table, const uint8_t *bytes, size_t length) {
+    const yeqontur_loaded answer = yeqontur_load(bytes, length);
+    return yeqontur_kept(table, &answer);
+}
+
+YEQONTUR_KEEP
+static inline uint32_t yeqontur_checklist_open_into(yeqontur_table *table, uint32_t files) {
+    const yeqontur_accepted answer = yeqontur_checklist_open(files);
+    return yeqontur_kept(table, &answer);
+}
+
+YEQONTUR_KEEP
+static inline uint32_t yeqontur_checklist_sent_in(yeqontur_table *table, uint32_t file) {
+    const yeqontur_accepted answer = yeqontur_checklist_sent(*table, file);
+    return yeqontur_kept(table, &answer);
+}
+
+YEQONTUR_KEEP
+static inline uint32_t yeqontur_checklist_skipped_in(yeqontur_table *table, uint32_t file) {
+    const yeqontur_accepted answer = yeqontur_checklist_skipped(*table, file);
+    return yeqontur_kept(table, &answer);
+}
+
+YEQONTUR_KEEP
+static inline uint32_t yeqontur_checklist_withdraw_in(yeqontur_table *table, uint32_t file) {
+    const yeqontur_accepted answer = yeqontur_checklist_withdraw(*table, file);
+    return yeqontur_kept(table, &answer);
+}
 
 #ifdef __cplusplus
 }

@@ -30,7 +30,7 @@ pub use checklist::{Atoms, Checklist, FileState};
 pub use disk::LoadError;
 pub use label::Label;
 pub use raw::List;
-pub use refusal::Refusal;
+pub use refusal::{advice, words, Refusal};
 pub use rule::{Rule, Side, Validity};
 pub use table::Table;
 pub use why::{Because, Stop, Stopped, Why};

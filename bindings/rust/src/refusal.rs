@@ -82,135 +82,70 @@ impl Refusal {
         }
     }
 
+    /// Its number, the same for every caller.
     pub fn number(self) -> u32 {
-        self.told().0
+        match self {
+            Refusal::HeadTooLarge => 1,
+            Refusal::TooManyEntries => 2,
+            Refusal::EntryTooLarge => 3,
+            Refusal::RepeatedEntry => 4,
+            Refusal::SameRule => 5,
+            Refusal::TableFull => 6,
+            Refusal::NegativeCycle => 7,
+            Refusal::SlotTooLarge => 8,
+            Refusal::SlotFree => 9,
+            Refusal::AtomTooLarge => 10,
+            Refusal::BufferTooShort { .. } => 11,
+            Refusal::AtomNotIn => 12,
+            Refusal::TableUnsound => 15,
+            Refusal::WrongLength => 16,
+            Refusal::WrongChecksum => 17,
+            Refusal::WrongBlock => 18,
+            Refusal::WrongRecord => 19,
+            Refusal::FileNotListed => 20,
+            Refusal::WrongFileCount => 21,
+            Refusal::MarkUnchanged => 22,
+        }
     }
 
     /// What is the matter, in the words of the header.
     pub fn words(self) -> &'static str {
-        self.told().1
+        told(self.number()).map_or("", |(_, words, _)| words)
     }
 
     /// What a person can do about it.
     pub fn advice(self) -> &'static str {
-        self.told().2
+        told(self.number()).map_or("", |(_, _, advice)| advice)
     }
+}
 
-    /// Number, words and advice.
-    fn told(self) -> (u32, &'static str, &'static str) {
-        match self {
-            Refusal::HeadTooLarge => (
-                1,
-                "the head is not below 256",
-                "number your atoms from 0 to 255",
-            ),
-            Refusal::TooManyEntries => (
-                2,
-                "the two lists together have more than 8 entries",
-                "give a helper atom a rule with some of them, and name the helper instead",
-            ),
-            Refusal::EntryTooLarge => (
-                3,
-                "an entry is not below 256",
-                "number your atoms from 0 to 255",
-            ),
-            Refusal::RepeatedEntry => (
-                4,
-                "an atom stands twice in one list",
-                "name each atom once in a list",
-            ),
-            Refusal::SameRule => (
-                5,
-                "the table has the same rule already",
-                "nothing to add, but if it is muted, unmute it; if it was to replace another rule, remove that one",
-            ),
-            Refusal::TableFull => (
-                6,
-                "no slot is free",
-                "remove a rule that is no longer needed, or open a second table",
-            ),
-            Refusal::NegativeCycle => (
-                7,
-                "the rule would close a loop through a negation",
-                "leave this rule out, or first remove another rule of the loop; to mute it is not enough",
-            ),
-            Refusal::SlotTooLarge => (
-                8,
-                "the slot number is not below 256",
-                "pass a slot that an addition answered",
-            ),
-            Refusal::SlotFree => (
-                9,
-                "the slot holds no rule",
-                "look at the rules held now: this one was removed, or never added",
-            ),
-            Refusal::AtomTooLarge => (
-                10,
-                "the atom number is not below 256",
-                "number your atoms from 0 to 255",
-            ),
-            Refusal::BufferTooShort { .. } => (
-                11,
-                "the buffer is too short",
-                "lend a buffer of the count that is answered; 256 entries, or 6144 bytes of a file, always do",
-            ),
-            Refusal::AtomNotIn => (
-                12,
-                "the atom is not in",
-                "ask for its label first: only an in atom has a reason",
-            ),
-            Refusal::TableUnsound => (
-                15,
-                "the table handed in is not sound, or not a checklist where the call asks for one",
-                "begin again, or load a copy; of a checklist: unmute its muted rule, or undo the change",
-            ),
-            Refusal::WrongLength => (
-                16,
-                "the file's length is not 512 bytes times 1 to 12",
-                "it was cut short, or is no saved table: keep it aside, and load a copy or add the rules again",
-            ),
-            Refusal::WrongChecksum => (
-                17,
-                "a block's checksum is wrong",
-                "it was damaged, or is no saved table: keep it aside, and load a copy or add the rules again",
-            ),
-            Refusal::WrongBlock => (
-                18,
-                "a block's index, block count or record count is wrong",
-                "likely blocks are missing or of other files: keep it aside, and load a copy or add the rules again",
-            ),
-            Refusal::WrongRecord => (
-                19,
-                "unused bytes are not 0, slots do not ascend below 256, or the records are not the rules of a table",
-                "likely another version or program wrote it: keep it aside, and load it with the one that did",
-            ),
-            Refusal::FileNotListed => (
-                20,
-                "the file number is not on the list",
-                "number the files from 1, in the order in which the checklist was opened for them",
-            ),
-            Refusal::WrongFileCount => (
-                21,
-                "the number of files is not 1 to 60",
-                "give each folder, or each 60 files, a checklist of its own; for no file open none",
-            ),
-            Refusal::MarkUnchanged => (
-                22,
-                "the file is marked so already, or has no skip to withdraw",
-                "nothing to do: the checklist says it already",
-            ),
-        }
-    }
+/// The refusals as the header lists them: number, words and advice.
+const LIST: &[(u32, &str, &str)] = include!(concat!(env!("OUT_DIR"), "/refusals.rs"));
+
+/// What the header's list has of a number.
+fn told(number: u32) -> Option<(u32, &'static str, &'static str)> {
+    let mut list = LIST.iter();
+    list.find(|(listed, ..)| *listed == number).copied()
+}
+
+/// What is the matter where a call, or a line of a sheet (13 and 14), is refused with this number; none if no refusal
+/// has it.
+pub fn words(number: u32) -> Option<&'static str> {
+    told(number).map(|(_, words, _)| words)
+}
+
+/// What a person can do about the refusal of this number.
+pub fn advice(number: u32) -> Option<&'static str> {
+    told(number).map(|(_, _, advice)| advice)
 }
 
 impl fmt::Display for Refusal {
     fn fmt(&self, f: &mut fmt::Formatter<'_>) -> fmt::Result {
-        let (number, words, advice) = self.told();
-        write!(f, "refused {number}: {words}")?;
+        write!(f, "refused {}: {}", self.number(), self.words())?;
         if let Refusal::BufferTooShort { needed } = self {
             write!(f, " ({needed} needed)")?;
         }
-        write!(f, "; {advice}")
+        write!(f, "; {}", self.advice())
     }
 }
 

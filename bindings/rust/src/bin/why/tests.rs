@@ -15,11 +15,11 @@ fn the_pictures_of_the_repository_are_made_by_the_program() {
     for (marks, kept) in [
         (
             "5 sent 1 2 3 skipped 4 sent 5",
-            include_str!("../../../../examples/complete.svg"),
+            include_str!("../../../../../examples/complete.svg"),
         ),
         (
             "5 sent 1 2 3 4 5",
-            include_str!("../../../../examples/complete_in.svg"),
+            include_str!("../../../../../examples/complete_in.svg"),
         ),
     ] {
         let made = checklist_picture(&words(marks));
@@ -29,8 +29,8 @@ fn the_pictures_of_the_repository_are_made_by_the_program() {
 
 #[test]
 fn a_sheet_is_drawn_with_the_names_of_its_atoms() {
-    let skipped = include_str!("../../../../examples/skipped.sheet");
-    let names = include_str!("../../../../examples/deposit.names");
+    let skipped = include_str!("../../../../../examples/skipped.sheet");
+    let names = include_str!("../../../../../examples/deposit.names");
     let text = picture(skipped, "7", names, &[]).expect("a picture");
     for words in [
         "Why complete is out",
