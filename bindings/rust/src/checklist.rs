@@ -118,7 +118,7 @@ impl TryFrom<Table> for Checklist {
 }
 
 impl Checklist {
-    /// A checklist of so many files, none of them sent or skipped. Refused (21) for none or more than 60.
+    /// A checklist of so many files, none of them sent or skipped.
     ///
     /// ```
     /// # use yeqontur::{Checklist, Refusal};
@@ -127,13 +127,17 @@ impl Checklist {
     /// assert_eq!(Checklist::open(61), Err(Refusal::WrongFileCount));
     /// # Ok::<(), Refusal>(())
     /// ```
+    ///
+    /// # Errors
+    ///
+    /// [`Refusal::WrongFileCount`] (21).
     pub fn open(files: u32) -> Result<Checklist, Refusal> {
         let told = raw::checklist_open(files);
         answered(told.refused, 0, Checklist(Table(told.table)))
     }
 
-    /// The file was sent. A skip of it stays until it is withdrawn. A refused call (20, 22), here and below, leaves the
-    /// checklist as it was.
+    /// The file was sent. A skip of it stays until it is withdrawn. A refused call, here and below, leaves the checklist
+    /// as it was.
     ///
     /// ```
     /// # use yeqontur::{Checklist, Refusal};
@@ -144,6 +148,10 @@ impl Checklist {
     /// assert_eq!(checklist.sent(3), Err(Refusal::FileNotListed));
     /// # Ok::<(), Refusal>(())
     /// ```
+    ///
+    /// # Errors
+    ///
+    /// The first of these that applies: [`Refusal::FileNotListed`] (20), [`Refusal::MarkUnchanged`] (22).
     pub fn sent(&mut self, file: u32) -> Result<(), Refusal> {
         self.change(raw::checklist_sent, file)
     }
@@ -160,6 +168,10 @@ impl Checklist {
     /// assert_eq!(checklist.skipped(1), Err(Refusal::MarkUnchanged));
     /// # Ok::<(), Refusal>(())
     /// ```
+    ///
+    /// # Errors
+    ///
+    /// The first of these that applies: [`Refusal::FileNotListed`] (20), [`Refusal::MarkUnchanged`] (22).
     pub fn skipped(&mut self, file: u32) -> Result<(), Refusal> {
         self.change(raw::checklist_skipped, file)
     }
@@ -175,6 +187,10 @@ impl Checklist {
     /// assert_eq!(checklist.state(1)?, FileState::Unsent);
     /// # Ok::<(), Refusal>(())
     /// ```
+    ///
+    /// # Errors
+    ///
+    /// The first of these that applies: [`Refusal::FileNotListed`] (20), [`Refusal::MarkUnchanged`] (22).
     pub fn withdraw(&mut self, file: u32) -> Result<(), Refusal> {
         self.change(raw::checklist_withdraw, file)
     }
@@ -233,7 +249,7 @@ impl Checklist {
         rules.filter(|rule| rule.positives != 0).count() as u32
     }
 
-    /// What the marks of a file say. Refused (20) if it is not on the list.
+    /// What the marks of a file say.
     ///
     /// ```
     /// # use yeqontur::{Checklist, FileState, Refusal};
@@ -244,6 +260,10 @@ impl Checklist {
     /// assert_eq!(checklist.state(0), Err(Refusal::FileNotListed));
     /// # Ok::<(), Refusal>(())
     /// ```
+    ///
+    /// # Errors
+    ///
+    /// [`Refusal::FileNotListed`] (20).
     pub fn state(&self, file: u32) -> Result<FileState, Refusal> {
         let atoms = self.atoms(file)?;
         let sent = self.0.label(atoms.sent)?.is_in();
@@ -275,7 +295,7 @@ impl Checklist {
         why.expect("an atom of the table")
     }
 
-    /// The atoms of a file, to ask the table about. Refused (20) if it is not on the list.
+    /// The atoms of a file, to ask the table about.
     ///
     /// ```
     /// # use yeqontur::{Checklist, Refusal};
@@ -285,6 +305,10 @@ impl Checklist {
     /// assert_eq!(checklist.atoms(3), Err(Refusal::FileNotListed));
     /// # Ok::<(), Refusal>(())
     /// ```
+    ///
+    /// # Errors
+    ///
+    /// [`Refusal::FileNotListed`] (20).
     pub fn atoms(&self, file: u32) -> Result<Atoms, Refusal> {
         if !(1..=self.files()).contains(&file) {
             return Err(Refusal::FileNotListed);

@@ -115,9 +115,6 @@ impl Table {
     /// path has the old file or the new one, whole: that is tested. After a power failure it rests on the system's word
     /// that what it flushed is on the disk.
     ///
-    /// After an error the old file is as it was, and the new one is removed. One error comes later: if the folder
-    /// cannot be flushed after the rename, the new file is in place, but a power failure may bring the old one back.
-    ///
     /// A link is followed and stays a link; where it leads to nothing yet, the file is created there. A file that is
     /// marked read-only, or something that is no file, is not replaced. The new file gets the permissions of the old
     /// one; owner and group become those that the saving process gives a new file; another hard link to the old file
@@ -140,6 +137,12 @@ impl Table {
     /// # std::fs::remove_dir_all(&folder)?;
     /// # Ok::<(), Box<dyn std::error::Error>>(())
     /// ```
+    ///
+    /// # Errors
+    ///
+    /// What the system says. The old file is then as it was, and the new one is removed. One error comes later: if the
+    /// folder cannot be flushed after the rename, the new file is in place, but a power failure may bring the old one
+    /// back.
     pub fn save_to(&self, path: impl AsRef<Path>) -> io::Result<()> {
         replace(path.as_ref(), &self.save())
     }
@@ -161,6 +164,10 @@ impl Table {
     /// # std::fs::remove_dir_all(&folder)?;
     /// # Ok::<(), Box<dyn std::error::Error>>(())
     /// ```
+    ///
+    /// # Errors
+    ///
+    /// [`LoadError::Io`] with the system's error, or [`LoadError::Refused`] with 16 to 19.
     pub fn load_from(path: impl AsRef<Path>) -> Result<Table, LoadError> {
         let path = path.as_ref();
         if !fs::metadata(path)?.is_file() {

@@ -11,6 +11,8 @@
 //! was handed in is lent, and where a call changes it, the new one is in the answer. Most programs do better with
 //! [`crate::Table`] and [`crate::Checklist`], which keep the table themselves.
 //!
+//! "Asks" lists the refusals that a call can meet, in the order in which it asks; the first that applies is told.
+//!
 //! ```
 //! use yeqontur::{raw, words};
 //!

@@ -13,11 +13,12 @@ use std::fmt;
 ///
 /// let mut table = Table::new();
 /// table.add(1, &[2], &[])?;
-/// match table.add(1, &[2], &[]) {
-///     Ok(_) => panic!("the table has this rule already"),
-///     Err(Refusal::SameRule) => {} // nothing to add
+/// let slot = match table.add(1, &[2], &[]) {
+///     Ok(slot) => slot,
+///     Err(Refusal::SameRule) => table.justifications(1)?[0], // it is there already
 ///     Err(other) => return Err(other),
-/// }
+/// };
+/// assert_eq!(slot, 0);
 /// # Ok::<(), yeqontur::Refusal>(())
 /// ```
 #[non_exhaustive]

@@ -220,7 +220,7 @@ impl Table {
             .map(|(slot, rule)| Rule::read(slot, rule))
     }
 
-    /// The rule in a slot. Asks 8 and 9.
+    /// The rule in a slot.
     ///
     /// ```
     /// # use yeqontur::{Refusal, Table};
@@ -231,6 +231,10 @@ impl Table {
     /// assert_eq!(table.rule(256), Err(Refusal::SlotTooLarge));
     /// # Ok::<(), yeqontur::Refusal>(())
     /// ```
+    ///
+    /// # Errors
+    ///
+    /// The first of these that applies: [`Refusal::SlotTooLarge`] (8), [`Refusal::SlotFree`] (9).
     // Not inlined, nor is what tells of an out atom (why.rs): a reason goes down 256 levels, and each has a frame.
     #[inline(never)]
     pub fn rule(&self, slot: u32) -> Result<Rule, Refusal> {

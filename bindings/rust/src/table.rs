@@ -96,7 +96,6 @@ impl Table {
 
     /// Adds the rule that the head is in if every positive atom is in and no negative one is; with both lists empty, a
     /// fact. It is not muted. Answers its slot, the lowest that was free. A refused call leaves the table as it was.
-    /// Asks 1, 2, 3, 4, 5, 6, 7; here and below the first that applies is told.
     ///
     /// The lists may come in any order, and the table keeps each ascending: a rule with the same head and the same
     /// atoms in each list is the same rule, and refused (5), also where the one that is held is muted.
@@ -109,6 +108,12 @@ impl Table {
     /// assert_eq!(table.rule(0)?.positives, [1, 2, 3]);
     /// # Ok::<(), Refusal>(())
     /// ```
+    ///
+    /// # Errors
+    ///
+    /// The first of these that applies: [`Refusal::HeadTooLarge`] (1), [`Refusal::TooManyEntries`] (2),
+    /// [`Refusal::EntryTooLarge`] (3), [`Refusal::RepeatedEntry`] (4), [`Refusal::SameRule`] (5),
+    /// [`Refusal::TableFull`] (6), [`Refusal::NegativeCycle`] (7).
     pub fn add(&mut self, head: u32, positives: &[u32], negatives: &[u32]) -> Result<u32, Refusal> {
         let change = raw::add(&self.0, head, positives, negatives);
         self.0 = change.table;
@@ -116,7 +121,7 @@ impl Table {
     }
 
     /// Frees a slot; every other slot keeps its rule, and whether that is muted. A refused call leaves the table as it
-    /// was. Asks 8, 9.
+    /// was.
     ///
     /// ```
     /// # use yeqontur::{Label, Refusal, Table};
@@ -127,6 +132,10 @@ impl Table {
     /// assert_eq!(table.remove(slot), Err(Refusal::SlotFree));
     /// # Ok::<(), Refusal>(())
     /// ```
+    ///
+    /// # Errors
+    ///
+    /// The first of these that applies: [`Refusal::SlotTooLarge`] (8), [`Refusal::SlotFree`] (9).
     pub fn remove(&mut self, slot: u32) -> Result<(), Refusal> {
         let change = raw::remove(&self.0, slot);
         self.0 = change.table;
@@ -138,7 +147,7 @@ impl Table {
     ///
     /// The new rule is judged against the table without the old one, and takes its slot: a rule may be replaced by
     /// itself, one that another slot has is refused (5), and a full table has room for it. It is not muted, whether the
-    /// old one was or not: a muted rule that is replaced by itself is unmuted. Asks 8, 9, 1, 2, 3, 4, 5, 7.
+    /// old one was or not: a muted rule that is replaced by itself is unmuted.
     ///
     /// ```
     /// # use yeqontur::{Refusal, Table};
@@ -151,6 +160,12 @@ impl Table {
     /// assert_eq!(table.rule(1)?.negatives, [4]);
     /// # Ok::<(), Refusal>(())
     /// ```
+    ///
+    /// # Errors
+    ///
+    /// The first of these that applies: [`Refusal::SlotTooLarge`] (8), [`Refusal::SlotFree`] (9),
+    /// [`Refusal::HeadTooLarge`] (1), [`Refusal::TooManyEntries`] (2), [`Refusal::EntryTooLarge`] (3),
+    /// [`Refusal::RepeatedEntry`] (4), [`Refusal::SameRule`] (5), [`Refusal::NegativeCycle`] (7).
     pub fn replace(
         &mut self,
         slot: u32,
@@ -164,7 +179,7 @@ impl Table {
     }
 
     /// Mutes the rule in a slot: it stays there and gives nothing, until it is unmuted. What is muted already may be
-    /// muted again. A refused call leaves the table as it was. Asks 8, 9.
+    /// muted again. A refused call leaves the table as it was.
     ///
     /// Labels, depths and supporting slots, what spoils a rule, reasons and repercussions go by the rules that are not
     /// muted. A muted rule counts where it matters what is held: its atoms occur, so an atom whose rules are all muted
@@ -187,13 +202,17 @@ impl Table {
     /// assert_eq!(table, before);
     /// # Ok::<(), Refusal>(())
     /// ```
+    ///
+    /// # Errors
+    ///
+    /// The first of these that applies: [`Refusal::SlotTooLarge`] (8), [`Refusal::SlotFree`] (9).
     pub fn mute(&mut self, slot: u32) -> Result<(), Refusal> {
         self.set_muted(slot, 1)
     }
 
     /// Unmutes the rule in a slot: it counts for all labels again, as if it had never been muted. Since muted rules
     /// count for loops, this never meets 7. What is not muted may be unmuted. A refused call leaves the table as it
-    /// was. Asks 8, 9.
+    /// was.
     ///
     /// ```
     /// # use yeqontur::{Label, Refusal, Table};
@@ -206,11 +225,15 @@ impl Table {
     /// assert_eq!(table.unmute(1), Err(Refusal::SlotFree));
     /// # Ok::<(), Refusal>(())
     /// ```
+    ///
+    /// # Errors
+    ///
+    /// The first of these that applies: [`Refusal::SlotTooLarge`] (8), [`Refusal::SlotFree`] (9).
     pub fn unmute(&mut self, slot: u32) -> Result<(), Refusal> {
         self.set_muted(slot, 0)
     }
 
-    /// The label of an atom. Asks 10.
+    /// The label of an atom.
     ///
     /// ```
     /// # use yeqontur::{Label, Refusal, Table};
@@ -221,6 +244,10 @@ impl Table {
     /// assert_eq!(table.label(256), Err(Refusal::AtomTooLarge));
     /// # Ok::<(), Refusal>(())
     /// ```
+    ///
+    /// # Errors
+    ///
+    /// [`Refusal::AtomTooLarge`] (10).
     pub fn label(&self, atom: u32) -> Result<Label, Refusal> {
         let told = raw::label(&self.0, atom);
         let label = Label::from_numbers(told.state, told.depth, told.slot);
@@ -228,7 +255,7 @@ impl Table {
     }
 
     /// Whether the rule in the slot is valid, or the first entry that stops it, the positive list read first and each
-    /// list ascending; of a muted rule, that it is muted. Asks 8, 9.
+    /// list ascending; of a muted rule, that it is muted.
     ///
     /// ```
     /// # use yeqontur::{Refusal, Side, Table, Validity};
@@ -241,13 +268,17 @@ impl Table {
     /// assert_eq!(table.spoiler(2), Err(Refusal::SlotFree));
     /// # Ok::<(), Refusal>(())
     /// ```
+    ///
+    /// # Errors
+    ///
+    /// The first of these that applies: [`Refusal::SlotTooLarge`] (8), [`Refusal::SlotFree`] (9).
     pub fn spoiler(&self, slot: u32) -> Result<Validity, Refusal> {
         let told = raw::spoiler(&self.0, slot);
         let validity = Validity::from_numbers(told.spoiled, told.place, told.atom);
         answered(told.refused, 0, validity)
     }
 
-    /// The slots of the rules with this head, muted ones among them, ascending. Asks 10.
+    /// The slots of the rules with this head, muted ones among them, ascending.
     ///
     /// ```
     /// # use yeqontur::Table;
@@ -259,11 +290,15 @@ impl Table {
     /// assert_eq!(table.justifications(3)?, []);
     /// # Ok::<(), yeqontur::Refusal>(())
     /// ```
+    ///
+    /// # Errors
+    ///
+    /// [`Refusal::AtomTooLarge`] (10).
     pub fn justifications(&self, atom: u32) -> Result<Vec<u32>, Refusal> {
         self.list(List::Justifications, atom)
     }
 
-    /// The heads of the rules with this atom as an entry, muted ones among them, ascending. Asks 10.
+    /// The heads of the rules with this atom as an entry, muted ones among them, ascending.
     ///
     /// ```
     /// # use yeqontur::Table;
@@ -274,11 +309,15 @@ impl Table {
     /// assert_eq!(table.consequences(5)?, []);
     /// # Ok::<(), yeqontur::Refusal>(())
     /// ```
+    ///
+    /// # Errors
+    ///
+    /// [`Refusal::AtomTooLarge`] (10).
     pub fn consequences(&self, atom: u32) -> Result<Vec<u32>, Refusal> {
         self.list(List::Consequences, atom)
     }
 
-    /// All atoms whose label rests on this one, directly or through others, ascending. Asks 10.
+    /// All atoms whose label rests on this one, directly or through others, ascending.
     ///
     /// ```
     /// # use yeqontur::Table;
@@ -290,12 +329,16 @@ impl Table {
     /// assert_eq!(table.repercussions(3)?, []);
     /// # Ok::<(), yeqontur::Refusal>(())
     /// ```
+    ///
+    /// # Errors
+    ///
+    /// [`Refusal::AtomTooLarge`] (10).
     pub fn repercussions(&self, atom: u32) -> Result<Vec<u32>, Refusal> {
         self.list(List::Repercussions, atom)
     }
 
-    /// Why the atom is in: the slots of the rules that hold it up, by depth, so facts first and its own rule last. Asks
-    /// 10, 12. A tree of the same, also of an atom that is not in, is [`Table::why`].
+    /// Why the atom is in: the slots of the rules that hold it up, by depth, so facts first and its own rule last.
+    /// A tree of the same, also of an atom that is not in, is [`Table::why`].
     ///
     /// ```
     /// # use yeqontur::{Refusal, Table};
@@ -306,12 +349,16 @@ impl Table {
     /// assert_eq!(table.reason(3), Err(Refusal::AtomNotIn));
     /// # Ok::<(), Refusal>(())
     /// ```
+    ///
+    /// # Errors
+    ///
+    /// The first of these that applies: [`Refusal::AtomTooLarge`] (10), [`Refusal::AtomNotIn`] (12).
     pub fn reason(&self, atom: u32) -> Result<Vec<u32>, Refusal> {
         self.list(List::Reason, atom)
     }
 
     /// Writes a list from the start of a lent buffer and answers how many entries it has; later entries stay. Nothing
-    /// is allocated, and a buffer that is too short stays as it was. Asks what the call of that name asks, and last 11.
+    /// is allocated, and a buffer that is too short stays as it was.
     ///
     /// ```
     /// # use yeqontur::{List, Refusal, Table};
@@ -325,6 +372,11 @@ impl Table {
     /// assert_eq!(told, Err(Refusal::BufferTooShort { needed: 2 }));
     /// # Ok::<(), Refusal>(())
     /// ```
+    ///
+    /// # Errors
+    ///
+    /// The first of these that applies: [`Refusal::AtomTooLarge`] (10), of a reason [`Refusal::AtomNotIn`] (12),
+    /// [`Refusal::BufferTooShort`] (11).
     pub fn list_into(&self, which: List, atom: u32, buffer: &mut [u32]) -> Result<usize, Refusal> {
         let told = raw::list(which, &self.0, atom, buffer);
         answered(told.refused, told.count, told.count)
@@ -353,7 +405,7 @@ impl Table {
     }
 
     /// The table that was saved as these bytes: each rule stands in its slot again, muted if it was, and all labels are
-    /// found anew. Any bytes may come: those that `save` does not write of some table are refused. Asks 16, 17, 18, 19.
+    /// found anew. Any bytes may come: those that `save` does not write of some table are refused.
     ///
     /// ```
     /// # use yeqontur::{Refusal, Table};
@@ -365,6 +417,11 @@ impl Table {
     /// assert_eq!(Table::load(&file), Err(Refusal::WrongChecksum));
     /// # Ok::<(), Refusal>(())
     /// ```
+    ///
+    /// # Errors
+    ///
+    /// The first of these that applies: [`Refusal::WrongLength`] (16), [`Refusal::WrongChecksum`] (17),
+    /// [`Refusal::WrongBlock`] (18), [`Refusal::WrongRecord`] (19).
     pub fn load(bytes: &[u8]) -> Result<Table, Refusal> {
         let told = raw::load(bytes);
         answered(told.refused, 0, Table(told.table))

@@ -155,7 +155,7 @@ struct Teller<'a> {
 }
 
 impl Table {
-    /// Why an atom is in, out or absent, down to the facts and to the atoms that nothing derives. Asks 10.
+    /// Why an atom is in, out or absent, down to the facts and to the atoms that nothing derives.
     ///
     /// ```
     /// # use yeqontur::{Because, Refusal, Table, Why};
@@ -180,6 +180,10 @@ impl Table {
     /// assert_eq!(table.why(256), Err(Refusal::AtomTooLarge));
     /// # Ok::<(), yeqontur::Refusal>(())
     /// ```
+    ///
+    /// # Errors
+    ///
+    /// [`Refusal::AtomTooLarge`] (10).
     pub fn why(&self, atom: u32) -> Result<Why, Refusal> {
         let told = [Told::No; raw::ATOMS];
         Teller { table: self, told }.why(atom)
