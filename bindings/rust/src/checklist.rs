@@ -136,8 +136,8 @@ impl Checklist {
         answered(told.refused, 0, Checklist(Table(told.table)))
     }
 
-    /// The file was sent. A skip of it stays until it is withdrawn. A refused call, here and below, leaves the checklist
-    /// as it was.
+    /// The file was sent. A skip of it stays until it is withdrawn. A refused call, here and below, leaves the
+    /// checklist as it was.
     ///
     /// ```
     /// # use yeqontur::{Checklist, Refusal};
@@ -359,7 +359,7 @@ impl Checklist {
         &self.0
     }
 
-    /// The table alone: with rules of any kind it is no checklist any more.
+    /// The table alone, which may take other rules; with one of them it is no checklist any more.
     ///
     /// ```
     /// # use yeqontur::{Checklist, Refusal};

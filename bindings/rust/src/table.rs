@@ -337,8 +337,8 @@ impl Table {
         self.list(List::Repercussions, atom)
     }
 
-    /// Why the atom is in: the slots of the rules that hold it up, by depth, so facts first and its own rule last.
-    /// A tree of the same, also of an atom that is not in, is [`Table::why`].
+    /// Why the atom is in: the slots of the rules that hold it up, by depth, so facts first and its own rule last. A
+    /// tree of the same, also of an atom that is not in, is [`Table::why`].
     ///
     /// ```
     /// # use yeqontur::{Refusal, Table};

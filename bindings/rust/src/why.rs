@@ -158,12 +158,12 @@ impl Table {
     /// Why an atom is in, out or absent, down to the facts and to the atoms that nothing derives.
     ///
     /// ```
-    /// # use yeqontur::{Because, Refusal, Table, Why};
+    /// # use yeqontur::{Because, Refusal, Stop, Stopped, Table, Why};
     /// /// A line for each step from an out atom to what it lacks.
     /// fn lacks(why: &Why) -> Vec<String> {
     ///     let Because::Stopped(rules) = &why.because else { return vec![] };
-    ///     let line = |s: &yeqontur::Stopped| match &s.stop {
-    ///         yeqontur::Stop::Spoiled { side, by, .. } => {
+    ///     let line = |rule: &Stopped| match &rule.stop {
+    ///         Stop::Spoiled { side, by, .. } => {
     ///             [vec![format!("{} {side} {}", why.atom, by.atom)], lacks(by)].concat()
     ///         }
     ///         stop => vec![format!("{} {stop}", why.atom)],
