@@ -326,9 +326,11 @@ impl Checklist {
     /// ```
     /// # use yeqontur::Checklist;
     /// let checklist = Checklist::open(2)?;
-    /// let names: Vec<Option<String>> = [0, 1, 3, 6, 7].map(|atom| checklist.name(atom)).into();
-    /// let names: Vec<Option<&str>> = names.iter().map(|name| name.as_deref()).collect();
-    /// assert_eq!(names, [Some("opened"), Some("file 1 sent"), Some("file 1 good"), Some("complete"), None]);
+    /// assert_eq!(checklist.name(0).as_deref(), Some("opened"));
+    /// assert_eq!(checklist.name(1).as_deref(), Some("file 1 sent"));
+    /// assert_eq!(checklist.name(3).as_deref(), Some("file 1 good"));
+    /// assert_eq!(checklist.name(6).as_deref(), Some("complete"));
+    /// assert_eq!(checklist.name(7), None);
     /// # Ok::<(), yeqontur::Refusal>(())
     /// ```
     #[must_use]

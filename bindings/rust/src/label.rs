@@ -35,7 +35,7 @@ impl Label {
     /// Whether the atom is in.
     ///
     /// ```
-    /// # use yeqontur::{Label, Table};
+    /// # use yeqontur::Table;
     /// let mut table = Table::new();
     /// table.add(1, &[], &[2])?; // 1 if not 2
     /// assert!(table.label(1)?.is_in());

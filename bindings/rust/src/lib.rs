@@ -79,6 +79,7 @@
 
 #![deny(missing_docs)]
 #![deny(unsafe_code)] // but for `raw`
+#![doc(test(attr(deny(warnings))))] // an example is as clean as the crate
 
 mod checklist;
 mod disk;

@@ -509,7 +509,7 @@ pub fn spoiler(table: &Table, slot: u32) -> SpoilerAnswer {
 /// let mut table = Table::new();
 /// table.add(7, &[], &[])?; // 7
 /// table.add(8, &[7], &[])?; // 8 if 7
-/// let mut told = |which, atom| {
+/// let told = |which, atom| {
 ///     let mut buffer = [0; 256];
 ///     let count = table.list_into(which, atom, &mut buffer)?;
 ///     Ok::<_, yeqontur::Refusal>(buffer[..count].to_vec())

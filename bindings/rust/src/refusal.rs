@@ -113,10 +113,9 @@ impl Refusal {
             0 => None,
             11 => Some(Refusal::BufferTooShort { needed }),
             _ => {
-                let known = Refusal::ALL.iter().find(|r| r.number() == number);
-                let known =
-                    known.unwrap_or_else(|| panic!("refusal {number}: crate and library differ"));
-                Some(*known)
+                let mut all = Refusal::ALL.iter().copied();
+                let known = all.find(|r| r.number() == number);
+                Some(known.unwrap_or_else(|| panic!("refusal {number}: crate and library differ")))
             }
         }
     }

@@ -123,7 +123,7 @@ impl Validity {
 /// What follows the rule in a sentence.
 ///
 /// ```
-/// # use yeqontur::{Table, Validity};
+/// # use yeqontur::Table;
 /// let mut table = Table::new();
 /// table.add(1, &[2], &[3])?; // 1 if 2, and not 3
 /// assert_eq!(table.spoiler(0)?.to_string(), "needs 2");

@@ -202,35 +202,23 @@ fn each_call_that_can_be_refused_says_so() {
             .collect()
     };
     let all = items();
-    let calls = all.iter().filter(|item| item.head.contains("Result<"));
-    let calls = calls.filter(|item| item.kind == Kind::Function);
-    for item in calls {
-        let (place, name) = item.name.rsplit_once(' ').expect("a place");
-        let told = refusals(&item.docs);
-        let row = match name {
-            "save_to" | "load_from" => {
-                assert_eq!(told, [], "{place}"); // the system's errors
-                continue;
-            }
-            "list_into" => {
-                assert_eq!(told, [10, 12, 11]);
-                continue;
-            }
-            "state" | "atoms" => {
-                assert_eq!(told, [20]);
-                continue;
-            }
-            "mute" | "unmute" => "mute, unmute",
-            "why" => "label",
-            "rule" => "spoiler",
+    let calls = all.iter().filter(|item| item.kind == Kind::Function);
+    for item in calls.filter(|item| item.head.contains("Result<")) {
+        let expected = match item.name.rsplit(' ').next().expect("a name") {
+            "save_to" | "load_from" => vec![], // errors of the system, and what `load` meets
+            "list_into" => vec![10, 12, 11],
+            "state" | "atoms" => vec![20],
+            "mute" | "unmute" => met("mute, unmute"),
+            "why" => met("label"),
+            "rule" => met("spoiler"),
             "justifications" | "consequences" | "repercussions" => {
-                "justifications, consequences, repercussions"
+                met("justifications, consequences, repercussions")
             }
-            "open" => "open a checklist",
-            "sent" | "skipped" | "withdraw" => "file sent, file skipped, skip withdrawn",
-            same => same,
+            "open" => met("open a checklist"),
+            "sent" | "skipped" | "withdraw" => met("file sent, file skipped, skip withdrawn"),
+            call => met(call),
         };
-        assert_eq!(told, met(row), "{place} {name}");
+        assert_eq!(refusals(&item.docs), expected, "{}", item.name);
     }
 }
 
