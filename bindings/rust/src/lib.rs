@@ -70,7 +70,7 @@
 //!
 //! # Versions
 //!
-//! [`VERSION`] is that of this crate. Cases and fields may still come where a type is marked non-exhaustive: there a
+//! [`VERSION`] is that of this crate, [`version`] that of the library that is linked. Cases and fields may still come where a type is marked non-exhaustive: there a
 //! `match` has a further arm, and a pattern ends with `..`. The others are complete: an atom has one of three labels,
 //! a rule has two lists, and a file of a checklist one of three states. [`raw`] has the structs of
 //! `include/yeqontur.h`, field for field.
@@ -94,13 +94,13 @@ mod why;
 pub use checklist::{Atoms, Checklist, FileState};
 pub use disk::LoadError;
 pub use label::Label;
-pub use raw::List;
+pub use raw::{layout, version, List};
 pub use refusal::{advice, words, Refusal};
 pub use rule::{Rule, Side, Validity};
 pub use table::Table;
 pub use why::{Because, Stop, Stopped, Why};
 
-/// The version of this crate: major, minor and patch.
+/// The version of this crate: major, minor and patch. Crate and library have the same.
 ///
 /// ```
 /// let parts: Vec<&str> = yeqontur::VERSION.split('.').collect();

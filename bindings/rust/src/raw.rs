@@ -49,6 +49,15 @@ pub const SLOTS: usize = 256;
 /// ```
 pub const ATOMS: usize = 256;
 
+/// The layout of the structs below, by the header's number: it changes when the size or the place of a field does, or
+/// what a call takes.
+///
+/// ```
+/// // The library that is linked is the one that this crate was written for.
+/// assert_eq!(yeqontur::layout(), yeqontur::raw::LAYOUT);
+/// ```
+pub const LAYOUT: u32 = 1;
+
 /// The most entries of a rule, both lists together.
 ///
 /// ```
@@ -325,6 +334,8 @@ pub struct Completeness {
 }
 
 extern "C" {
+    fn yeqontur_version() -> u32;
+    fn yeqontur_layout() -> u32;
     fn yeqontur_empty() -> Table;
     fn yeqontur_add(
         table: Table,
@@ -374,6 +385,30 @@ extern "C" {
     fn yeqontur_checklist_withdraw(table: Table, file: u32) -> Accepted;
     fn yeqontur_checklist_missing(table: Table, buffer: *mut u32, length: usize) -> ListAnswer;
     fn yeqontur_checklist_complete(table: Table) -> Completeness;
+}
+
+/// The version of the library that is linked: two digits each for major, minor and patch.
+///
+/// ```
+/// let number = yeqontur::version();
+/// let text = format!("{}.{}.{}", number / 10_000, number / 100 % 100, number % 100);
+/// assert_eq!(text, yeqontur::VERSION);
+/// ```
+#[must_use]
+pub fn version() -> u32 {
+    // SAFETY: takes nothing.
+    unsafe { yeqontur_version() }
+}
+
+/// The layout of the tables and answers of the library that is linked ([`LAYOUT`]).
+///
+/// ```
+/// assert_eq!(yeqontur::layout(), 1);
+/// ```
+#[must_use]
+pub fn layout() -> u32 {
+    // SAFETY: takes nothing.
+    unsafe { yeqontur_layout() }
 }
 
 /// The table in which every slot is free.
