@@ -22,7 +22,8 @@ Draws why an atom has its label, as an SVG on standard output.
   --help     prints this
   --         what comes behind is no option, even if it begins with -
 
-Lines of the sheet that are refused are told on standard error, and the next line is read.
+Lines of the sheet that are refused are told on standard error, and the next line is read. The exit status is 0 if what
+was asked for was made and written, and 1 otherwise.
 ";
 
 /// Of what the tree is asked.
