@@ -147,8 +147,8 @@ impl Seen {
     }
 }
 
-/// Runs `count` sheets through both programs. One in which they differ is kept as a file. Answers how many differ; kinds
-/// of refusals and labels that came up too rarely count as one.
+/// Runs `count` sheets through both programs. One in which they differ is kept as a file. Answers how many differ;
+/// refusals and labels that came up too rarely count as one.
 pub fn compare(sheet: &str, why: &str, seed: u64, count: usize) -> usize {
     let mut random = Random::seeded(seed);
     let (mut failed, mut seen) = (0, Seen::default());

@@ -203,7 +203,19 @@ fn held(schema: &Schema, table: &Table, atom: u32) -> Json {
     document
 }
 
-/// Every word of the schema that says a kind comes up often.
+/// The words by which the schema tells kinds apart.
+const KINDS: [&str; 8] = [
+    "supported",
+    "stopped",
+    "above",
+    "earlier",
+    "absent",
+    "needs",
+    "blocked by",
+    "muted",
+];
+
+/// Each kind comes up often.
 #[test]
 fn trees_of_random_tables_are_as_the_schema_says_and_those_of_the_table() {
     let (schema, mut random) = (schema(), Random(1));
@@ -213,19 +225,8 @@ fn trees_of_random_tables_are_as_the_schema_says_and_those_of_the_table() {
         let atom = random.below(17);
         seen += &format!("{:?}", held(&schema, &table, atom));
     }
-    for kind in [
-        "supported",
-        "stopped",
-        "above",
-        "earlier",
-        "absent",
-        "needs",
-        "blocked by",
-        "muted",
-    ] {
-        let often = seen.matches(&format!("{kind:?}")).count();
-        assert!(often >= 20, "{kind}: {often}");
-    }
+    let often = KINDS.map(|kind| seen.matches(&format!("{kind:?}")).count());
+    assert!(often.iter().all(|&times| times >= 20), "{often:?}");
 }
 
 /// The longest chains that a table holds: up to a fact, and up to an atom that nothing gives.

@@ -14,7 +14,7 @@ fn refused(sheet: &[u8]) -> Vec<(usize, u32)> {
     refused.iter().map(pair).collect()
 }
 
-/// Lines and the numbers of their refusals, behind two rules, so that every question can be asked; 0 where there is none.
+/// Lines and the numbers of their refusals, 0 where there is none, behind two rules: every question can be asked.
 const LINES: [(&str, u32); 31] = [
     ("A 256 :", 1),
     ("A 1 : 1 2 3 4 5 6 7 8 9", 2),
@@ -217,6 +217,10 @@ fn options_are_read_wherever_they_stand() {
     ] {
         assert_eq!(asked(line), (marks(), json, output), "{line}");
     }
+}
+
+#[test]
+fn help_is_asked_for_whatever_stands_beside_it() {
     for line in ["--help", "-h", "sheet --help", "--json -o x --help"] {
         assert_eq!(read(line), Ok(Asked::Help), "{line}");
     }
@@ -235,6 +239,10 @@ fn words_that_ask_for_nothing_are_told() {
     ] {
         assert_eq!(read(line), Err(USAGE.to_string()), "{line}");
     }
+}
+
+#[test]
+fn options_that_are_wrong_are_told() {
     for (line, told) in [
         ("sheet 7 -o", "the path behind -o is missing"),
         ("-o a -o b sheet 7", "-o stands twice: name one path"),
