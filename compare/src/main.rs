@@ -4,6 +4,7 @@
 //!     compare checklists SEED COUNT           COUNT random calls, most of them on a checklist
 //!     compare files SEED COUNT                COUNT random files loaded, COUNT random tables saved by the library
 //!     compare sheets PROGRAM SEED COUNT       COUNT random sheets through the sheet program
+//!     compare why SHEET WHY SEED COUNT        COUNT random sheets through the sheet program and the one that draws
 //!     compare programs SEED COUNT SAVE LOAD   COUNT sheets through the saving, COUNT files through the loading program
 //!     compare stream PROGRAM                  `L` lines over a full table, and the memory that it takes
 //!     compare cut SEED COUNT PROGRAM..        sheets longer than a program reads, COUNT through each
@@ -22,12 +23,14 @@ mod program;
 mod programs;
 mod sheets;
 mod stream;
+mod why;
 
 use std::process::ExitCode;
 
 const USAGE: &str =
     "compare calls SEED COUNT | compare checklists SEED COUNT | compare files SEED COUNT
-    | compare sheets PROGRAM SEED COUNT | compare programs SEED COUNT SAVE LOAD | compare stream PROGRAM
+    | compare sheets PROGRAM SEED COUNT | compare why SHEET WHY SEED COUNT
+    | compare programs SEED COUNT SAVE LOAD | compare stream PROGRAM
     | compare cut SEED COUNT PROGRAM.. | compare broken PROGRAM.. | compare broken-files SAVE LOAD";
 
 /// Runs what the words name and answers how many comparisons failed; `None` if they name nothing.
@@ -39,6 +42,12 @@ fn obey(words: &[&str]) -> Option<usize> {
         }
         ["sheets", program, seed, count] => Some(sheets::compare(
             program,
+            seed.parse().ok()?,
+            count.parse().ok()?,
+        )),
+        ["why", sheet, why, seed, count] => Some(why::compare(
+            sheet,
+            why,
             seed.parse().ok()?,
             count.parse().ok()?,
         )),

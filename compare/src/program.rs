@@ -3,7 +3,7 @@
 use oracle::random::Random;
 use std::fs;
 use std::io::{ErrorKind, Read, Write};
-use std::process::{Child, ChildStdin, Command, Stdio};
+use std::process::{Child, ChildStdin, Command, Output, Stdio};
 use std::thread;
 
 /// Lengths of the pieces in which an input comes: all at once, or cut in the midst of lines and records.
@@ -67,4 +67,15 @@ pub fn run(program: &str, input: &[u8], lengths: &[usize]) -> (Vec<u8>, Vec<u8>)
     errors.read_to_end(&mut said).expect("its errors");
     child.wait().expect("its end");
     (printed, said)
+}
+
+/// What a command comes to on an input that is handed in all at once, with all that it prints and says.
+pub fn output(command: &mut Command, input: &[u8]) -> Output {
+    let command = command.stdin(Stdio::piped()).stdout(Stdio::piped());
+    let mut child = command.stderr(Stdio::piped()).spawn().expect("a program");
+    let to = child.stdin.take().expect("its input");
+    thread::scope(|scope| {
+        scope.spawn(|| write_pieces(to, input, &[usize::MAX]));
+        child.wait_with_output().expect("its end")
+    })
 }

@@ -144,7 +144,7 @@ impl Table {
     /// folder cannot be flushed after the rename, the new file is in place, but a power failure may bring the old one
     /// back.
     pub fn save_to(&self, path: impl AsRef<Path>) -> io::Result<()> {
-        replace(path.as_ref(), &self.save())
+        replace_file(path, &self.save())
     }
 
     /// The table that was saved in a file. Whatever the file's length, at most 6,145 bytes are read: one more than a
@@ -186,9 +186,19 @@ fn not_a_file() -> io::Error {
     io::Error::new(ErrorKind::InvalidInput, words)
 }
 
-/// Puts a file with these bytes where the path leads.
-fn replace(path: &Path, bytes: &[u8]) -> io::Result<()> {
-    let (path, permissions) = standing(path)?;
+/// Puts a file with these bytes where the path leads, in one step and as [`Table::save_to`] says: for what a program
+/// writes beside its tables, such as a picture, so that the path has the old file or the new one, whole.
+///
+/// ```
+/// let path = std::env::temp_dir().join(format!("picture-{}.svg", std::process::id()));
+/// yeqontur::replace_file(&path, b"<svg/>")?;
+/// yeqontur::replace_file(&path, b"<svg></svg>")?;
+/// assert_eq!(std::fs::read(&path)?, b"<svg></svg>");
+/// std::fs::remove_file(&path)?;
+/// # Ok::<(), std::io::Error>(())
+/// ```
+pub fn replace_file(path: impl AsRef<Path>, bytes: &[u8]) -> io::Result<()> {
+    let (path, permissions) = standing(path.as_ref())?;
     let folder = folder_of(&path)?;
     // Opened before anything is written: where this fails, the old file still stands. Only Unix opens folders.
     let opened = cfg!(unix).then(|| File::open(folder)).transpose()?;

@@ -92,7 +92,7 @@ mod table;
 mod why;
 
 pub use checklist::{Atoms, Checklist, FileState};
-pub use disk::LoadError;
+pub use disk::{replace_file, LoadError};
 pub use label::Label;
 pub use raw::{layout, version, List};
 pub use refusal::{advice, words, Refusal};

@@ -54,27 +54,35 @@ fn the_commands_of_the_guide_print_what_it_says() {
     }
 }
 
-/// The indented commands draw, each to the file behind `>`. The last two ask the same, with and without a muted rule.
-#[test]
-fn the_drawing_commands_of_the_guide_draw_what_it_says() {
+/// What each of the indented commands writes to the file behind `-o`.
+fn written() -> Vec<String> {
     let guide = file("docs/GUIDE.md");
     let paragraphs = guide.split("\n\n");
     let commands = paragraphs.filter(|text| text.starts_with("    cargo run "));
-    let picture = |command: &str| {
+    let written = |command: &str| {
         assert_eq!(printed(command), "", "{command}");
-        let (_, path) = command.rsplit_once("> ").expect("a path");
-        file(path)
+        let (_, rest) = command.split_once("-o ").expect("a path");
+        file(rest.split_whitespace().next().expect("a path"))
     };
-    let pictures: Vec<String> = commands.map(picture).collect();
-    assert_eq!(pictures.len(), 3);
-    assert!(pictures[0] == file("examples/complete.svg"));
+    commands.map(written).collect()
+}
+
+/// The second and the third ask the same, without and with a muted rule, and the last asks that for the tree.
+#[test]
+fn the_drawing_commands_of_the_guide_draw_what_it_says() {
+    let written = written();
+    assert_eq!(written.len(), 4);
+    assert!(written[0] == file("examples/complete.svg"));
     let (asks, muted) = (
         ">the rule in slot 1 asks for<",
         ">the rule in slot 1 is muted<",
     );
     let said = |text: &String| (text.contains(asks), text.contains(muted));
-    assert_eq!(said(&pictures[1]), (true, false));
-    assert_eq!(said(&pictures[2]), (false, true));
+    assert_eq!(said(&written[1]), (true, false));
+    assert_eq!(said(&written[2]), (false, true));
+    assert_eq!(written[3], file("examples/skipped.json"));
+    assert_eq!(written[3], blocks("json")[0]);
+    assert_eq!(blocks("sheet"), [file("examples/skipped.sheet")]);
 }
 
 /// The lines in which the two clients differ.

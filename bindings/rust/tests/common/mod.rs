@@ -1,6 +1,10 @@
 //! What the tests share.
 #![allow(dead_code)] // each test file uses a part
 
+pub mod json;
+pub mod program;
+pub mod schema;
+
 use std::path::{Path, PathBuf};
 use std::process::Command;
 use std::{env, fs};

@@ -1,22 +1,31 @@
-//! Draws why an atom has its label, as an SVG on standard output.
+//! Draws why an atom has its label, as an SVG, or prints the tree as JSON.
 //!
-//!     why checklist FILES [sent NUMBER..] [skipped NUMBER..] > PICTURE
-//!     why SHEET ATOM [NAMES] [muted SLOT..] > PICTURE
+//!     why [--json] [-o PATH] checklist FILES [sent NUMBER..] [skipped NUMBER..]
+//!     why [--json] [-o PATH] SHEET ATOM [NAMES] [muted SLOT..]
 //!
-//! Of a checklist it draws why it is complete or is not. Of a sheet additions, removals and replacements are made in
-//! order; its other lines only print, and are passed over. Then the rules in the slots behind `muted` are muted. NAMES
-//! has a line `atom name` for each atom that has a name.
+//! Of a checklist it draws why it is complete or is not. A sheet is read as the sheet program reads it: the lines that
+//! it refuses are told on standard error, and leave the table as it was. Then the rules in the slots behind `muted` are
+//! muted. NAMES has a line `atom name` for each atom that has a name. All goes to standard output, or over the file at
+//! PATH once it is made; where anything fails, that file stays as it was.
 
+mod arguments;
 mod cards;
+mod files;
+mod json;
 mod layout;
 mod marks;
+#[cfg(test)]
+mod read_tests;
 mod sheet;
 mod svg;
 #[cfg(test)]
 mod tests;
 
+use arguments::{Asked, Subject, HELP, USAGE};
 use cards::Drawing;
+use files::Failure;
 use sheet::Names;
+use std::path::Path;
 use std::process::ExitCode;
 use yeqontur::{Table, Why};
 
@@ -25,62 +34,94 @@ fn drawn(why: &Why, table: &Table, names: &Names) -> String {
     svg::written(&layout::Picture::of(drawing))
 }
 
-/// The picture of a sheet's atom where the rules in these slots are muted, or a sentence that says what is wrong.
-fn picture(sheet: &str, atom: &str, names: &str, muted: &[String]) -> Result<String, String> {
-    let names = sheet::names(names)?;
-    let table = sheet::muted(sheet::table(sheet)?, muted)?;
-    let atom = atom.parse().map_err(|_| format!("not an atom: {atom}"))?;
-    let why = table.why(atom).map_err(|refusal| refusal.to_string())?;
-    Ok(drawn(&why, &table, &names))
+/// A tree, with what is needed to show it.
+struct Shown {
+    why: Why,
+    table: Table,
+    names: Names,
 }
 
-/// The picture of a checklist, or such a sentence.
-fn checklist_picture(words: &[String]) -> Result<String, String> {
-    let checklist = marks::checklist(words)?;
-    let names = marks::names(&checklist);
-    Ok(drawn(&checklist.why(), checklist.table(), &names))
-}
-
-const USAGE: &str = "usage: why checklist FILES [sent NUMBER..] [skipped NUMBER..] > PICTURE
-       why SHEET ATOM [NAMES] [muted SLOT..] > PICTURE";
-
-fn read(path: &str) -> Result<String, String> {
-    std::fs::read_to_string(path).map_err(|error| format!("{path}: {error}"))
-}
-
-/// What stands behind the atom: NAMES, if they are there, and the slots behind `muted`.
-fn names_and_muted(words: &[String]) -> Result<(Option<&String>, &[String]), String> {
-    match words {
-        [] => Ok((None, &[])),
-        [word, slots @ ..] if word == "muted" => Ok((None, slots)),
-        [names] => Ok((Some(names), &[])),
-        [names, word, slots @ ..] if word == "muted" => Ok((Some(names), slots)),
-        _ => Err(USAGE.to_string()),
+impl Shown {
+    fn written(&self, json: bool) -> String {
+        let write = if json { json::written } else { drawn };
+        write(&self.why, &self.table, &self.names)
     }
 }
 
-/// The picture that the words ask for, which begin with a sheet and an atom.
-fn sheet_picture(sheet: &str, atom: &str, rest: &[String]) -> Result<String, String> {
-    let (names, muted) = names_and_muted(rest)?;
-    let names = names.map_or(Ok(String::new()), |path| read(path))?;
-    picture(&read(sheet)?, atom, &names, muted)
+/// The tree of an atom where the rules in these slots are muted, or a sentence that says what is wrong.
+fn of_table(table: Table, atom: &str, names: Names, muted: &[String]) -> Result<Shown, String> {
+    let table = sheet::muted(table, muted)?;
+    let number = sheet::number(atom.as_bytes());
+    let number =
+        number.ok_or_else(|| format!("not an atom: {atom}; an atom is a number below 256"))?;
+    let why = table.why(number);
+    let why = why.map_err(|refusal| format!("atom {atom} {refusal}"))?;
+    Ok(Shown { why, table, names })
 }
 
-fn main() -> ExitCode {
-    let words: Vec<String> = std::env::args().skip(1).collect();
-    let made = match &words[..] {
-        [first, marks @ ..] if first == "checklist" => checklist_picture(marks),
-        [sheet, atom, rest @ ..] => sheet_picture(sheet, atom, rest),
-        _ => Err(USAGE.to_string()),
+fn of_checklist(marks: &[String]) -> Result<Shown, String> {
+    let checklist = marks::checklist(marks)?;
+    Ok(Shown {
+        why: checklist.why(),
+        names: marks::names(&checklist),
+        table: checklist.into_table(),
+    })
+}
+
+/// The table that a sheet leaves. Its refused lines are told at once, whatever becomes of the picture.
+fn table_of(sheet: &Path) -> Result<Table, String> {
+    let (table, refused) = sheet::read(&files::sheet(sheet)?);
+    let name = files::name(sheet);
+    files::tell(refused.iter().map(|refused| format!("{name}: {refused}")));
+    Ok(table)
+}
+
+fn names_of(path: Option<&Path>) -> Result<Names, String> {
+    let Some(path) = path else {
+        return Ok(Names::new());
     };
-    match made {
-        Ok(picture) => {
-            print!("{picture}");
-            ExitCode::SUCCESS
-        }
-        Err(sentence) => {
-            eprintln!("{sentence}");
-            ExitCode::FAILURE
+    let names = sheet::names(files::names(path)?);
+    names.map_err(|sentence| format!("{}: {sentence}", path.display()))
+}
+
+fn of(subject: &Subject) -> Result<Shown, String> {
+    match subject {
+        Subject::Checklist(marks) => of_checklist(marks),
+        Subject::Sheet {
+            sheet,
+            atom,
+            names,
+            muted,
+        } => {
+            let table = table_of(sheet)?;
+            of_table(table, atom, names_of(names.as_deref())?, muted)
         }
     }
+}
+
+fn obey(asked: &Asked) -> Result<(), Failure> {
+    match asked {
+        Asked::Help => files::write(&format!("{USAGE}\n{HELP}"), None),
+        Asked::Tree {
+            subject,
+            json,
+            output,
+        } => {
+            let made = of(subject)?.written(*json);
+            files::write(&made, output.as_deref())
+        }
+    }
+}
+
+/// The exit status says whether what was asked for was made and written. Refused lines of a sheet do not count: the
+/// sheet program goes on after them as well.
+fn main() -> ExitCode {
+    let asked = arguments::read(std::env::args_os().skip(1));
+    let done = asked.map_err(Failure::Told).and_then(|asked| obey(&asked));
+    match done {
+        Ok(()) => return ExitCode::SUCCESS,
+        Err(Failure::Told(sentence)) => files::tell([sentence].into_iter()),
+        Err(Failure::Quiet) => {}
+    }
+    ExitCode::FAILURE
 }

@@ -1,25 +1,34 @@
 //! Reads a checklist from words: how many files, and the numbers of those that are sent and skipped.
 
-use crate::sheet::Names;
+use crate::sheet::{self, Names};
 use yeqontur::{Checklist, Refusal};
 
 type Call = fn(&mut Checklist, u32) -> Result<(), Refusal>;
 
 fn number(word: &str) -> Result<u32, String> {
-    word.parse().map_err(|_| format!("not a number: {word}"))
+    let read = sheet::number(word.as_bytes());
+    read.ok_or_else(|| format!("not a file's number: {word}"))
+}
+
+/// The checklist of so many files, none of them marked.
+fn opened(files: &str) -> Result<Checklist, String> {
+    let count = sheet::number(files.as_bytes());
+    let count = count.ok_or_else(|| format!("not a number of files: {files}"))?;
+    Checklist::open(count).map_err(|refusal| format!("checklist {files} {refusal}"))
 }
 
 /// The checklist of `FILES sent NUMBER.. skipped NUMBER..`, in any order of the marks.
 pub fn checklist(words: &[String]) -> Result<Checklist, String> {
-    let told = |refusal: Refusal| refusal.to_string();
-    let (files, marks) = words.split_first().ok_or("how many files?")?;
-    let mut checklist = Checklist::open(number(files)?).map_err(told)?;
+    let how_many = "behind checklist stands how many files it has";
+    let (files, marks) = words.split_first().ok_or(how_many)?;
+    let mut checklist = opened(files)?;
     let mut call: Option<Call> = None;
     for word in marks {
         match (word.as_str(), call) {
             ("sent", _) => call = Some(Checklist::sent),
             ("skipped", _) => call = Some(Checklist::skipped),
-            (file, Some(mark)) => mark(&mut checklist, number(file)?).map_err(told)?,
+            (file, Some(mark)) => mark(&mut checklist, number(file)?)
+                .map_err(|refusal| format!("file {file} {refusal}"))?,
             (_, None) => return Err(format!("sent or skipped is missing before {word}")),
         }
     }

@@ -2,8 +2,26 @@
 
 use crate::cards::{Card, Drawing, Link, Look};
 use crate::layout::{Area, Picture, Wire, SAMPLE};
-use crate::{checklist_picture, marks, names_and_muted, picture, sheet, svg};
+use crate::sheet::{self, Names};
+use crate::{marks, of_checklist, of_table, svg};
 use yeqontur::Table;
+
+/// The table of a sheet, none of whose lines is refused.
+pub fn rules(sheet: &str) -> Table {
+    let (table, refused) = sheet::read(sheet.as_bytes());
+    assert_eq!(refused, [], "{sheet}");
+    table
+}
+
+/// The picture of such a sheet's atom, or what is wrong.
+pub fn picture(sheet: &str, atom: &str, names: &str, muted: &[String]) -> Result<String, String> {
+    let shown = of_table(rules(sheet), atom, sheet::names(names)?, muted)?;
+    Ok(shown.written(false))
+}
+
+pub fn checklist_picture(words: &[String]) -> Result<String, String> {
+    Ok(of_checklist(words)?.written(false))
+}
 
 fn words(text: &str) -> Vec<String> {
     text.split(' ').map(str::to_string).collect()
@@ -76,9 +94,9 @@ fn needs_and_blocked_by_differ_in_line_and_word() {
 
 /// The lines marked as what stops a rule, in the first rule below an out atom.
 fn marked(sheet: &str, atom: u32) -> Vec<(String, Option<Link>)> {
-    let table = sheet::table(sheet).expect("a sheet");
+    let table = rules(sheet);
     let why = table.why(atom).expect("an atom");
-    let drawing = Drawing::new(&why, &table, &sheet::names("").expect("no names"));
+    let drawing = Drawing::new(&why, &table, &Names::new());
     let (_, _, rule) = &drawing.card.below[0];
     let marked = rule.lines.iter().filter(|line| line.bold);
     marked.map(|l| (l.text.clone(), l.stops)).collect()
@@ -95,10 +113,9 @@ fn of_an_atom_in_both_lists_the_entry_that_stops_is_marked() {
 
 /// The cards below an atom, where these slots are muted: link, look, and what each says.
 fn below(sheet: &str, muted: &str, atom: u32) -> Vec<String> {
-    let table = sheet::table(sheet).expect("a sheet");
-    let table = sheet::muted(table, &words(muted)).expect("slots");
+    let table = sheet::muted(rules(sheet), &words(muted)).expect("slots");
     let why = table.why(atom).expect("an atom");
-    let drawing = Drawing::new(&why, &table, &sheet::names("").expect("no names"));
+    let drawing = Drawing::new(&why, &table, &Names::new());
     let told = |(link, _, card): &(Link, usize, Card)| {
         let lines: Vec<&str> = card.lines.iter().map(|line| line.text.as_str()).collect();
         format!("{link:?} {:?}: {}", card.look, lines.join(", "))
@@ -143,25 +160,6 @@ fn an_in_atom_shows_its_supporting_rule_alone() {
 }
 
 #[test]
-fn slots_to_be_muted_are_read_behind_the_names() {
-    for (text, names, slots) in [
-        ("muted", None, 0),
-        ("muted 1 2", None, 2),
-        ("names", Some("names"), 0),
-        ("names muted", Some("names"), 0),
-        ("names muted 1", Some("names"), 1),
-    ] {
-        let words = words(text);
-        let (path, muted) = names_and_muted(&words).expect(text);
-        assert_eq!((path.map(String::as_str), muted.len()), (names, slots));
-    }
-    assert_eq!(names_and_muted(&[]), Ok((None, &[][..])));
-    for text in ["names 1", "names names muted 1", "names Muted 1"] {
-        assert!(names_and_muted(&words(text)).is_err(), "{text}");
-    }
-}
-
-#[test]
 fn slots_that_cannot_be_muted_are_told() {
     for (slot, told) in [
         ("x", "not a slot: x"),
@@ -179,44 +177,8 @@ fn slots_that_cannot_be_muted_are_told() {
 fn a_replaced_rule_is_drawn_in_its_slot() {
     let two = "A 1 : 2\nA 2 :\n";
     let replaced = format!("{two}P 0 1 : 2 ! 3\nP 1 2 : ! 4\n");
-    let rules = |sheet: &str| sheet::table(sheet).expect("a sheet");
     assert_eq!(rules(&replaced), rules("A 1 : 2 ! 3\nA 2 : ! 4"));
     assert_eq!(rules(&format!("{two}P 0 1 : 2")), rules(two));
-    for line in [
-        "P 0 1",
-        "P 0 : 1",
-        "P : 0 1",
-        "P 0 1 : x",
-        "P 0 1 : ! 2 ! 3",
-    ] {
-        let told = sheet::table(&format!("{two}{line}")).expect_err(line);
-        assert_eq!(told, format!("line 3 is no line of a sheet: {line}"));
-    }
-    for (line, refusal) in [("P 2 1 :", 9), ("P 0 2 :", 5), ("P 1 2 : ! 1", 7)] {
-        let told = sheet::table(&format!("{two}{line}")).expect_err(line);
-        assert!(told.starts_with(&format!("line 3 refused {refusal}: ")));
-    }
-}
-
-#[test]
-fn names_and_sheets_that_cannot_be_read_are_told() {
-    assert!(picture("A 1 :", "1", "1 <a> & b", &[])
-        .expect("a picture")
-        .contains("&lt;a&gt; &amp; b"));
-    for (text, atom, names) in [
-        ("A 1", "1", ""),
-        ("B", "1", ""),
-        ("A 1 : x", "1", ""),
-        ("R 0", "1", ""),
-        ("A 256 :", "1", ""),
-        ("A 1 :", "one", ""),
-        ("A 1 :", "256", ""),
-        ("A 1 :", "1", "one 1"),
-        ("A 1 :", "1", "1"),
-    ] {
-        let made = picture(text, atom, names, &[]);
-        assert!(made.is_err(), "{text} {atom} {names}");
-    }
 }
 
 /// Tables of every kind of reason, from a seed; some of their rules are muted.

@@ -1,0 +1,368 @@
+//! The tree that `why --json` prints is the tree of the table, and is as the guide's schema says.
+
+mod common;
+
+use common::json::Json;
+use common::program::{printed, root, run, run_on, why};
+use common::schema::Schema;
+use common::{folder, Random};
+use std::fs;
+use yeqontur::{Because, Label, Rule, Side, Stop, Stopped, Table, Why};
+
+/// The schema stands in the last block of its kind in the guide.
+fn schema() -> Schema {
+    let guide = fs::read_to_string(root().join("docs/GUIDE.md")).expect("the guide");
+    let (_, block) = guide.rsplit_once("\n```json\n").expect("a block");
+    Schema::read(&block[..block.find("```").expect("its end")])
+}
+
+fn read(text: &str) -> Json {
+    Json::read(text).unwrap_or_else(|told| panic!("{told}\n{text}"))
+}
+
+fn number(value: &Json, name: &str) -> u32 {
+    let number = value.get(name).and_then(Json::number);
+    number.expect(name).try_into().expect(name)
+}
+
+fn word<'a>(value: &'a Json, name: &str) -> &'a str {
+    value.get(name).and_then(Json::text).expect(name)
+}
+
+fn items<'a>(value: &'a Json, name: &str) -> &'a [Json] {
+    value.get(name).expect(name).items()
+}
+
+fn label(value: &Json) -> Label {
+    let label = value.get("label").expect("a label");
+    match word(label, "state") {
+        "absent" => Label::Absent,
+        "out" => Label::Out,
+        _ => Label::In {
+            depth: number(label, "depth"),
+            slot: number(label, "slot"),
+        },
+    }
+}
+
+/// A document read back, and the table that it should be of.
+struct Back<'a> {
+    table: &'a Table,
+    tree: &'a [Json],
+    /// The reasons that no other has taken as its branch yet.
+    made: Vec<Option<Why>>,
+}
+
+impl Back<'_> {
+    /// The atoms of a list of entries, whose labels are those of the table.
+    fn atoms(&self, entries: &[Json]) -> Vec<u32> {
+        let atom = |entry: &Json| {
+            let atom = number(entry, "atom");
+            assert_eq!(self.table.label(atom), Ok(label(entry)));
+            atom
+        };
+        entries.iter().map(atom).collect()
+    }
+
+    fn rule(&self, value: &Json, head: u32, muted: bool) -> Rule {
+        let rule = value.get("rule").expect("a rule");
+        Rule {
+            slot: number(rule, "slot"),
+            head,
+            positives: self.atoms(items(rule, "positives")),
+            negatives: self.atoms(items(rule, "negatives")),
+            muted,
+        }
+    }
+
+    /// Branches have greater numbers, so they are made already, and each is taken once.
+    fn take(&mut self, number: u32) -> Why {
+        self.made[number as usize].take().expect("a branch")
+    }
+
+    fn stopped(&mut self, value: &Json, head: u32) -> Stopped {
+        let side = match word(value, "stop") {
+            "needs" => Side::Positive,
+            "blocked by" => Side::Negative,
+            _ => {
+                return Stopped {
+                    rule: self.rule(value, head, true),
+                    stop: Stop::Muted,
+                }
+            }
+        };
+        let stop = Stop::Spoiled {
+            side,
+            place: number(value, "place"),
+            by: self.take(number(value, "by")),
+        };
+        Stopped {
+            rule: self.rule(value, head, false),
+            stop,
+        }
+    }
+
+    /// A cut reason says where the reason of its atom stands: before it, and told.
+    fn cut(&self, reason: &Json, place: usize, because: Because) -> Because {
+        let at = number(reason, "at") as usize;
+        assert!(at < place);
+        assert_eq!(self.tree[at].get("atom"), reason.get("atom"));
+        let told = word(&self.tree[at], "because");
+        assert!(told == "supported" || told == "stopped", "{told}");
+        because
+    }
+
+    fn because(&mut self, reason: &Json, place: usize, atom: u32) -> Because {
+        match word(reason, "because") {
+            "absent" => Because::Absent,
+            "above" => self.cut(reason, place, Because::Above),
+            "earlier" => self.cut(reason, place, Because::Earlier),
+            "supported" => {
+                let from = items(reason, "from").iter().filter_map(Json::number);
+                Because::Supported {
+                    rule: self.rule(reason, atom, false),
+                    from: from.map(|number| self.take(number as u32)).collect(),
+                }
+            }
+            _ => {
+                let rules = items(reason, "rules").iter();
+                Because::Stopped(rules.map(|rule| self.stopped(rule, atom)).collect())
+            }
+        }
+    }
+}
+
+/// The tree of a document of this table.
+fn back(document: &Json, table: &Table) -> Why {
+    let tree = items(document, "tree");
+    let made = vec![None; tree.len()];
+    let mut back = Back { table, tree, made };
+    for (place, reason) in tree.iter().enumerate().rev() {
+        let atom = number(reason, "atom");
+        let because = back.because(reason, place, atom);
+        back.made[place] = Some(Why {
+            atom,
+            label: label(reason),
+            because,
+        });
+    }
+    let whole = back.take(0);
+    assert!(back.made.iter().all(Option::is_none), "a reason is left");
+    whole
+}
+
+/// The numbers of a reason's branches, from the left.
+fn branches(reason: &Json) -> Vec<usize> {
+    let listed = reason.get("from").or(reason.get("rules"));
+    let listed = listed.map_or(&[][..], Json::items).iter();
+    let numbers = listed.filter_map(|branch| branch.get("by").unwrap_or(branch).number());
+    numbers.map(|number| number as usize).collect()
+}
+
+/// Depth first, left to right, the reasons come in the order of their numbers.
+fn in_reading_order(document: &Json) -> bool {
+    let tree = items(document, "tree");
+    let (mut waiting, mut next) = (vec![0], 0);
+    while let Some(number) = waiting.pop() {
+        if number != next {
+            return false;
+        }
+        next += 1;
+        waiting.extend(branches(&tree[number]).into_iter().rev());
+    }
+    next == tree.len()
+}
+
+/// The rules of a table whose slots have no gap, as lines.
+fn sheet(table: &Table) -> String {
+    let words = |list: &[u32]| -> String { list.iter().map(|atom| format!(" {atom}")).collect() };
+    let line = |rule: Rule| {
+        let (positives, negatives) = (words(&rule.positives), words(&rule.negatives));
+        format!("A {} :{positives} !{negatives}\n", rule.head)
+    };
+    table.rules().map(line).collect()
+}
+
+/// The document of a table's atom, which the program is given as a sheet and slots to be muted.
+fn printed_of(table: &Table, atom: u32) -> String {
+    let muted = table.rules().filter(|rule| rule.muted);
+    let slots: Vec<String> = muted.map(|rule| rule.slot.to_string()).collect();
+    let words = ["--json", "-", &atom.to_string(), "muted"].map(str::to_string);
+    let mut program = why(words.iter().chain(&slots));
+    let (status, printed, told) = run_on(&mut program, sheet(table).as_bytes());
+    assert_eq!((status, told.as_str()), (Some(0), ""));
+    printed
+}
+
+/// Holds the document of a table's atom to the schema and to the table's tree, and answers it.
+fn held(schema: &Schema, table: &Table, atom: u32) -> Json {
+    let document = read(&printed_of(table, atom));
+    assert_eq!(schema.holds(&document), Ok(()));
+    assert!(in_reading_order(&document));
+    assert_eq!(Ok(back(&document, table)), table.why(atom));
+    document
+}
+
+/// The words by which the schema tells kinds apart.
+const KINDS: [&str; 8] = [
+    "supported",
+    "stopped",
+    "above",
+    "earlier",
+    "absent",
+    "needs",
+    "blocked by",
+    "muted",
+];
+
+/// Each kind comes up often.
+#[test]
+fn trees_of_random_tables_are_as_the_schema_says_and_those_of_the_table() {
+    let (schema, mut random) = (schema(), Random(1));
+    let mut seen = String::new();
+    for _ in 0..400 {
+        let table = random.muted_table(60, 16, 8);
+        let atom = random.below(17);
+        seen += &format!("{:?}", held(&schema, &table, atom));
+    }
+    let often = KINDS.map(|kind| seen.matches(&format!("{kind:?}")).count());
+    assert!(often.iter().all(|&times| times >= 20), "{often:?}");
+}
+
+/// The longest chains that a table holds: up to a fact, and up to an atom that nothing gives.
+#[test]
+fn the_deepest_trees_are_printed() {
+    let (schema, mut table) = (schema(), Table::new());
+    for atom in 1..256 {
+        assert!(table.add(atom, &[atom - 1], &[]).is_ok());
+    }
+    let document = held(&schema, &table, 255);
+    assert_eq!(items(&document, "tree").len(), 256);
+    assert!(table.add(0, &[], &[]).is_ok());
+    let document = held(&schema, &table, 255);
+    assert_eq!(
+        label(&items(&document, "tree")[0]),
+        table.label(255).unwrap()
+    );
+    assert_eq!(items(&document, "tree").len(), 256);
+}
+
+#[test]
+fn checklists_are_printed_with_their_names() {
+    let schema = schema();
+    for (marks, first) in [
+        ("5 sent 1 2 3 skipped 4 sent 5", "out"),
+        ("2 sent 1 2", "in"),
+    ] {
+        let words: Vec<&str> = ["--json", "checklist"]
+            .into_iter()
+            .chain(marks.split(' '))
+            .collect();
+        let document = read(&printed(&words));
+        assert_eq!(schema.holds(&document), Ok(()));
+        let root = &items(&document, "tree")[0];
+        assert_eq!(word(root, "name"), "complete");
+        assert_eq!(word(root.get("label").expect("a label"), "state"), first);
+        assert!(items(&document, "tree")
+            .iter()
+            .all(|reason| reason.get("name").is_some()));
+    }
+}
+
+#[test]
+fn names_come_back_as_they_were_given() {
+    let folder = folder("json_names");
+    let (path, names) = (
+        folder.join("names"),
+        "1 a \"b\" \\ \u{1}\u{7f} \u{2028} ä 𝄞 </script>\n",
+    );
+    fs::write(&path, names).expect("a file");
+    let mut program = why(["--json", "-", "2"]);
+    let (_, printed, told) = run_on(program.arg(&path), b"A 1 :\nA 2 : 1");
+    assert_eq!(told, "");
+    let document = read(&printed);
+    assert_eq!(schema().holds(&document), Ok(()));
+    let reasons = items(&document, "tree");
+    let entry = &items(reasons[0].get("rule").expect("a rule"), "positives")[0];
+    assert_eq!(reasons[0].get("name"), None);
+    for named in [&reasons[1], entry] {
+        assert_eq!(word(named, "name"), names[2..].trim_end());
+    }
+}
+
+/// Each is the right document of the guide with one thing changed.
+#[test]
+fn documents_that_are_not_as_the_schema_says_are_refused() {
+    let schema = schema();
+    let right = fs::read_to_string(root().join("examples/skipped.json")).expect("a document");
+    assert_eq!(schema.holds(&read(&right)), Ok(()));
+    for (part, instead) in [
+        ("yeqontur-why-1", "yeqontur-why-2"),
+        ("\"format\": \"yeqontur-why-1\", ", ""),
+        ("\"because\": \"stopped\"", "\"because\": \"stoped\""),
+        ("\"because\": \"supported\", ", ""),
+        (", \"from\": []", ""),
+        ("\"from\": []", "\"from\": [-1]"),
+        ("\"from\": []", "\"from\": [], \"at\": 0"),
+        (", \"by\": 1", ""),
+        ("\"by\": 1", "\"by\": \"1\""),
+        ("\"stop\": \"needs\"", "\"stop\": \"lacks\""),
+        ("\"stop\": \"needs\"", "\"stop\": \"muted\""),
+        ("\"place\": 1", "\"place\": 8"),
+        ("{\"atom\": 7", "{\"atom\": 256"),
+        ("{\"atom\": 7, ", "{"),
+        ("{\"atom\": 7, ", "{\"atom\": 7, \"head\": 7, "),
+        ("\"name\": \"complete\"", "\"name\": \"\""),
+        ("\"name\": \"complete\"", "\"name\": 7"),
+        ("\"depth\": 2, ", ""),
+        ("\"depth\": 2", "\"depth\": 0"),
+        ("{\"state\": \"out\"}", "{\"state\": \"absent\"}"),
+        ("{\"state\": \"out\"}", "\"out\""),
+        ("{\"state\": \"out\"}", "{\"state\": \"out\", \"depth\": 1}"),
+        ("\"negatives\": []", "\"negatives\": {}"),
+        ("\"negatives\": []", "\"negatives\": [7]"),
+    ] {
+        let wrong = right.replacen(part, instead, 1);
+        assert_ne!(wrong, right, "{part}");
+        assert!(schema.holds(&read(&wrong)).is_err(), "{part}: {instead}");
+    }
+    assert!(schema
+        .holds(&read("{\"format\": \"yeqontur-why-1\", \"tree\": []}"))
+        .is_err());
+}
+
+#[test]
+fn what_is_no_json_is_not_read() {
+    for text in [
+        "",
+        "{",
+        "[1,]",
+        "[1 2]",
+        "{\"a\": 1, \"a\": 2}",
+        "{\"a\" 1}",
+        "{a: 1}",
+        "01",
+        "1.5",
+        "-",
+        "\"\n\"",
+        "\"\\x\"",
+        "\"\\ud800\"",
+        "\"",
+        "[] []",
+        "nul",
+    ] {
+        assert!(Json::read(text).is_err(), "{text}");
+    }
+    let letters = Json::read(" [\"\\u00e4\\n\\\\\", -1, null, true, false, {}]\n").expect("a list");
+    assert_eq!(letters.items()[0].text(), Some("ä\n\\"));
+    assert_eq!(letters.items().len(), 6);
+}
+
+/// A tree is printed where the sheet has refused lines, and they are told.
+#[test]
+fn refused_lines_are_told_beside_the_tree() {
+    let (status, printed, told) = run(&mut why(["--json", "examples/deposit.sheet", "7"]));
+    assert_eq!(status, Some(0));
+    assert!(told.starts_with("examples/deposit.sheet: line 10 refused 12: "));
+    assert_eq!(schema().holds(&read(&printed)), Ok(()));
+}
