@@ -197,6 +197,10 @@ fn not_a_file() -> io::Error {
 /// std::fs::remove_file(&path)?;
 /// # Ok::<(), std::io::Error>(())
 /// ```
+///
+/// # Errors
+///
+/// What the system says, as of [`Table::save_to`].
 pub fn replace_file(path: impl AsRef<Path>, bytes: &[u8]) -> io::Result<()> {
     let (path, permissions) = standing(path.as_ref())?;
     let folder = folder_of(&path)?;

@@ -45,12 +45,71 @@ fn label(value: &Json) -> Label {
     }
 }
 
-/// A document read back, and the table that it should be of.
+/// How an entry stops a rule.
+fn stops(side: Side) -> &'static str {
+    match side {
+        Side::Positive => "needs",
+        Side::Negative => "blocked by",
+    }
+}
+
+/// A rule in a line: its slot and its lists.
+fn rule_line(slot: u32, positives: &[u32], negatives: &[u32]) -> String {
+    format!("slot {slot}: {positives:?} not {negatives:?}")
+}
+
+fn rule_told(rule: &Rule) -> String {
+    rule_line(rule.slot, &rule.positives, &rule.negatives)
+}
+
+fn stopped_told(stopped: &Stopped) -> String {
+    let rule = rule_told(&stopped.rule);
+    match &stopped.stop {
+        Stop::Spoiled { side, place, .. } => format!("{rule} {} at {place}", stops(*side)),
+        _ => format!("{rule} muted"),
+    }
+}
+
+/// The branches of a reason, and the reason in a line, without them.
+fn told(why: &Why) -> (Vec<&Why>, String) {
+    let (branches, because) = match &why.because {
+        Because::Supported { rule, from } => {
+            let branches: Vec<&Why> = from.iter().collect();
+            let because = format!("supported {} from {}", rule_told(rule), from.len());
+            (branches, because)
+        }
+        Because::Stopped(rules) => {
+            let by = |stopped| match stopped {
+                &Stopped {
+                    stop: Stop::Spoiled { ref by, .. },
+                    ..
+                } => Some(by),
+                _ => None,
+            };
+            let rules_told: Vec<String> = rules.iter().map(stopped_told).collect();
+            let because = format!("stopped {rules_told:?}");
+            (rules.iter().filter_map(by).collect(), because)
+        }
+        other => (Vec::new(), format!("{other:?}").to_lowercase()),
+    };
+    (branches, format!("{} {}: {because}", why.atom, why.label))
+}
+
+/// The reasons of a tree in reading order, a line each.
+fn lines(why: &Why) -> Vec<String> {
+    let (mut waiting, mut lines) = (vec![why], Vec::new());
+    while let Some(why) = waiting.pop() {
+        let (branches, line) = told(why);
+        waiting.extend(branches.into_iter().rev());
+        lines.push(line);
+    }
+    lines
+}
+
+/// A document, and the table that it should be of.
 struct Back<'a> {
     table: &'a Table,
     tree: &'a [Json],
-    /// The reasons that no other has taken as its branch yet.
-    made: Vec<Option<Why>>,
 }
 
 impl Back<'_> {
@@ -64,91 +123,61 @@ impl Back<'_> {
         entries.iter().map(atom).collect()
     }
 
-    fn rule(&self, value: &Json, head: u32, muted: bool) -> Rule {
+    fn rule(&self, value: &Json) -> String {
         let rule = value.get("rule").expect("a rule");
-        Rule {
-            slot: number(rule, "slot"),
-            head,
-            positives: self.atoms(items(rule, "positives")),
-            negatives: self.atoms(items(rule, "negatives")),
-            muted,
-        }
+        let positives = self.atoms(items(rule, "positives"));
+        let negatives = self.atoms(items(rule, "negatives"));
+        rule_line(number(rule, "slot"), &positives, &negatives)
     }
 
-    /// Branches have greater numbers, so they are made already, and each is taken once.
-    fn take(&mut self, number: u32) -> Why {
-        self.made[number as usize].take().expect("a branch")
-    }
-
-    fn stopped(&mut self, value: &Json, head: u32) -> Stopped {
-        let side = match word(value, "stop") {
-            "needs" => Side::Positive,
-            "blocked by" => Side::Negative,
-            _ => {
-                return Stopped {
-                    rule: self.rule(value, head, true),
-                    stop: Stop::Muted,
-                }
-            }
-        };
-        let stop = Stop::Spoiled {
-            side,
-            place: number(value, "place"),
-            by: self.take(number(value, "by")),
-        };
-        Stopped {
-            rule: self.rule(value, head, false),
-            stop,
+    fn stopped(&self, value: &Json) -> String {
+        let (rule, how) = (self.rule(value), word(value, "stop"));
+        if how == "muted" {
+            return format!("{rule} {how}");
         }
+        format!("{rule} {how} at {}", number(value, "place"))
     }
 
     /// A cut reason says where the reason of its atom stands: before it, and told.
-    fn cut(&self, reason: &Json, place: usize, because: Because) -> Because {
+    fn cut(&self, reason: &Json, place: usize) {
         let at = number(reason, "at") as usize;
         assert!(at < place);
         assert_eq!(self.tree[at].get("atom"), reason.get("atom"));
         let told = word(&self.tree[at], "because");
         assert!(told == "supported" || told == "stopped", "{told}");
-        because
     }
 
-    fn because(&mut self, reason: &Json, place: usize, atom: u32) -> Because {
-        match word(reason, "because") {
-            "absent" => Because::Absent,
-            "above" => self.cut(reason, place, Because::Above),
-            "earlier" => self.cut(reason, place, Because::Earlier),
+    /// A reason of the document in a line, as that of a tree.
+    fn line(&self, place: usize, reason: &Json) -> String {
+        let kind = word(reason, "because");
+        let because = match kind {
             "supported" => {
-                let from = items(reason, "from").iter().filter_map(Json::number);
-                Because::Supported {
-                    rule: self.rule(reason, atom, false),
-                    from: from.map(|number| self.take(number as u32)).collect(),
-                }
+                let from = items(reason, "from").len();
+                format!("{kind} {} from {from}", self.rule(reason))
             }
-            _ => {
+            "stopped" => {
                 let rules = items(reason, "rules").iter();
-                Because::Stopped(rules.map(|rule| self.stopped(rule, atom)).collect())
+                let rules: Vec<String> = rules.map(|rule| self.stopped(rule)).collect();
+                format!("{kind} {rules:?}")
             }
+            _ => kind.to_string(),
+        };
+        if kind == "above" || kind == "earlier" {
+            self.cut(reason, place);
         }
+        format!("{} {}: {because}", number(reason, "atom"), label(reason))
     }
 }
 
-/// The tree of a document of this table.
-fn back(document: &Json, table: &Table) -> Why {
+/// The reasons of a document of this table, a line each. With the order that `in_reading_order` asks for they are a
+/// tree, since a line says how many branches a reason has.
+fn back(document: &Json, table: &Table) -> Vec<String> {
     let tree = items(document, "tree");
-    let made = vec![None; tree.len()];
-    let mut back = Back { table, tree, made };
-    for (place, reason) in tree.iter().enumerate().rev() {
-        let atom = number(reason, "atom");
-        let because = back.because(reason, place, atom);
-        back.made[place] = Some(Why {
-            atom,
-            label: label(reason),
-            because,
-        });
-    }
-    let whole = back.take(0);
-    assert!(back.made.iter().all(Option::is_none), "a reason is left");
-    whole
+    let back = Back { table, tree };
+    let reasons = tree.iter().enumerate();
+    reasons
+        .map(|(place, reason)| back.line(place, reason))
+        .collect()
 }
 
 /// The numbers of a reason's branches, from the left.
@@ -199,7 +228,8 @@ fn held(schema: &Schema, table: &Table, atom: u32) -> Json {
     let document = read(&printed_of(table, atom));
     assert_eq!(schema.holds(&document), Ok(()));
     assert!(in_reading_order(&document));
-    assert_eq!(Ok(back(&document, table)), table.why(atom));
+    let why = table.why(atom).expect("an atom");
+    assert_eq!(back(&document, table), lines(&why));
     document
 }
 

@@ -17,7 +17,7 @@ struct Reason<'a> {
 fn stopper(stopped: &Stopped) -> Option<&Why> {
     match &stopped.stop {
         Stop::Spoiled { by, .. } => Some(by),
-        Stop::Muted => None,
+        _ => None,
     }
 }
 
@@ -25,7 +25,7 @@ fn branches(why: &Why) -> Vec<&Why> {
     match &why.because {
         Because::Supported { from, .. } => from.iter().collect(),
         Because::Stopped(rules) => rules.iter().filter_map(stopper).collect(),
-        Because::Absent | Because::Above | Because::Earlier => Vec::new(),
+        _ => Vec::new(),
     }
 }
 
@@ -131,6 +131,7 @@ impl Writer<'_> {
                 let by = branches.next().unwrap_or_default();
                 format!(r#""stop": "{how}", "place": {place}, "by": {by}"#)
             }
+            other => panic!("not written yet: {other}"),
         };
         format!(r#"{{"rule": {}, {stop}}}"#, self.rule(&stopped.rule))
     }
@@ -156,6 +157,7 @@ impl Writer<'_> {
             }
             Because::Above => self.cut("above", why.atom),
             Because::Earlier => self.cut("earlier", why.atom),
+            other => panic!("not written yet: {other:?}"),
         };
         format!("{{{}, {because}}}", self.atom(why.atom, why.label))
     }
