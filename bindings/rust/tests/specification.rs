@@ -1,5 +1,5 @@
-//! The specification's numbers: its questions are the header's refusals, what names a paragraph names one that is
-//! there, and its sheet prints what it says.
+//! The specification's numbers: its questions are the header's refusals, its calls ask what the header says, what names
+//! a paragraph names one that is there, and its sheet prints what it says.
 
 use std::collections::BTreeSet;
 use std::fs;
@@ -126,6 +126,24 @@ fn the_questions_are_the_refusals_of_the_header() {
     assert_eq!(asked, Vec::from_iter(1..=22));
 }
 
+/// The header says of each call what it asks, in the order of the specification's table.
+#[test]
+fn each_call_asks_what_the_header_says() {
+    let said: Vec<String> = rows("4.4").iter().map(|row| row[2].clone()).collect();
+    let header = file("include/yeqontur.h");
+    let words = words(&header);
+    let places = words
+        .iter()
+        .enumerate()
+        .filter(|(_, word)| word.to_lowercase() == "asks");
+    let asked = places.map(|(i, _)| {
+        let numbers = words[i + 1..].iter().map_while(|word| number(word));
+        numbers.collect::<Vec<&str>>().join(", ")
+    });
+    let asked: Vec<String> = asked.filter(|numbers| !numbers.is_empty()).collect();
+    assert_eq!(said, asked);
+}
+
 #[test]
 fn a_paragraph_that_is_named_is_there() {
     let paragraphs = paragraphs();
@@ -137,6 +155,29 @@ fn a_paragraph_that_is_named_is_there() {
         }
     }
     assert!(count > 70, "{count}");
+}
+
+/// In the tables of terms the paragraphs stand in the first column.
+#[test]
+fn the_tables_of_terms_name_paragraphs_that_are_there() {
+    let paragraphs = paragraphs();
+    let text = file("docs/ARCHITECTURE.md");
+    let (_, tables) = text
+        .split_once("| specification | term |")
+        .expect("a table");
+    let cells = tables
+        .lines()
+        .filter_map(|line| line.strip_prefix("| ")?.split(" | ").next());
+    let cells = cells.filter(|cell| cell.starts_with(|c: char| c.is_ascii_digit()));
+    let cells: Vec<&str> = cells.collect();
+    assert!(cells.len() > 60, "{}", cells.len());
+    for number in cells
+        .iter()
+        .flat_map(|cell| cell.split(' '))
+        .filter_map(number)
+    {
+        assert!(paragraphs.contains(number), "{number}");
+    }
 }
 
 #[test]
