@@ -24,14 +24,13 @@
 extern "C" {
 #endif
 
-/* The version of this header: two digits each for major, minor and patch. yeqontur_version() is that of the library that
- * the program runs with. */
+/* The version of this header, two digits each for major, minor and patch. yeqontur_version() is the library's. */
 #define YEQONTUR_VERSION 200
 #define YEQONTUR_VERSION_TEXT "0.2.0"
 
 /* The layout of a table and of the answers, as this header declares them: the number changes when the size or the place
- * of any field does. A program that meets the library as a shared one, or the bytes of a table that another program
- * kept, asks whether yeqontur_layout() is this number. */
+ * of a field does, or what a call takes. yeqontur_layout() is the library's; a shared library with another layout has
+ * another name. Who keeps the bytes of a table keeps this number with them. */
 #define YEQONTUR_LAYOUT 1
 
 /* The compiler warns where the answer of a call is dropped that changes a table, or hands one or a file over. */
@@ -85,17 +84,22 @@ typedef struct {
     yeqontur_kept_label labels[YEQONTUR_ATOMS];
 } yeqontur_table;
 
-/* The refusals: number, name, what is the matter, and what to do about it. In every answer `refused` is 0, which is
- * YEQONTUR_ACCEPTED, or one of these numbers, of which the first is YEQONTUR_REFUSED_HEAD_TOO_LARGE. 13 and 14 are what
- * the sheet program says of a line; no call answers them. The list is a macro, so that the names and the words below,
- * and a table of your own, all come from it:
+/* In every answer `refused` is YEQONTUR_ACCEPTED, which is 0, or the number of a refusal.
  *
- * Of 5: muted or not, and where a rule is replaced, in another slot; rules are the same if heads are equal and each list
- * holds the same atoms, in any order. Of 7: muted rules included. Of 11: `count` says how many entries, or bytes of a
- * file, are needed. Of 15: a checklist's rules are those that the marks of 1 to 60 files give, none of them muted. Of
- * 17: one of the block's two, which are the A and B of the format; one changed byte, anywhere in a saved file, is always
- * told so. Of 19: a record fails 1 to 5 or 7, or has a list that does not ascend. Of 20: it is 0, or more than the
- * checklist has files. */
+ * The refusals: number, name (YEQONTUR_REFUSED_HEAD_TOO_LARGE is 1), what is the matter, and what to do about it. The
+ * list is a macro: the names, yeqontur_words and yeqontur_advice come from it, and so can a table of your own.
+ *
+ *    5  rules are the same if heads are equal and each list holds the same atoms, in any order; one that is muted
+ *       counts, and gives nothing until it is unmuted; where a rule is replaced, another slot has the same
+ *    7  muted rules included
+ *   11  `count` says how many entries, or bytes of a file, are needed
+ *   13  and 14 are what the sheet program says of a line; no call answers them
+ *   15  a checklist's rules are those that the marks of 1 to 60 files give, none of them muted; it is no checksum:
+ *       bytes of a table that were changed into those of another sound table are not told
+ *   17  one of the block's two, which are the A and B of the format; one changed byte, anywhere in a saved file, is
+ *       always told so
+ *   19  a record fails 1 to 5 or 7, or has a list that does not ascend
+ *   20  it is 0, or more than the checklist has files */
 #define YEQONTUR_REFUSALS(EACH) \
     EACH(1, HEAD_TOO_LARGE, \
          "the head is not below 256", \
@@ -210,7 +214,7 @@ typedef struct {
     uint32_t slot;
 } yeqontur_label_answer;
 
-/* What is said of a rule: it is valid; it needs an atom, which is out; it is blocked by one, which is in; it is muted. */
+/* A rule is valid; or it needs an atom, which is out; or it is blocked by one, which is in; or it is muted. */
 enum {
     YEQONTUR_SPOILER_NONE = 0,
     YEQONTUR_SPOILER_NEEDS = 1,
@@ -361,9 +365,10 @@ yeqontur_list_answer yeqontur_checklist_missing(yeqontur_table table, uint32_t *
 /* Whether every file was sent and no skip stands. Asks 15. */
 yeqontur_complete_answer yeqontur_checklist_complete(yeqontur_table table);
 
-/* The calls that change a table, on one in place: each answers `refused`, and changes `*table` only where it is accepted,
- * loading and opening too. `slot` takes the slot that the rule went to; it may be NULL. */
+/* The calls that change a table or hand one back, on a table in place. Each answers `refused`. Accepted, `*table` is
+ * the new one; refused, `*table` stays as it is, also where a file is loaded or a checklist opened. */
 
+/* Not to be called by clients: what all but two of them have in common. */
 static inline uint32_t yeqontur_kept(yeqontur_table *table, const yeqontur_accepted *answer) {
     if (answer->refused == YEQONTUR_ACCEPTED) {
         *table = answer->table;
@@ -371,6 +376,7 @@ static inline uint32_t yeqontur_kept(yeqontur_table *table, const yeqontur_accep
     return answer->refused;
 }
 
+/* `slot` gets the slot that the rule took; it may be NULL, and stays where the call is refused. */
 YEQONTUR_KEEP
 static inline uint32_t yeqontur_add_to(yeqontur_table *table, uint32_t head, const uint32_t *positives,
                                        size_t positive_count, const uint32_t *negatives, size_t negative_count,

@@ -1,5 +1,5 @@
 /* It said "complete", and it was not: five files, one of them under a path that is too long to be sent. */
-#include "yeqontur.h"
+#include <yeqontur.h>
 
 #include <stdio.h>
 #include <stdlib.h>
@@ -29,27 +29,22 @@ static size_t length(const file *f) {
 
 /* Ends the program where a call was refused that has to be accepted. */
 static void must_be_accepted(uint32_t refused) {
-    if (refused != 0) {
-        fprintf(stderr, "refused %u\n", refused);
+    if (refused != YEQONTUR_ACCEPTED) {
+        fprintf(stderr, "refused %u: %s; %s\n", refused, yeqontur_words(refused), yeqontur_advice(refused));
         exit(1);
     }
 }
 
-/* The table after such a call. */
-static yeqontur_table accepted(yeqontur_accepted answer) {
-    must_be_accepted(answer.refused);
-    return answer.table;
-}
-
 /* Sends a file, or skips it where its path is too long. */
-static yeqontur_table offered(yeqontur_table table, uint32_t number) {
+static void offer(yeqontur_table *table, uint32_t number) {
     const file *f = &files[number - 1];
     if (length(f) > LONGEST) {
         printf("%u %s: skipped, its path has %zu characters\n", number, f->name, length(f));
-        return accepted(yeqontur_checklist_skipped(table, number));
+        must_be_accepted(yeqontur_checklist_skipped_in(table, number));
+    } else {
+        printf("%u %s: sent\n", number, f->name);
+        must_be_accepted(yeqontur_checklist_sent_in(table, number));
     }
-    printf("%u %s: sent\n", number, f->name);
-    return accepted(yeqontur_checklist_sent(table, number));
 }
 
 /* The client before this one looked at what it had sent. A file that it skipped was in no count. */
@@ -74,14 +69,14 @@ static void print_name(uint32_t atom) {
  * and what stops it is the good of the file before, or a mark of the file. */
 static void show_why(const yeqontur_table *table) {
     uint32_t atom = YEQONTUR_GOOD(FILES);
-    while (atom % 3 == 0 && yeqontur_label(*table, atom).state == 1) {
+    while (atom % 3 == 0 && yeqontur_label(*table, atom).state == YEQONTUR_LABEL_OUT) {
         const yeqontur_spoiler_answer stop = yeqontur_spoiler(*table, atom / 3);
-        if (stop.spoiled != 1 && stop.spoiled != 2) {
+        if (stop.spoiled != YEQONTUR_SPOILER_NEEDS && stop.spoiled != YEQONTUR_SPOILER_BLOCKED_BY) {
             return; /* no entry is named: the rule is muted, as none of a checklist is */
         }
         printf("  ");
         print_name(atom);
-        printf(stop.spoiled == 2 ? " is blocked by " : " needs ");
+        printf(stop.spoiled == YEQONTUR_SPOILER_BLOCKED_BY ? " is blocked by " : " needs ");
         print_name(stop.atom);
         printf("\n");
         atom = stop.atom;
@@ -97,8 +92,8 @@ static void show(const yeqontur_table *table) {
     must_be_accepted(all.refused);
     printf(all.complete ? "complete: yes" : "complete: no.");
     for (size_t i = 0; i < list.count; i++) {
-        const int skipped = yeqontur_label(*table, YEQONTUR_SKIPPED(missing[i])).state == 2;
-        printf(" File %u %s.", missing[i], skipped ? "was skipped" : "has not been sent");
+        const uint32_t skipped = yeqontur_label(*table, YEQONTUR_SKIPPED(missing[i])).state;
+        printf(" File %u %s.", missing[i], skipped == YEQONTUR_LABEL_IN ? "was skipped" : "has not been sent");
     }
     printf("\n");
     for (size_t i = 0; i < list.count; i++) {
@@ -108,19 +103,20 @@ static void show(const yeqontur_table *table) {
 }
 
 int main(void) {
-    yeqontur_table table = accepted(yeqontur_checklist_open(FILES));
+    yeqontur_table table;
+    must_be_accepted(yeqontur_checklist_open_into(&table, FILES));
     for (uint32_t number = 1; number <= FILES; number++) {
-        table = offered(table, number);
+        offer(&table, number);
     }
     show_old();
     show(&table);
 
     printf("the path of tape.wav is shortened, and the skip withdrawn\n");
     files[3].deep = 1;
-    table = accepted(yeqontur_checklist_withdraw(table, 4));
+    must_be_accepted(yeqontur_checklist_withdraw_in(&table, 4));
     show(&table);
 
-    table = offered(table, 4);
+    offer(&table, 4);
     show(&table);
     return 0;
 }

@@ -1,7 +1,7 @@
 /* A table that survives a restart: each start sends one more file, and the next one knows. */
 #define _XOPEN_SOURCE 700 /* fsync, mkstemp, realpath: this program is for Unix */
 
-#include "yeqontur.h"
+#include <yeqontur.h>
 
 #include <errno.h>
 #include <fcntl.h>
@@ -25,29 +25,21 @@ static const char *const files[FILES] = {"report.pdf", "notes.txt"};
 /* Room for a path and what is put behind it. */
 #define PATH_BYTES 4096
 
-/* The words of the refusals that a file can meet, from 16. */
-static const char *const words[] = {
-    "the file's length is not 512 bytes times 1 to 12",
-    "a block's checksum is wrong",
-    "a block's index, block count or record count is wrong",
-    "unused bytes are not 0, slots do not ascend below 256, or the records are not the rules of a table",
-};
-
 /* Tells what went wrong with a file, by errno, and ends. */
 static void fail(const char *path) {
     fprintf(stderr, "%s: %s\n", path, strerror(errno));
     exit(1);
 }
 
-/* The table after an addition that has to be accepted. */
-static yeqontur_table added(yeqontur_table table, uint32_t head, const uint32_t *positives, size_t positive_count,
-                            const uint32_t *negatives, size_t negative_count) {
-    yeqontur_change change = yeqontur_add(table, head, positives, positive_count, negatives, negative_count);
-    if (change.refused != 0) {
-        fprintf(stderr, "an addition was refused: %u\n", change.refused);
+/* Adds a rule that has to be accepted. */
+static void add(yeqontur_table *table, uint32_t head, const uint32_t *positives, size_t positive_count,
+                const uint32_t *negatives, size_t negative_count) {
+    const uint32_t refused =
+        yeqontur_add_to(table, head, positives, positive_count, negatives, negative_count, NULL);
+    if (refused != YEQONTUR_ACCEPTED) {
+        fprintf(stderr, "refused %u: %s; %s\n", refused, yeqontur_words(refused), yeqontur_advice(refused));
         exit(1);
     }
-    return change.table;
 }
 
 /* A new table: a file is good if it was sent and not skipped; the folder is complete if every file is good. */
@@ -56,10 +48,11 @@ static yeqontur_table begun(void) {
     uint32_t every[FILES];
     for (int i = 0; i < FILES; i++) {
         const uint32_t sent = SENT(i), skipped = SKIPPED(i);
-        table = added(table, GOOD(i), &sent, 1, &skipped, 1);
+        add(&table, GOOD(i), &sent, 1, &skipped, 1);
         every[i] = GOOD(i);
     }
-    return added(table, COMPLETE, every, FILES, NULL, 0);
+    add(&table, COMPLETE, every, FILES, NULL, 0);
+    return table;
 }
 
 /* Every function from here to load_from answers 0, or -1 with errno. */
@@ -162,7 +155,7 @@ static int save_to(const yeqontur_table *table, const char *path) {
     char real[PATH_BYTES];
     mode_t mode;
     const yeqontur_list_answer saved = yeqontur_save(*table, bytes, sizeof bytes);
-    if (saved.refused != 0) { /* 15: not a table that the library handed back */
+    if (saved.refused != YEQONTUR_ACCEPTED) { /* 15: not a table that the library handed back */
         errno = EINVAL;
         return -1;
     }
@@ -219,14 +212,14 @@ static yeqontur_table opened(const char *path) {
         printf("nothing saved yet: a new table\n");
         return begun();
     }
-    if (loaded.refused != 0) { /* loaded.table is the empty one */
-        printf("refused %u: %s\n", loaded.refused, words[loaded.refused - 16]);
+    if (loaded.refused != YEQONTUR_ACCEPTED) { /* loaded.table is the empty one */
+        printf("refused %u: %s\n", loaded.refused, yeqontur_words(loaded.refused));
         keep_aside(path);
         return begun();
     }
     int rules = 0;
     for (int slot = 0; slot < YEQONTUR_SLOTS; slot++) {
-        rules += loaded.table.rules[slot].state != 0;
+        rules += loaded.table.rules[slot].state != YEQONTUR_RULE_FREE;
     }
     printf("loaded: %d rules\n", rules);
     return loaded.table;
@@ -234,19 +227,18 @@ static yeqontur_table opened(const char *path) {
 
 /* Sends the first file that was not sent yet. It is told after the table is saved: what a person has read is not
  * forgotten. */
-static yeqontur_table sent_one(yeqontur_table table, const char *path) {
+static void send_one(yeqontur_table *table, const char *path) {
     for (int i = 0; i < FILES; i++) {
-        if (yeqontur_label(table, SENT(i)).state != 2) {
-            table = added(table, SENT(i), NULL, 0, NULL, 0);
-            if (save_to(&table, path) != 0) {
+        if (yeqontur_label(*table, SENT(i)).state != YEQONTUR_LABEL_IN) {
+            add(table, SENT(i), NULL, 0, NULL, 0);
+            if (save_to(table, path) != 0) {
                 fail(path);
             }
             printf("%s is sent\n", files[i]);
-            return table;
+            return;
         }
     }
     printf("every file was sent\n");
-    return table;
 }
 
 int main(int count, char **arguments) {
@@ -254,7 +246,8 @@ int main(int count, char **arguments) {
         fprintf(stderr, "usage: restart PATH\n");
         return 1;
     }
-    const yeqontur_table table = sent_one(opened(arguments[1]), arguments[1]);
-    printf("complete: %s\n", yeqontur_label(table, COMPLETE).state == 2 ? "in" : "out");
+    yeqontur_table table = opened(arguments[1]);
+    send_one(&table, arguments[1]);
+    printf("complete: %s\n", yeqontur_label(table, COMPLETE).state == YEQONTUR_LABEL_IN ? "in" : "out");
     return 0;
 }

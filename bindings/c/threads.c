@@ -102,14 +102,14 @@ static void removal(work *w) {
     w->right &= yeqontur_label(w->table, w->number + 10).state == 1;
 }
 
-/* Every call of a checklist, on the longest one. */
+/* Every call of a checklist, on the longest one; those of opening and sending in place, on a table of this frame. */
 static void checklist(work *w) {
-    yeqontur_accepted answer = yeqontur_checklist_open(YEQONTUR_MOST_FILES);
+    yeqontur_table table;
+    w->right &= yeqontur_checklist_open_into(&table, YEQONTUR_MOST_FILES) == 0;
     for (uint32_t i = 1; i <= YEQONTUR_MOST_FILES; i++) {
-        w->right &= answer.refused == 0;
-        answer = yeqontur_checklist_sent(answer.table, i);
+        w->right &= yeqontur_checklist_sent_in(&table, i) == 0;
     }
-    answer = yeqontur_checklist_skipped(answer.table, w->number + 1);
+    yeqontur_accepted answer = yeqontur_checklist_skipped(table, w->number + 1);
     yeqontur_list_answer missing = yeqontur_checklist_missing(answer.table, w->buffer, YEQONTUR_MOST_FILES);
     w->right &= missing.refused == 0 && missing.count == 1 && w->buffer[0] == w->number + 1;
     answer = yeqontur_checklist_withdraw(answer.table, w->number + 1);

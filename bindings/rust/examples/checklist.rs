@@ -1,6 +1,6 @@
 //! It said "complete", and it was not: five files, one of them under a path that is too long to be sent.
 
-use yeqontur::{Because, Checklist, Refusal, Side, Stop, Why};
+use yeqontur::{Because, Checklist, Refusal, Stop, Why};
 
 /// The most characters of a path that the system opens.
 const LONGEST: usize = 260;
@@ -58,11 +58,7 @@ fn show_why(checklist: &Checklist, why: &Why) {
         let Stop::Spoiled { side, by, .. } = &stopped.stop else {
             continue; // a checklist has no muted rule
         };
-        let how = match side {
-            Side::Positive => "needs",
-            Side::Negative => "is blocked by",
-        };
-        println!("  {} {how} {}", name(why.atom), name(by.atom));
+        println!("  {} {side} {}", name(why.atom), name(by.atom));
         show_why(checklist, by);
     }
 }

@@ -1,6 +1,6 @@
 //! Rules from a scan, their labels, why a label stands, a refusal, a rule that is replaced, and one that is muted.
 
-use yeqontur::{Because, Label, Refusal, Side, Stop, Stopped, Table, Why};
+use yeqontur::{Because, Label, Refusal, Stop, Stopped, Table, Why};
 
 /// What a scan of the folder found.
 struct File {
@@ -79,7 +79,7 @@ fn show(why: &Why, indent: usize) {
         Because::Supported { from, .. } => from.iter().for_each(|w| show(w, indent + 2)),
         Because::Stopped(rules) => rules.iter().for_each(|rule| show_stopped(rule, indent + 2)),
         // No rule has the atom, or its reason is shown elsewhere in the tree.
-        Because::Absent | Because::Above | Because::Earlier => {}
+        _ => {}
     }
 }
 
@@ -87,15 +87,12 @@ fn show(why: &Why, indent: usize) {
 fn show_stopped(stopped: &Stopped, indent: usize) {
     let slot = stopped.rule.slot;
     match &stopped.stop {
-        Stop::Muted => println!("{:indent$}slot {slot} is muted", ""),
         Stop::Spoiled { side, by, .. } => {
-            let how = match side {
-                Side::Positive => "needs",
-                Side::Negative => "is blocked by",
-            };
-            println!("{:indent$}slot {slot} {how} {}", "", name(by.atom));
+            println!("{:indent$}slot {slot} {side} {}", "", name(by.atom));
             show(by, indent + 2);
         }
+        // That it is muted: no entry is to blame.
+        stop => println!("{:indent$}slot {slot} {stop}", ""),
     }
 }
 

@@ -7,7 +7,25 @@ use std::path::{Path, PathBuf};
 use std::sync::atomic::{AtomicU64, Ordering};
 use std::{error, fmt, process};
 
-/// Why a path gave no table.
+/// Why a path gave no table. More cases may come.
+///
+/// ```
+/// # use yeqontur::{LoadError, Table};
+/// use std::io::ErrorKind;
+///
+/// # let folder = std::env::temp_dir().join(format!("yeqontur-error-{}", std::process::id()));
+/// # std::fs::create_dir_all(&folder)?;
+/// let path = folder.join("deposit.blocks");
+/// let table = match Table::load_from(&path) {
+///     Ok(table) => table,
+///     Err(LoadError::Io(error)) if error.kind() == ErrorKind::NotFound => Table::new(), // nothing saved yet
+///     Err(error) => return Err(error.into()), // nothing is saved over it
+/// };
+/// assert_eq!(table, Table::new());
+/// # std::fs::remove_dir_all(&folder)?;
+/// # Ok::<(), Box<dyn std::error::Error>>(())
+/// ```
+#[non_exhaustive]
 #[derive(Debug)]
 pub enum LoadError {
     /// The file could not be read. Its kind is `NotFound` where nothing was saved yet.
@@ -17,6 +35,17 @@ pub enum LoadError {
 }
 
 /// What is the matter, and what a person can do about it.
+///
+/// ```
+/// # use yeqontur::{LoadError, Refusal};
+/// use std::io::{Error, ErrorKind};
+///
+/// let error = LoadError::Io(Error::new(ErrorKind::PermissionDenied, "no"));
+/// let sentence = "the saved table cannot be read: no; look at the path, and whether you may read it";
+/// assert_eq!(error.to_string(), sentence);
+/// let refused = LoadError::Refused(Refusal::WrongChecksum);
+/// assert_eq!(refused.to_string(), Refusal::WrongChecksum.to_string());
+/// ```
 impl fmt::Display for LoadError {
     fn fmt(&self, f: &mut fmt::Formatter<'_>) -> fmt::Result {
         match self {
@@ -33,6 +62,15 @@ impl fmt::Display for LoadError {
     }
 }
 
+/// An error among others: `?` hands it on. Its sentence is whole; the source is for a program that looks for the
+/// system's error, or the refusal, below whatever it was handed.
+///
+/// ```
+/// # use yeqontur::{LoadError, Refusal};
+/// let error: Box<dyn std::error::Error> = LoadError::Refused(Refusal::WrongBlock).into();
+/// let source = error.source().and_then(|source| source.downcast_ref());
+/// assert_eq!(source, Some(&Refusal::WrongBlock));
+/// ```
 impl error::Error for LoadError {
     fn source(&self) -> Option<&(dyn error::Error + 'static)> {
         match self {
@@ -42,12 +80,29 @@ impl error::Error for LoadError {
     }
 }
 
+/// The file could not be read.
+///
+/// ```
+/// # use yeqontur::LoadError;
+/// let error = LoadError::from(std::io::Error::from(std::io::ErrorKind::NotFound));
+/// assert!(error.to_string().starts_with("there is no saved table: "));
+/// ```
 impl From<io::Error> for LoadError {
     fn from(error: io::Error) -> LoadError {
         LoadError::Io(error)
     }
 }
 
+/// The file was read, and refused.
+///
+/// ```
+/// # use yeqontur::{LoadError, Refusal, Table};
+/// fn table_of(bytes: &[u8]) -> Result<Table, LoadError> {
+///     Ok(Table::load(bytes)?)
+/// }
+///
+/// assert!(matches!(table_of(b"no table"), Err(LoadError::Refused(Refusal::WrongLength))));
+/// ```
 impl From<Refusal> for LoadError {
     fn from(refusal: Refusal) -> LoadError {
         LoadError::Refused(refusal)
@@ -60,21 +115,59 @@ impl Table {
     /// path has the old file or the new one, whole: that is tested. After a power failure it rests on the system's word
     /// that what it flushed is on the disk.
     ///
-    /// After an error the old file is as it was, and the new one is removed. One error comes later: if the folder
-    /// cannot be flushed after the rename, the new file is in place, but a power failure may bring the old one back.
-    ///
     /// A link is followed and stays a link; where it leads to nothing yet, the file is created there. A file that is
     /// marked read-only, or something that is no file, is not replaced. The new file gets the permissions of the old
     /// one; owner and group become those that the saving process gives a new file; another hard link to the old file
     /// keeps the old table. Of two programs that save to one path the last one's file stays, whole. A program that is
     /// ended while it saves may leave its new file behind, as `.yeqontur-PROCESS-NUMBER.tmp`: nothing reads it, and it
     /// may be removed.
+    ///
+    /// ```
+    /// # use yeqontur::Table;
+    /// # let folder = std::env::temp_dir().join(format!("yeqontur-save-{}", std::process::id()));
+    /// # std::fs::create_dir_all(&folder)?;
+    /// let path = folder.join("deposit.blocks");
+    /// let mut table = Table::new();
+    /// table.add(1, &[], &[])?;
+    /// table.save_to(&path)?;
+    /// assert_eq!(std::fs::read(&path)?, table.save());
+    /// table.add(2, &[], &[])?;
+    /// table.save_to(&path)?; // in place of the old file
+    /// assert_eq!(Table::load_from(&path)?, table);
+    /// # std::fs::remove_dir_all(&folder)?;
+    /// # Ok::<(), Box<dyn std::error::Error>>(())
+    /// ```
+    ///
+    /// # Errors
+    ///
+    /// What the system says. The old file is then as it was, and the new one is removed. One error comes later: if the
+    /// folder cannot be flushed after the rename, the new file is in place, but a power failure may bring the old one
+    /// back.
     pub fn save_to(&self, path: impl AsRef<Path>) -> io::Result<()> {
         replace(path.as_ref(), &self.save())
     }
 
     /// The table that was saved in a file. Whatever the file's length, at most 6,145 bytes are read: one more than a
     /// saved table can have is refused (16). Something that is no file, such as a folder or a pipe, is not read.
+    ///
+    /// ```
+    /// # use yeqontur::{LoadError, Refusal, Table};
+    /// # let folder = std::env::temp_dir().join(format!("yeqontur-load-{}", std::process::id()));
+    /// # std::fs::create_dir_all(&folder)?;
+    /// let path = folder.join("deposit.blocks");
+    /// assert!(matches!(Table::load_from(&path), Err(LoadError::Io(_)))); // nothing saved yet
+    /// std::fs::write(&path, "half a table")?;
+    /// let refused = Table::load_from(&path);
+    /// assert!(matches!(refused, Err(LoadError::Refused(Refusal::WrongLength))));
+    /// Table::new().save_to(&path)?;
+    /// assert_eq!(Table::load_from(&path)?, Table::new());
+    /// # std::fs::remove_dir_all(&folder)?;
+    /// # Ok::<(), Box<dyn std::error::Error>>(())
+    /// ```
+    ///
+    /// # Errors
+    ///
+    /// [`LoadError::Io`] with the system's error, or [`LoadError::Refused`] with 16 to 19.
     pub fn load_from(path: impl AsRef<Path>) -> Result<Table, LoadError> {
         let path = path.as_ref();
         if !fs::metadata(path)?.is_file() {

@@ -1,19 +1,48 @@
 //! Labels, and the walk over them.
 
 use crate::{raw, Table};
+use std::fmt;
 
-/// The label of an atom.
-#[derive(Clone, Copy, PartialEq, Eq, Debug)]
+/// The label of an atom: one of these three, and no other will come.
+///
+/// ```
+/// use yeqontur::{Label, Table};
+///
+/// let mut table = Table::new();
+/// table.add(1, &[2], &[3])?; // 1 if 2, and not 3
+/// assert_eq!(table.label(1)?, Label::Out);
+/// assert_eq!(table.label(4)?, Label::Absent);
+/// table.add(2, &[], &[])?;
+/// assert_eq!(table.label(1)?, Label::In { depth: 2, slot: 0 });
+/// # Ok::<(), yeqontur::Refusal>(())
+/// ```
+#[derive(Clone, Copy, PartialEq, Eq, Hash, Debug)]
 pub enum Label {
     /// The atom stands in no rule, muted or not.
     Absent,
     /// The atom stands in a rule, but no unmuted rule with this head is valid. A muted rule may have this head.
     Out,
     /// In, at its least depth, by the rule in the supporting slot.
-    In { depth: u32, slot: u32 },
+    In {
+        /// How many steps it is from the facts; 1 by a rule without positive entries.
+        depth: u32,
+        /// The slot of the rule that gives it at this depth; of several the lowest.
+        slot: u32,
+    },
 }
 
 impl Label {
+    /// Whether the atom is in.
+    ///
+    /// ```
+    /// # use yeqontur::Table;
+    /// let mut table = Table::new();
+    /// table.add(1, &[], &[2])?; // 1 if not 2
+    /// assert!(table.label(1)?.is_in());
+    /// assert!(!table.label(2)?.is_in());
+    /// # Ok::<(), yeqontur::Refusal>(())
+    /// ```
+    #[must_use]
     pub fn is_in(self) -> bool {
         matches!(self, Label::In { .. })
     }
@@ -28,6 +57,35 @@ impl Label {
     }
 }
 
+/// What follows `is` in a sentence.
+///
+/// ```
+/// # use yeqontur::Label;
+/// assert_eq!(Label::Absent.to_string(), "absent");
+/// assert_eq!(Label::Out.to_string(), "out");
+/// let label = Label::In { depth: 3, slot: 2 };
+/// assert_eq!(label.to_string(), "in, depth 3, by slot 2");
+/// ```
+impl fmt::Display for Label {
+    fn fmt(&self, f: &mut fmt::Formatter<'_>) -> fmt::Result {
+        match self {
+            Label::Absent => f.write_str("absent"),
+            Label::Out => f.write_str("out"),
+            Label::In { depth, slot } => write!(f, "in, depth {depth}, by slot {slot}"),
+        }
+    }
+}
+
+/// What a sound table keeps of an atom.
+///
+/// ```
+/// # use yeqontur::{Label, Table};
+/// let mut table = Table::new();
+/// table.add(1, &[], &[])?;
+/// let kept = &table.as_raw().labels[1];
+/// assert_eq!(Label::from(kept), Label::In { depth: 1, slot: 0 });
+/// # Ok::<(), yeqontur::Refusal>(())
+/// ```
 impl From<&raw::Label> for Label {
     fn from(kept: &raw::Label) -> Label {
         Label::from_numbers(kept.state.into(), kept.depth.into(), kept.slot.into())
@@ -36,6 +94,16 @@ impl From<&raw::Label> for Label {
 
 impl Table {
     /// The atoms that occur, ascending, each with its label. A sound table keeps every label, so this only reads.
+    ///
+    /// ```
+    /// # use yeqontur::Table;
+    /// let mut table = Table::new();
+    /// table.add(9, &[2], &[7])?; // 9 if 2, and not 7
+    /// table.add(2, &[], &[])?; // 2
+    /// let lines: Vec<String> = table.labels().map(|(atom, label)| format!("{atom} is {label}")).collect();
+    /// assert_eq!(lines, ["2 is in, depth 1, by slot 1", "7 is out", "9 is in, depth 2, by slot 0"]);
+    /// # Ok::<(), yeqontur::Refusal>(())
+    /// ```
     pub fn labels(&self) -> impl Iterator<Item = (u32, Label)> + '_ {
         (0..)
             .zip(&self.as_raw().labels)

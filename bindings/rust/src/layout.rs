@@ -2,7 +2,7 @@
 //! `include/yeqontur.h` has on x86-64, and no struct of a table has padding.
 
 use crate::raw::{Accepted, Change, Completeness, Label, LabelAnswer};
-use crate::raw::{ListAnswer, Rule, SpoilerAnswer, Table};
+use crate::raw::{ListAnswer, Rule, SpoilerAnswer, Table, LAYOUT};
 use std::mem::{align_of, offset_of, size_of};
 
 /// The struct's fields stand at these offsets, and it has this size and alignment.
@@ -12,6 +12,9 @@ macro_rules! lies {
         $(const _: () = assert!(offset_of!($name, $field) == $offset);)*
     };
 }
+
+// The layout of these lines. Whoever changes one of them gives it the next number, in the header and the library too.
+const _: () = assert!(LAYOUT == 1);
 
 lies!(Rule, 22, 2, state 0, head 2, positives 4, negatives 5, entries 6);
 lies!(Label, 6, 2, state 0, depth 2, slot 4);

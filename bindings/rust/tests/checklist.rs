@@ -50,13 +50,14 @@ fn the_rules_of_an_opening_are_those_of_the_request() {
     let mut rules = checklist.table().rules();
     assert_eq!(
         rules.next().map(|rule| rule.to_string()),
-        Some("0 < ".to_string())
+        Some("0 <".to_string())
     );
     for (file, rule) in (1..=60).zip(&mut rules) {
         let Atoms {
             sent,
             skipped,
             good,
+            ..
         } = checklist.atoms(file).expect("a file");
         assert_eq!(
             (sent, skipped, good),
@@ -422,7 +423,7 @@ fn stops(why: &Why) -> Vec<(u32, Side, u32)> {
                 Stop::Spoiled { side, by, .. } => {
                     [vec![(why.atom, *side, by.atom)], stops(by)].concat()
                 }
-                Stop::Muted => panic!("a checklist has no muted rule"),
+                other => panic!("of a checklist: {other:?}"),
             })
             .collect(),
         _ => Vec::new(),

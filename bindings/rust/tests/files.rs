@@ -386,7 +386,7 @@ fn the_words_of_a_refused_file_say_what_to_do() {
         "refused 16: the file's length is not 512 bytes times 1 to 12; it was cut short, or is no saved table: \
          keep it aside, and load a copy or add the rules again"
     );
-    for refusal in Refusal::ALL {
+    for &refusal in Refusal::ALL {
         let of_a_file = (16..=19).contains(&refusal.number());
         let aside = refusal.advice().contains("keep it aside");
         assert_eq!(aside, of_a_file, "{refusal}");

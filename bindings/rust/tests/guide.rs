@@ -86,34 +86,124 @@ fn the_readme_quotes_the_story() {
     assert!(file("README.md").contains(&format!("prints:\n\n{quoted}\n")));
 }
 
-/// The program with a file has those of a file.
-#[test]
-fn guide_header_and_c_programs_have_the_words_of_each_refusal() {
-    let guide = file("docs/GUIDE.md");
+/// A refusal as the header lists it.
+#[derive(Debug)]
+struct Listed {
+    number: u32,
+    /// `HEAD_TOO_LARGE`.
+    name: String,
+    words: String,
+    advice: String,
+}
+
+/// The header's list of refusals, which is where their words stand: `EACH(1, HEAD_TOO_LARGE, "words", "advice")`. Each
+/// line but the last ends with a backslash, so the list's end is the end of the macro.
+fn listed() -> Vec<Listed> {
     let header = file("include/yeqontur.h");
-    let program = file("bindings/c/guide.c");
-    let with_a_file = file("bindings/c/restart.c");
-    for refusal in Refusal::ALL {
-        let (number, words, advice) = (refusal.number(), refusal.words(), refusal.advice());
-        assert!(guide.contains(&format!("\n| {number} | {words} | {advice} |\n")));
-        assert!(
-            header.contains(&format!("\n *   {number:2}  {words}")),
-            "{number}"
-        );
-        let line = format!("    \"{words}\",\n");
-        assert!(program.contains(&line), "{number}");
-        let of_a_file = (16..=19).contains(&number);
-        assert_eq!(with_a_file.contains(&line), of_a_file, "{number}");
+    let start = "#define YEQONTUR_REFUSALS(EACH)";
+    let lines = header.lines().skip_while(|line| !line.starts_with(start));
+    let mut ends = false;
+    let list: String = lines
+        .take_while(|line| !std::mem::replace(&mut ends, !line.ends_with('\\')))
+        .collect();
+    let entry = |text: &str| {
+        let quoted: Vec<&str> = text.split('"').collect();
+        let names: Vec<&str> = quoted[0].split(',').map(str::trim).collect();
+        Listed {
+            number: names[0].parse().expect(text),
+            name: names[1].to_string(),
+            words: quoted[1].to_string(),
+            advice: quoted[3].to_string(),
+        }
+    };
+    list.split("EACH(").skip(1).map(entry).collect()
+}
+
+/// What a sheet is told of a line; no call answers it.
+const OF_SHEETS: [u32; 2] = [13, 14];
+
+/// The name in Rust: `HeadTooLarge` of `HEAD_TOO_LARGE`.
+fn in_rust(name: &str) -> String {
+    let word = |word: &str| word[..1].to_string() + &word[1..].to_lowercase();
+    name.split('_').map(word).collect()
+}
+
+#[test]
+fn the_header_lists_the_refusals_by_number() {
+    let numbers: Vec<u32> = listed().iter().map(|refusal| refusal.number).collect();
+    assert!(numbers.into_iter().eq(1..=22));
+}
+
+#[test]
+fn the_refusals_of_the_crate_are_those_of_the_header() {
+    let header = listed();
+    let of_calls = header.iter().filter(|r| !OF_SHEETS.contains(&r.number));
+    assert_eq!(of_calls.clone().count(), Refusal::ALL.len());
+    for (listed, &refusal) in of_calls.zip(Refusal::ALL) {
+        assert_eq!(refusal.number(), listed.number);
+        assert_eq!(refusal.words(), listed.words);
+        assert_eq!(refusal.advice(), listed.advice);
+        let name = format!("{refusal:?}");
+        let (name, _) = name.split_once(' ').unwrap_or((&name, "")); // 11 has a field
+        assert_eq!(name, in_rust(&listed.name));
+    }
+}
+
+#[test]
+fn words_and_advice_of_a_number_are_those_of_the_header() {
+    for listed in listed() {
+        assert_eq!(yeqontur::words(listed.number), Some(&listed.words[..]));
+        assert_eq!(yeqontur::advice(listed.number), Some(&listed.advice[..]));
+    }
+    for number in [0, 23, u32::MAX] {
+        assert_eq!(yeqontur::words(number), None);
+        assert_eq!(yeqontur::advice(number), None);
+    }
+}
+
+/// Row by row, so that none is missing and none is too many.
+#[test]
+fn the_guide_s_table_of_refusals_is_the_header_s_list() {
+    let guide = file("docs/GUIDE.md");
+    let (_, table) = guide
+        .split_once("| number | in Rust | in C | what is the matter | what to do |\n|---|---|---|---|---|\n")
+        .expect("the table");
+    let (table, _) = table.split_once("\n\n").expect("its end");
+    let row = |listed: Listed| {
+        let Listed {
+            number,
+            name,
+            words,
+            advice,
+        } = listed;
+        let rust = match OF_SHEETS.contains(&number) {
+            true => "-".to_string(),
+            false => format!("`{}`", in_rust(&name)),
+        };
+        format!("| {number} | {rust} | `YEQONTUR_REFUSED_{name}` | {words} | {advice} |")
+    };
+    let rows: Vec<String> = listed().into_iter().map(row).collect();
+    assert_eq!(table.lines().collect::<Vec<_>>(), rows);
+}
+
+/// They call `yeqontur_words` of the header. What a test says that it expects is not a copy.
+#[test]
+fn no_c_program_copies_the_words() {
+    let programs = std::fs::read_dir(root().join("bindings/c")).expect("the programs");
+    for program in programs {
+        let path = program.expect("a program").path();
+        let text = std::fs::read_to_string(&path).expect("a text");
+        let lines = text.lines().filter(|line| !line.contains(" expect("));
+        let text: String = lines.collect();
+        for Listed { words, .. } in listed() {
+            let copy = format!("\"{words}\"");
+            assert!(!text.contains(&copy), "{}: {words}", path.display());
+        }
     }
 }
 
 #[test]
 fn a_refusal_prints_its_number_its_words_and_what_to_do() {
-    let numbers = Refusal::ALL.map(Refusal::number);
-    let calls = [
-        1, 2, 3, 4, 5, 6, 7, 8, 9, 10, 11, 12, 15, 16, 17, 18, 19, 20, 21, 22,
-    ];
-    assert_eq!(numbers, calls);
     assert_eq!(
         Refusal::TableFull.to_string(),
         "refused 6: no slot is free; remove a rule that is no longer needed, or open a second table"

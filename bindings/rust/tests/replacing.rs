@@ -27,7 +27,7 @@ fn the_new_rule_takes_the_slot_of_the_old_one() {
     let mut t = table(&[(9, &[], &[]), (1, &[], &[]), (2, &[1], &[]), (4, &[2], &[])]);
     assert_eq!(t.remove(0), Ok(()));
     assert_eq!(t.replace(2, 3, &[1], &[5]), Ok(()));
-    assert_eq!(written(&t), ["1: 1 < ", "2: 3 < 1, not 5", "3: 4 < 2"]);
+    assert_eq!(written(&t), ["1: 1 <", "2: 3 < 1, not 5", "3: 4 < 2"]);
     let labels: Vec<_> = t.labels().collect();
     let expected = [
         (1, Label::In { depth: 1, slot: 1 }),

@@ -3,7 +3,7 @@
 mod common;
 
 use common::{table, Random};
-use yeqontur::{Label, Rule, Table};
+use yeqontur::{Label, Rule, Side, Table};
 
 #[test]
 fn an_empty_table_has_nothing_to_walk() {
@@ -28,19 +28,12 @@ fn rules_by_slot_without_the_free_ones_each_list_ascending_muted_or_not() {
     let mut t = table(&[(9, &[2, 1], &[7]), (2, &[], &[]), (255, &[], &[9, 3])]);
     assert_eq!(t.remove(1), Ok(()));
     assert_eq!(t.mute(2), Ok(()));
-    let rule = |slot, head, positives: &[u32], negatives: &[u32], muted| Rule {
-        slot,
-        head,
-        positives: positives.to_vec(),
-        negatives: negatives.to_vec(),
-        muted,
-    };
     let rules: Vec<Rule> = t.rules().collect();
-    let expected = [
-        rule(0, 9, &[1, 2], &[7], false),
-        rule(2, 255, &[], &[3, 9], true),
-    ];
-    assert_eq!(rules, expected);
+    let fields: Vec<(u32, u32, bool)> = rules.iter().map(|r| (r.slot, r.head, r.muted)).collect();
+    assert_eq!(fields, [(0, 9, false), (2, 255, true)]);
+    let lists = |side| rules.iter().map(|r| r.list(side)).collect::<Vec<_>>();
+    assert_eq!(lists(Side::Positive), [&[1, 2][..], &[]]);
+    assert_eq!(lists(Side::Negative), [[7].as_slice(), &[3, 9]]);
     let written: Vec<String> = rules.iter().map(Rule::to_string).collect();
     assert_eq!(written, ["9 < 1, 2, not 7", "255 < not 3, not 9"]);
 }

@@ -19,6 +19,7 @@ fn told(why: &Why) -> String {
         Because::Stopped(rules) => rules.iter().map(told_stop).collect(),
         Because::Above => vec!["above".to_string()],
         Because::Earlier => vec!["earlier".to_string()],
+        other => panic!("{other:?}"),
     };
     match &branches[..] {
         [] => format!("{} {label}", why.atom),
@@ -26,13 +27,14 @@ fn told(why: &Why) -> String {
     }
 }
 
-fn told_stop(Stopped { rule, stop }: &Stopped) -> String {
+fn told_stop(Stopped { rule, stop, .. }: &Stopped) -> String {
     let how = match stop {
         Stop::Spoiled { side, by, .. } => match side {
             Side::Positive => format!("needs {}", told(by)),
             Side::Negative => format!("blocked by {}", told(by)),
         },
         Stop::Muted => "muted".to_string(),
+        other => panic!("{other:?}"),
     };
     format!("{} {how}", rule.slot)
 }
@@ -159,7 +161,7 @@ fn nodes(why: &Why) -> Vec<&Why> {
         Because::Supported { from, .. } => all.extend(from.iter().flat_map(nodes)),
         Because::Stopped(rules) => all.extend(rules.iter().flat_map(|s| match &s.stop {
             Stop::Spoiled { by, .. } => nodes(by),
-            Stop::Muted => Vec::new(),
+            _ => Vec::new(),
         })),
         _ => {}
     }
@@ -167,7 +169,7 @@ fn nodes(why: &Why) -> Vec<&Why> {
 }
 
 /// What is told of a stopped rule is what the calls answer.
-fn stops(t: &Table, Stopped { rule, stop }: &Stopped) {
+fn stops(t: &Table, Stopped { rule, stop, .. }: &Stopped) {
     assert_eq!(rule.muted, *stop == Stop::Muted);
     let validity = match stop {
         Stop::Muted => Validity::Muted,
@@ -177,7 +179,9 @@ fn stops(t: &Table, Stopped { rule, stop }: &Stopped) {
             let (side, place, atom) = (*side, *place, by.atom);
             Validity::Spoiled { side, place, atom }
         }
+        other => panic!("{other:?}"),
     };
+    assert_eq!(stop.to_string(), validity.to_string());
     assert_eq!(t.spoiler(rule.slot), Ok(validity));
 }
 

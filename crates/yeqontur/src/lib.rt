@@ -43,6 +43,27 @@ ghost use Rattle.checklist.specs.Questions.{file-sent, file-skipped, skip-withd
 ghost use Rattle.checklist.specs.Contracts.{OpenEnds, FileEnds, MissingEnds};
 ghost use Rattle.yeqontur.specs.Crossing.{AddCrosses, RemoveCrosses, LabelCrosses, SpoilerCrosses, ListCrosses};
 ghost use Rattle.yeqontur.specs.Crossing.{ChangeCrosses, CompleteCrosses};
+ghost use Rattle.yeqontur.specs.Versions.{version, layout};
+
+const VERSION: u32 = 200;
+
+const LAYOUT: u32 = 1;
+
+// The version of the library that the program runs with.
+#[no_mangle]
+pub extern "C" fn yeqontur_version() -> u32
+    ensures { λ r. ⌜ r ≡ version ⌝ }
+{
+    VERSION
+}
+
+// The layout of its tables and answers.
+#[no_mangle]
+pub extern "C" fn yeqontur_layout() -> u32
+    ensures { λ r. ⌜ r ≡ layout ⌝ }
+{
+    LAYOUT
+}
 
 // The table in which every slot is free.
 #[no_mangle]

@@ -152,17 +152,19 @@ impl Words<'_> {
             Because::Stopped(_) => {}
             Because::Above => lines.push("shown above: it waits for itself".to_string()),
             Because::Earlier => lines.push("its reason is shown already".to_string()),
+            other => panic!("not drawn yet: {other:?}"),
         }
         lines
     }
 
     /// A rule of an out atom, and how it hangs below the atom.
-    fn stopped(&self, Stopped { rule, stop }: &Stopped) -> (Link, usize, Card) {
+    fn stopped(&self, Stopped { rule, stop, .. }: &Stopped) -> (Link, usize, Card) {
         match stop {
             Stop::Spoiled { side, place, by } => {
                 (Link::HasRule, 1, self.spoiled(rule, *side, *place, by))
             }
             Stop::Muted => (Link::HasMuted, 1, self.muted(rule)),
+            other => panic!("not drawn yet: {other}"),
         }
     }
 
