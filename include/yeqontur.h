@@ -74,11 +74,11 @@ typedef struct {
     uint16_t slot;
 } yeqontur_kept_label;
 
-/* A table goes in by value and comes back by value. Any bytes are a table; question 15 says whether it is sound. A
- * table with a list that does not ascend is not, nor is one with the same rule in two slots, muted or not. Its structs
- * have no padding, so two sound tables with the same rules in the same slots, the same of them muted, are equal byte
- * for byte (memcmp): a table can be stored, compared and hashed as the 7,168 bytes that it is. The empty table is all
- * zero. */
+/* A table goes in by value and comes back by value. Any bytes are a table; question 15 says whether it is sound
+ * (docs/SPECIFICATION.md, 3.4). A table with a list that does not ascend is not, nor is one with the same rule in two
+ * slots, muted or not. Its structs have no padding, so two sound tables with the same rules in the same slots, the same
+ * of them muted, are equal byte for byte (memcmp): a table can be stored, compared and hashed as the 7,168 bytes that it
+ * is. The empty table is all zero. */
 typedef struct {
     yeqontur_rule rules[YEQONTUR_SLOTS];
     yeqontur_kept_label labels[YEQONTUR_ATOMS];

@@ -1,4 +1,4 @@
-//! A separate slow engine: what document 01 and the change requests define, computed from their sentences.
+//! A separate slow engine: what docs/SPECIFICATION.md defines, computed from its sentences.
 //!
 //! It is written to be held against the verified engine and shares nothing with it.
 

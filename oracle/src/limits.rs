@@ -1,4 +1,4 @@
-//! The limits of document 01, in one place.
+//! The limits of the table (specification 1.5), in one place.
 
 /// How many slots a table has; slot numbers are below it.
 pub const SLOTS: usize = 256;

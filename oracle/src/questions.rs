@@ -33,7 +33,7 @@ pub enum Refusal {
 }
 
 impl Refusal {
-    /// The number of the question in document 01, or in the request that brought it.
+    /// The number of the question (specification 3.2).
     pub fn number(self) -> u32 {
         match self {
             Refusal::HeadTooLarge => 1,

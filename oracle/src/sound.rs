@@ -1,4 +1,4 @@
-//! Question 15: is a raw table sound?
+//! Question 15: is a raw table sound (specification 3.4)?
 
 use crate::labels::Labelled;
 use crate::limits::ENTRIES;

@@ -1,4 +1,4 @@
-//! Question 15: the kept labels as a certificate.
+//! Question 15 (specification 3.4): the kept labels as a certificate.
 
 use super::labels::{occurring, strata};
 use super::{has, negatives, number, positives, valid, Flags, Numbers};

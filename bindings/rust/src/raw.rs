@@ -147,8 +147,9 @@ pub struct Label {
     pub slot: u16,
 }
 
-/// Any bytes are a table; question 15 says whether it is sound. There is no padding, so two sound tables with the same
-/// rules in the same slots, the same of them muted, have the same bytes, and those of the empty table are all 0.
+/// Any bytes are a table; question 15 (specification 3.4) says whether it is sound. There is no padding, so two sound
+/// tables with the same rules in the same slots, the same of them muted, have the same bytes, and those of the empty
+/// table are all 0.
 ///
 /// ```
 /// # use yeqontur::raw;

@@ -1,4 +1,4 @@
-//! The small tables T1 to T13 of the specification, on the proved library.
+//! The small tables T1 to T13 (specification 10.1), on the proved library.
 
 mod common;
 

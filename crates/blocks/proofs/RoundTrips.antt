@@ -174,7 +174,7 @@ module _ (limits : Limits) where
       (and-r (distinctRules (map ruleIn ps)) _
       (and-r (every (right limits) ps) _ (and-r low _ (and-r up _ t))))
 
--- With the document's limits.
+-- With the specification's limits (`document`).
 
 module _
     (B : Pages) (passes : (s : ℕ) (r : Rule) → Held (all B) s r → first-no (rule-questions document r) ≡ none)

@@ -1,5 +1,6 @@
--- The plain book's step for loading: it asks 16 to 19 of the bytes. At the first no it answers that number and all
--- pages are free; otherwise its pages are the records, and the answer is that it was accepted. Assumes nothing.
+-- The plain book's step for loading (specification 5.2): it asks 16 to 19 of the bytes. At the first no it answers that
+-- number and all pages are free; otherwise its pages are the records, and the answer is that it was accepted. Assumes
+-- nothing.
 use Prim.Native.Nat.{ℕ}
 use mathlib.Core.List.{List}
 use mathlib.Core.Option.{none, some}

@@ -1,4 +1,5 @@
--- The file of the pages of a book: their rules and marks as blocks of 512 bytes. Assumes nothing.
+-- The file of the pages of a book: their rules and marks as blocks of 512 bytes (specification 7.1 to 7.4). Assumes
+-- nothing.
 use Prim.Native.Nat.{ℕ, zero, suc, max, _+_, _/_}
 use mathlib.Core.List.{List, [], _∷_, _++_}
 use lib.ListN.{length, take, drop}

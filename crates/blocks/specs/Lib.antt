@@ -1,4 +1,4 @@
--- A table on disk, by request #103: the bytes that are written, and the questions that are asked of bytes. A reader of
+-- A table on disk (specification 7): the bytes that are written, and the questions that are asked of bytes. A reader of
 -- saving and loading believes these.
 pub mod Words
 pub mod Sums

@@ -1,4 +1,4 @@
--- A place of a block: 22 bytes, the record of one rule and its mark. Assumes nothing.
+-- A place of a block: 22 bytes, the record of one rule and its mark (specification 7.3). Assumes nothing.
 use Prim.Native.Nat.{ℕ, suc, _+_, _%_}
 use mathlib.Core.Bool.{Bool, cond}
 use mathlib.Core.List.{List, [], _∷_, _++_}

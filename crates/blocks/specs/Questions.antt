@@ -1,5 +1,5 @@
--- Questions 16 to 19, asked of any bytes in this order over the whole file, and the pages that a file has. Assumes
--- nothing.
+-- Questions 16 to 19 (specification 7.7), asked of any bytes in this order over the whole file, and the pages that a
+-- file has. Assumes nothing.
 use Prim.Native.Nat.{ℕ, zero, suc, _+_, _*_, _/_, _%_}
 use mathlib.Core.Bool.{Bool, true, false, not, cond, _&&_, _||_}
 use mathlib.Core.List.{List, [], _∷_, _++_, map}

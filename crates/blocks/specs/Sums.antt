@@ -1,4 +1,4 @@
--- The two sums of a block, its checksum. Assumes nothing.
+-- The two sums of a block, its checksum (specification 7.5). Assumes nothing.
 use Prim.Native.Nat.{ℕ, _+_, _%_}
 use mathlib.Core.List.{List, [], _∷_}
 

@@ -1,4 +1,4 @@
-// A file's sizes, numbers of two bytes, and the two sums of a block (request #103). Document 01's limits of the table
+// A file's sizes, numbers of two bytes, and the two sums of a block (specification 7.1 to 7.5). The limits of the table
 // stand in `table`; these are the format's.
 use std::num::wrapping_add_u16;
 ghost use mathlib.Core.Path.{_≡_};

@@ -21,7 +21,7 @@ use Rattle.calls.specs.declared.LabelAnswer.the-variants as labelled
 use Rattle.calls.specs.declared.SpoilerAnswer.{SpoilerAnswer}
 use Rattle.calls.specs.declared.SpoilerAnswer.the-variants as spoilt
 
--- What a refusal tells: its number, by document 01 or by request #103 or #106, and the length needed, which 11 carries.
+-- What a refusal tells: its number (specification 3.2), and the length needed, which 11 carries.
 abbrev pub told : Refusal → ℕ × ℕ
 told Head = (1, 0)
 told Entries = (2, 0)

@@ -1,5 +1,5 @@
--- The ways in which each call can end: the table not sound (15), the first question answered no, or accepted. Each says
--- the answer, the table and every entry of the buffer. Assumes nothing.
+-- The ways in which each call can end (specification 4.2 to 4.10): the table not sound (15), the first question
+-- answered no, or accepted. Each says the answer, the table and every entry of the buffer. Assumes nothing.
 use Prim.Native.Nat.{ℕ, _≤_, _<_}
 use mathlib.Core.Path.{_≡_}
 use mathlib.Core.Bool.{Bool}

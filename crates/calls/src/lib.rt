@@ -11,7 +11,8 @@ ghost use Rattle.calls.specs.Asking.{AskEnds};
 
 pub mod slots; // slots.rt: the questions that a call on a slot asks first
 
-// A refusal: a case for each question that a call can answer no. Its number is document 01's (specs/Answers).
+// A refusal: a case for each question that a call can answer no. Its number is that of specification 3.2
+// (specs/Answers).
 pub enum Refusal {
     Head,
     Entries,

@@ -1,4 +1,4 @@
--- Private to question 15: what is kept of the atoms, compared with the slots.
+-- Private to question 15 (specification 3.4): what is kept of the atoms, compared with the slots.
 -- Assumes nothing.
 use Prim.Native.Nat.{ℕ, _≤_}
 use mathlib.Core.Path.{_≡_}

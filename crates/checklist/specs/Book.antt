@@ -1,5 +1,5 @@
--- The plain book's step for each call of a checklist: what it answers, and its pages after. It asks its pages. Assumes
--- nothing.
+-- The plain book's step for each call of a checklist (specification 5.2): what it answers, and its pages after. It asks
+-- its pages. Assumes nothing.
 use Prim.Native.Nat.{ℕ, zero, suc, _-_}
 use mathlib.Core.List.{_∷_, _++_, map}
 use mathlib.Core.Option.{Option, none, some}

@@ -1,5 +1,5 @@
--- The ways in which each call of a checklist can end. Each says the answer, the table and every entry of the buffer.
--- Assumes nothing.
+-- The ways in which each call of a checklist can end (specification 8.5 and 8.6). Each says the answer, the table and
+-- every entry of the buffer. Assumes nothing.
 use Prim.Native.Nat.{ℕ}
 use mathlib.Core.Path.{_≡_}
 use mathlib.Core.Bool.{Bool, true, false}

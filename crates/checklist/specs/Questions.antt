@@ -1,4 +1,5 @@
--- The calls on a checklist, and the questions that they ask of the pages, by number. Assumes nothing.
+-- The calls on a checklist, and the questions that they ask of the pages, by number (specification 8.5). Assumes
+-- nothing.
 use Prim.Native.Nat.{ℕ}
 use mathlib.Core.Bool.{Bool, false, not, _&&_, _||_}
 use mathlib.Core.List.{List, [], _∷_}

@@ -37,7 +37,7 @@ pub enum CompleteAnswer {
     Refused(Refusal),
 }
 
-// What questions 15, as far as the rules go, and 20 answer.
+// What questions 15 (specification 8.4), as far as the rules go, and 20 answer.
 enum AskedFile {
     Passed,
     Refused(Refusal),

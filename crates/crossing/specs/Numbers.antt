@@ -1,4 +1,4 @@
--- The calls' answers as numbers: `refused` is 0 or the refusal's number. Assumes nothing.
+-- The calls' answers as numbers: `refused` is 0 or the refusal's number (specification 3.2). Assumes nothing.
 use Prim.Native.Nat.{ℕ}
 use Rattle.table.specs.declared.Table.{Table}
 use Rattle.calls.specs.declared.AddAnswer.{AddAnswer}

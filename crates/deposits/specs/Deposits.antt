@@ -1,5 +1,6 @@
--- Request #106 over sequences: a checklist was opened for n files, the opening was accepted, and then calls on files
--- were made, whichever they were. What the table shows is read off these calls and their answers. Assumes nothing.
+-- Request #106 over sequences (specification 9.7): a checklist was opened for n files, the opening was accepted, and
+-- then calls on files were made, whichever they were. What the table shows is read off these calls and their answers.
+-- Assumes nothing.
 use Prim.Native.Nat.{ℕ, _≤_}
 use mathlib.Core.Path.{_≡_}
 use mathlib.Core.Logic.{_⊎_, _↔_}

@@ -1,3 +1,3 @@
--- Request #106 over a list of calls: what a reader believes when told that `deposit` holds.
+-- Request #106 over a list of calls (specification 9.7): what a reader believes when told that `deposit` holds.
 pub mod Standing
 pub mod Deposits

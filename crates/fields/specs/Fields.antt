@@ -1,4 +1,4 @@
--- Fields as they are printed (document 01, "The sheet program"): decimal numbers parted by one space. Assumes nothing.
+-- Fields as they are printed (specification 6.9): decimal numbers parted by one space. Assumes nothing.
 use Prim.Native.Nat.{ℕ, zero, suc, _+_, _/_, _%_}
 use Prim.Native.Char.{code}
 use mathlib.Core.Bool.{cond}

@@ -1,5 +1,5 @@
--- Request #106: the checklist of n files, 1 to 60: its atoms, its frame, its marks, and which pages are one. Assumes
--- nothing.
+-- The checklist of n files, 1 to 60 (specification 8.1 to 8.4): its atoms, its frame, its marks, and which pages are
+-- one. Assumes nothing.
 use Prim.Native.Nat.{ℕ, zero, suc, _-_, _*_, _≤_, _<_}
 use mathlib.Core.Path.{_≡_}
 use mathlib.Core.Bool.{Bool, true, false, not, _&&_, _||_}

@@ -1,6 +1,6 @@
--- Demand 2: after an addition, a removal, a replacement, a muting, a load or a call of a checklist an atom is in if and
--- only if it is in the admissible model of the unmuted rules now held; a rule that closes a loop through a negation is
--- refused by 7, and no other is. Request #102, of the calls. Assumes nothing.
+-- Demand 2 (specification 9.2): after an addition, a removal, a replacement, a muting, a load or a call of a checklist
+-- an atom is in if and only if it is in the admissible model of the unmuted rules now held; a rule that closes a loop
+-- through a negation is refused by 7, and no other is. Request #102, of the calls. Assumes nothing.
 use Prim.Native.Nat.{ℕ, _<_}
 use native.Mathlib.Omega.{arith}
 use mathlib.Core.Path.{_≡_, refl, sym, _∙_, ap, subst}

@@ -1,5 +1,5 @@
--- Demand 3 holds after any list of calls from the empty table, each meeting its contract; and demand 2 after each.
--- Assumes nothing.
+-- Demand 3 (specification 9.3) holds after any list of calls from the empty table, each meeting its contract; and
+-- demand 2 after each. Assumes nothing.
 use Prim.Native.Nat.{ℕ, _<_}
 use mathlib.Core.Path.{_≡_, refl, sym, _∙_, ap, ap₂, subst}
 use mathlib.Core.Logic.{⊎-elim}

@@ -1,5 +1,5 @@
--- Every call that changes a table or hands one back, and the plain book's step for it: what the book answers, and its
--- pages after. Nothing here speaks of a table. Assumes nothing.
+-- Every call that changes a table or hands one back, and the plain book's step for it (specification 5.2): what the
+-- book answers, and its pages after. Nothing here speaks of a table. Assumes nothing.
 use Prim.Native.Nat.{ℕ}
 use mathlib.Core.List.{List, [], _∷_}
 use Rattle.theory.specs.Rules.{Pages}

@@ -1,6 +1,6 @@
--- Demands 2 and 3 of document 01. A list of calls, each getting the table that the last handed back, and what is
--- claimed after it: answers, rules with their marks, labels, depths, supports and spoilers are those of the plain book.
--- Assumes nothing.
+-- Demands 2 and 3 (specification 9.2 and 9.3). A list of calls, each getting the table that the last handed back, and
+-- what is claimed after it: answers, rules with their marks, labels, depths, supports and spoilers are those of the
+-- plain book. Assumes nothing.
 use Prim.Native.Nat.{ℕ, _≤_, _<_}
 use mathlib.Core.Path.{_≡_}
 use mathlib.Core.Logic.{_↔_}

@@ -1,4 +1,4 @@
--- The claim over sequences: what a reader believes when told that it holds.
+-- The claim over sequences (specification 5.5): what a reader believes when told that it holds.
 pub mod Calls
 pub mod Claim
 pub mod Encoding

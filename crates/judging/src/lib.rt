@@ -24,7 +24,8 @@ impl Passed {
     pub const ROOM: usize = 8192;
 }
 
-// Questions 14 and 13 of a line: what it prints ends at this place of the buffer, or it is a command.
+// Questions 14 and 13 (specification 6.8) of a line: what it prints ends at this place of the buffer, or it is a
+// command.
 pub enum Judged {
     Told(usize),
     Command(Command),

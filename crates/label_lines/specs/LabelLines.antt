@@ -1,4 +1,4 @@
--- The lines that are printed of the labels (document 01, "The sheet program"). Assumes nothing.
+-- The lines that are printed of the labels (specification 6.7). Assumes nothing.
 use Prim.Native.Nat.{ℕ, zero, suc}
 use mathlib.Core.List.{List, [], _++_}
 use Rattle.theory.specs.Labels.{Label, absent, out, in-at}

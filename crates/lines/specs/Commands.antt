@@ -1,4 +1,4 @@
--- The commands of a sheet and their forms (document 01, "The sheet program"). Assumes nothing.
+-- The commands of a sheet and their forms (specification 6.7). Assumes nothing.
 use Prim.Native.Nat.{ℕ}
 use Prim.Native.Char.{code}
 use mathlib.Core.Bool.{cond}

@@ -1,4 +1,4 @@
--- What a line is, and how the code's answer says it. Assumes nothing.
+-- What a line is (specification 6.4 and 6.8), and how the code's answer says it. Assumes nothing.
 use Prim.Native.Nat.{ℕ, _+_, _-_, _≤_}
 use mathlib.Core.Path.{_≡_}
 use mathlib.Core.Bool.{Bool, true, cond, _&&_}

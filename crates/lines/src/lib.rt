@@ -12,7 +12,8 @@ pub enum Command {
     Labels,
 }
 
-// What a line is: blank, over-long (question 14), without the form (question 13), or a command.
+// What a line is (specification 6.4 to 6.8): blank, over-long (question 14), without the form (question 13), or a
+// command.
 pub enum Reading {
     Blank,
     TooLong,

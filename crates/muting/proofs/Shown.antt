@@ -1,5 +1,5 @@
--- What request #108 asks to be shown, of what the calls answer and hand back. (Demands 2 and 3 with mutings stand in
--- crates/history.) Assumes nothing.
+-- What request #108 asks to be shown (specification 9.5), of what the calls answer and hand back. (Demands 2 and 3 with
+-- mutings stand in crates/history.) Assumes nothing.
 use Prim.Native.Nat.{ℕ, _<_}
 use native.Mathlib.Omega.{arith}
 use mathlib.Core.Path.{_≡_, refl, sym, _∙_, ap, ap₂, subst}

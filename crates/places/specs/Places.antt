@@ -1,5 +1,5 @@
--- A place in a sheet: an offset in a line's bytes, and the line's number (document 01, "The sheet program": the reader
--- keeps one place in the line, moves it past blanks and counts lines as it goes). Assumes nothing.
+-- A place in a sheet: an offset in a line's bytes, and the line's number (specification 9.11: the reader keeps one
+-- place, moved past blanks, and counts lines by it). Assumes nothing.
 use Prim.Native.Char.{code}
 use Prim.Native.Nat.{ℕ, zero, suc, _+_, _-_, _^_, min, _≤_}
 use mathlib.Core.Path.{_≡_}

@@ -1,5 +1,5 @@
--- The lines that are printed of a command that was obeyed, and of a refusal (document 01, "The sheet program"): words
--- and decimal fields parted by one space, each line with its newline. Assumes nothing.
+-- The lines that are printed of a command that was obeyed, and of a refusal (specification 6.7 to 6.9): words and
+-- decimal fields parted by one space, each line with its newline. Assumes nothing.
 use Prim.Native.Nat.{ℕ}
 use mathlib.Core.List.{List, _++_}
 use Rattle.fields.specs.Texts.{bytes, newline}

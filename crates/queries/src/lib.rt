@@ -1,5 +1,5 @@
-// The calls that ask a table and change nothing. Each asks question 15 first, so that the kept labels are the defined
-// ones, then those of its argument; the first answered no is the refusal.
+// The calls that ask a table and change nothing. Each asks question 15 (specification 3.4) first, so that the kept
+// labels are the defined ones, then those of its argument; the first answered no is the refusal.
 use affected::reached;
 use calls::Asked;
 use calls::AskedSlot;

@@ -1,4 +1,4 @@
-// Questions 1 to 4, of the bare arguments of an addition, and of what a slot holds.
+// Questions 1 to 4 (specification 3.2), of the bare arguments of an addition, and of what a slot holds.
 use table::Table;
 ghost use mathlib.Core.Path.{_≡_};
 ghost use Prim.Native.Nat.{_+_};

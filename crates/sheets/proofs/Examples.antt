@@ -1,4 +1,4 @@
--- The lines and calls of some sheets, document 01's among them. Assumes nothing.
+-- The lines and calls of some sheets, the specification's among them. Assumes nothing.
 use mathlib.Core.Path.{_≡_, refl}
 use mathlib.Core.List.{[], _∷_, map}
 use Rattle.theory.specs.Book.{add, remove, replace}
@@ -24,8 +24,8 @@ pub lines-shown :
 unfolding bytes endedLines behindNewlines
 lines-shown = refl
 
--- Document 01's sheet; and one with a blank line, an unread line, a refused number, a replacement and a last line
--- without its newline.
+-- The first nine lines of the specification's sheet (specification 6.10); and a sheet with a blank line, an unread
+-- line, a refused number, a replacement and a last line without its newline.
 pub calls-shown :
     map callsOf
     (bytes "A 1 : 2\nA 2 : ! 3\nA 4 : 1\nA 3 :\nL\nR 3\nL\nW 1\nW 3\n"

@@ -1,5 +1,5 @@
--- The lines of a sheet and the calls that they are, read off its bytes alone (document 01, "The sheet program").
--- Assumes nothing.
+-- The lines of a sheet and the calls that they are, read off its bytes alone (specification 6.3 and 6.7). Assumes
+-- nothing.
 use Prim.Native.Nat.{ℕ}
 use mathlib.Core.Bool.{cond}
 use mathlib.Core.List.{List, [], _∷_, _++_}

@@ -1,4 +1,4 @@
--- What a sheet does: its lines, and the whole of it. A reader of the sheet program believes these.
+-- What a sheet does (specification 6): its lines, and the whole of it. A reader of the sheet program believes these.
 pub mod Lines
 pub mod Sheets
 pub mod Calls

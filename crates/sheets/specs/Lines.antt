@@ -1,4 +1,5 @@
--- What a line of a sheet does: the bytes that it prints, and the table after it. Assumes nothing.
+-- What a line of a sheet does (specification 6.7 to 6.9): the bytes that it prints, and the table after it. Assumes
+-- nothing.
 use Prim.Native.Nat.{ℕ, _<_}
 use mathlib.Core.Path.{_≡_}
 use mathlib.Core.List.{List, []}

@@ -1,4 +1,4 @@
--- A sheet, read byte by byte (document 01, "The sheet program"). Assumes nothing.
+-- A sheet, read byte by byte (specification 6.1 to 6.3). Assumes nothing.
 use Prim.Native.Nat.{ℕ, suc}
 use mathlib.Core.Path.{_≡_}
 use mathlib.Core.List.{List, [], _∷_, _++_}

@@ -85,7 +85,7 @@ module _ (B : Pages) (label : ℕ → Label) where
     absent-missing = λ a e o. O a .0 o e;
   }
 
--- A table of the document's size.
+-- A table of the specification's size.
 module _ (t : Table) (slots : length (t .rules) ≡ document .slots) (atoms : length (t .labels) ≡ document .atoms) where
   abbrev B : Pages
   B = bookOf (t .rules)

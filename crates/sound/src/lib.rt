@@ -1,4 +1,5 @@
-// Question 15: is the table sound? The kept labels are checked as a certificate, in passes over the slots.
+// Question 15: is the table sound (specification 3.4)? The kept labels are checked as a certificate, in passes over the
+// slots.
 use certificate::certified;
 use occurring::occurring;
 use slots::labels_clean;

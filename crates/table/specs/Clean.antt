@@ -1,4 +1,4 @@
--- All that holds nothing stands as in the empty table. Assumes nothing.
+-- All that holds nothing stands as in the empty table (specification 3.4). Assumes nothing.
 use Prim.Native.Nat.{ℕ, _+_, _<_, _≤_}
 use mathlib.Core.Path.{_≡_}
 use mathlib.Core.Option.{none, some}

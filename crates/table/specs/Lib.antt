@@ -1,4 +1,5 @@
--- What the table's bytes stand for, in the words of the theory. A reader of any contract believes these.
+-- What the table's bytes stand for (specification 1.10), in the words of the theory. A reader of any contract believes
+-- these.
 pub mod Sets
 pub mod Rules
 pub mod Labels

@@ -1,4 +1,4 @@
--- Question 15: is the table handed in sound? Assumes nothing.
+-- Question 15: is the table handed in sound (specification 3.4)? Assumes nothing.
 use Rattle.theory.specs.Sound.{SoundLabels}
 use Rattle.theory.specs.Limits.{document}
 use Rattle.table.specs.declared.Table.{Table}

@@ -293,7 +293,7 @@ example-shows e t =
           (lookup-cases (e .rows) a);
     }
 
--- The small tables of document 01 and of requests #102 and #108 show what these say.
+-- The small tables show what the specification says of them (specification 10.1 and 10.2).
 pub tables-shown : (e : Example) → List·Memᴰ e tables → Shows e
 unfolding tables every any distinct same-members insert sort same first-no lowest-free rules reaches stratified answer
     after answers after-all valid greatest occurs-test each-rule rule-test support-rule none-before label-test

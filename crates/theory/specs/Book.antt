@@ -1,4 +1,5 @@
--- The plain book: what a list of calls answers and leaves, from the calls' arguments alone. Assumes nothing.
+-- The plain book (specification 5): what a list of calls answers and leaves, from the calls' arguments alone. Assumes
+-- nothing.
 use Prim.Native.Nat.{ℕ}
 use mathlib.Core.Bool.{Bool}
 use mathlib.Core.List.{List, [], _∷_}

@@ -1,4 +1,4 @@
--- Dependencies between atoms, loops through a negation, strata. Assumes nothing.
+-- Dependencies between atoms, loops through a negation, strata (specification 2.4, 2.5 and 2.14). Assumes nothing.
 use Prim.Native.Nat.{ℕ, zero, suc, _≤_}
 use mathlib.Core.Path.{_≡_}
 use mathlib.Core.List.{List}

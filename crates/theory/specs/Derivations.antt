@@ -1,4 +1,4 @@
--- Derivations, their heights, and the depth of an atom. Assumes nothing.
+-- Derivations, their heights, and the depth of an atom (specification 2.7). Assumes nothing.
 use Prim.Native.Nat.{ℕ, zero, suc, _≤_, max}
 use mathlib.Core.Path.{_≡_}
 use mathlib.Core.Bool.{true}

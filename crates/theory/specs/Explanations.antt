@@ -1,4 +1,5 @@
--- What a label rests on (support, affected, repercussions), justifications, consequences, reasons. Assumes nothing.
+-- What a label rests on (support, affected, repercussions), justifications, consequences, reasons (specification 2.11
+-- to 2.13). Assumes nothing.
 use Prim.Native.Nat.{ℕ, _<_}
 use mathlib.Core.Path.{_≡_}
 use mathlib.Core.Bool.{true, false}

@@ -1,4 +1,4 @@
--- Supporting rules, labels and spoilers. Assumes nothing.
+-- Supporting rules, labels and spoilers (specification 2.8 to 2.10). Assumes nothing.
 use Prim.Native.Nat.{ℕ, _<_}
 use mathlib.Core.Path.{_≡_}
 use mathlib.Core.Bool.{Bool, true, false, not}

@@ -1,4 +1,4 @@
--- The definitions, in the order of document 01. A reader of any contract believes these.
+-- The definitions, in the order of docs/SPECIFICATION.md. A reader of any contract believes these.
 pub mod Lists
 pub mod Limits
 pub mod Rules

@@ -1,4 +1,5 @@
--- The limits of a table, and document 01's. They stand here and nowhere else. Assumes nothing.
+-- The limits of a table, and the specification's (specification 1.5). They stand here and nowhere else. Assumes
+-- nothing.
 use Prim.Native.Nat.{ℕ}
 
 -- The limits of a table: atoms and slots are numbered from 0 to below these; a rule has at most so many entries.
@@ -7,6 +8,6 @@ pub record Limits : Type 0 where
   pub slots : ℕ
   pub entries : ℕ
 
--- Document 01's limits.
+-- The specification's limits.
 abbrev pub document : Limits
 document = record { atoms = 256; slots = 256; entries = 8 }

@@ -1,4 +1,4 @@
--- Valid rules; founded, closed and admissible sets of atoms. Assumes nothing.
+-- Valid rules; founded, closed and admissible sets of atoms (specification 2.2, 2.3 and 2.6). Assumes nothing.
 use Prim.Native.Nat.{ℕ}
 use mathlib.Core.Path.{_≡_}
 use mathlib.Core.Bool.{Bool, true, not, _&&_}

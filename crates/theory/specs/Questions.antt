@@ -1,4 +1,4 @@
--- The questions that the calls ask, by number. Assumes nothing.
+-- The questions that the calls ask, by number (specification 3.2). Assumes nothing.
 use Prim.Native.Nat.{ℕ, zero, suc, _+_}
 use mathlib.Core.Bool.{Bool, true, false, not, _&&_, _||_}
 use mathlib.Core.List.{List, [], _∷_, _++_}

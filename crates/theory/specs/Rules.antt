@@ -1,4 +1,4 @@
--- Rules and programs. Assumes nothing.
+-- Rules and programs (specification 1.2 to 1.8 and 2.16). Assumes nothing.
 use Prim.Native.Nat.{ℕ, _<_}
 use mathlib.Core.Path.{_≡_}
 use mathlib.Core.Bool.{Bool, true, false, _&&_}

@@ -1,4 +1,4 @@
--- Question 15, as far as it speaks of rules and labels. Assumes nothing.
+-- Question 15 (specification 3.4), as far as it speaks of rules and labels. Assumes nothing.
 use Prim.Native.Nat.{ℕ, _<_}
 use mathlib.Core.Path.{_≡_}
 use mathlib.Core.Bool.{true}

@@ -1,4 +1,4 @@
--- Numbers in decimal digits, as a line has them (document 01, "The sheet program"). Assumes nothing.
+-- Numbers in decimal digits, as a line has them (specification 6.6). Assumes nothing.
 use Prim.Native.Nat.{ℕ, _+_, _-_, _*_}
 use Prim.Native.Char.{code}
 use mathlib.Core.Bool.{Bool, true, false, cond, not, _&&_}

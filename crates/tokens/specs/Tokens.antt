@@ -1,5 +1,5 @@
--- The tokens of a line (document 01, "The sheet program"): separated by one or more spaces, spaces at either end
--- allowed. Assumes nothing.
+-- The tokens of a line (specification 6.5): separated by one or more spaces, spaces at either end allowed. Assumes
+-- nothing.
 use Prim.Native.Nat.{ℕ}
 use mathlib.Core.Bool.{Bool, false, cond, not}
 use mathlib.Core.List.{List, [], _∷_}

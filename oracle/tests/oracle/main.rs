@@ -1,4 +1,4 @@
-//! What the oracle is held to: the documents' examples, and brute force where it is possible.
+//! What the oracle is held to: the specification's examples, and brute force where it is possible.
 
 mod checklists;
 mod clingo;

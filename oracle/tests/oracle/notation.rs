@@ -1,5 +1,5 @@
-//! The notation of document 01's small tables: `1 < 2 !3` is head 1, positive 2, negative 3. A muted rule has a `~` in
-//! front.
+//! Rules as they are written (specification 1.3): `1 < 2 !3` is head 1, positive 2, negative 3. A muted rule has a `~`
+//! in front.
 
 use oracle::calls;
 use oracle::generate::marks::any_marked;

@@ -269,8 +269,8 @@ fn the_reason_goes_from_the_shallowest_to_the_asked_atom_each_atom_once() {
     );
 }
 
-/// The atoms of a reason, gathered as document 01 says it: from an atom to the positive
-/// entries of its supporting rule, and on from there.
+/// The atoms of a reason, gathered as the specification says it (specification 2.13): from an atom
+/// to the positive entries of its supporting rule, and on from there.
 fn gather(labelled: &Labelled, atom: u32, gathered: &mut Vec<(u32, u32, u32)>) {
     let Label::In { depth, slot } = labelled.label(atom) else {
         panic!("{atom} is not in")

@@ -1,4 +1,4 @@
-//! The small tables of document 01, every step of them.
+//! The small tables T1 to T13 (specification 10.1), every step of them.
 
 use crate::notation::{add, labels, program, table};
 use oracle::calls::{add as add_rule, remove, repercussions};

@@ -1,4 +1,4 @@
-//! Question 15: which raw tables are sound.
+//! Question 15: which raw tables are sound (specification 3.4).
 
 use crate::notation::table;
 use oracle::generate::damage::{damaged, Field, FIELDS};

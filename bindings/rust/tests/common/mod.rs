@@ -19,7 +19,7 @@ pub fn table(rules: &[(u32, &[u32], &[u32])]) -> Table {
     table
 }
 
-/// T11's first table: the report's fourth example.
+/// T11's first table (specification 10.1).
 pub fn fourth_example() -> Table {
     table(&[
         (1, &[2], &[]),
