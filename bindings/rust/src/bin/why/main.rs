@@ -7,13 +7,22 @@
 //! order; its other lines only print, and are passed over. Then the rules in the slots behind `muted` are muted. NAMES
 //! has a line `atom name` for each atom that has a name.
 
+mod bands;
 mod cards;
+mod fold;
 mod layout;
 mod marks;
+mod measure;
+#[cfg(test)]
+mod picture_tests;
 mod sheet;
+mod shown;
 mod svg;
 #[cfg(test)]
 mod tests;
+#[cfg(test)]
+mod text_tests;
+mod wrap;
 
 use cards::Drawing;
 use sheet::Names;
@@ -22,7 +31,7 @@ use yeqontur::{Table, Why};
 
 fn drawn(why: &Why, table: &Table, names: &Names) -> String {
     let drawing = Drawing::new(why, table, names);
-    svg::written(&layout::Picture::of(drawing))
+    svg::written(&layout::Picture::of(&drawing))
 }
 
 /// The picture of a sheet's atom where the rules in these slots are muted, or a sentence that says what is wrong.
