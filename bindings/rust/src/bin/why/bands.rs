@@ -29,6 +29,8 @@ pub struct Spot {
 pub struct Bands<'a> {
     cards: &'a [Card],
     widths: &'a [f64],
+    /// Whether the rows are depths.
+    depths: bool,
     bands: Vec<Vec<Band>>,
     /// How wide the column of each card is, and over how many rows it goes.
     columns: Vec<f64>,
@@ -54,6 +56,7 @@ impl Bands<'_> {
         let mut bands = Bands {
             cards,
             widths,
+            depths: depth > 0,
             bands: cards.iter().map(|_| Vec::new()).collect(),
             columns: vec![0.0; cards.len()],
             rows: vec![0; cards.len()],
@@ -67,10 +70,12 @@ impl Bands<'_> {
         (bands.spots, bands.columns[0])
     }
 
-    /// How many rows lower than it could be the card is: a row is a depth.
+    /// How many rows lower than it could be the card is, since its row is its depth.
     fn gap(&self, place: usize) -> usize {
-        let from = self.cards[place].from.map_or(0, |(from, _)| from);
-        self.cards[place].row - self.cards[from].row - 1
+        match self.cards[place].from {
+            Some((from, _)) if self.depths => self.cards[place].row - self.cards[from].row - 1,
+            _ => 0,
+        }
     }
 
     fn measure(&mut self, place: usize, below: &[usize], room: f64) {

@@ -394,3 +394,173 @@ fn the_picture_of_a_checklist_is_good() {
         assert_eq!(left_out_in(&picture) > 0, hidden, "{files} {skipped:?}");
     }
 }
+
+/// The largest first cards that there are: an in atom says each of its negatives, and the fold's card names another.
+#[test]
+fn names_of_any_length_are_drawn() {
+    let blocked = "A 1 : ! 2 3 4 5 6 7 8 9";
+    let chain = "A 1 : 2 ! 3 4 5 6 7 8 9\nA 2 : 10 ! 3 4 5 6 7 8 9\nA 10 : 11\nA 11 :";
+    let spoiled = "A 1 : 2 3 4 5 6 7 8 9\nA 2 : 10\nA 10 : 1";
+    for letters in [
+        "W",
+        "i",
+        "x y ",
+        "\u{FDFD}",
+        "\u{1242B}",
+        "a\u{301}",
+        "\u{947}",
+        "\u{4E2D}",
+    ] {
+        let name = letters.repeat(5_000);
+        let names: String = (1..12).map(|atom| format!("{atom} {name}\n")).collect();
+        for sheet in [blocked, chain, spoiled] {
+            is_good(&drawing(&rules(sheet), 1, &names));
+        }
+    }
+}
+
+/// The texts of the cards, in reading order.
+fn said(picture: &Picture) -> Vec<String> {
+    let lines = |placed: &Placed| {
+        let lines = placed.card.lines.iter().map(|line| line.text.as_str());
+        lines.collect::<Vec<&str>>().join(", ")
+    };
+    picture.cards.iter().map(lines).collect()
+}
+
+fn place(said: &[String], text: &str) -> usize {
+    let found = said.iter().position(|told| told.starts_with(text));
+    found.unwrap_or_else(|| panic!("{text} in {said:?}"))
+}
+
+#[test]
+fn a_chain_shows_its_beginning_and_its_end() {
+    let table = rules(example!("pictures/chain.sheet"));
+    let picture = is_good(&drawing(&table, 249, ""));
+    let said = said(&picture);
+    assert_eq!(said[0], "atom 249, in, depth 250, by slot 249");
+    assert_eq!(
+        said[said.len() - 1],
+        "atom 0, in, depth 1, by slot 0, a fact"
+    );
+    let left_out = place(
+        &said,
+        &format!("{} cards of atoms left out, ", 251 - said.len()),
+    );
+    assert!(
+        said[left_out].contains("the whole would be 27,"),
+        "{said:?}"
+    );
+    let next = 249 - left_out;
+    assert!(said[left_out].ends_with(&format!("to go on, ask for atom {next}")));
+    assert!(
+        (10..15).contains(&left_out),
+        "{left_out} before, {} cards",
+        said.len()
+    );
+    let rows: Vec<&str> = picture.rows.iter().map(|row| row.text.as_str()).collect();
+    assert_eq!(
+        rows.len(),
+        said.len() - 1,
+        "each row but that of the cards left out has its depth"
+    );
+    assert_eq!((rows[0], rows[rows.len() - 1]), ("depth 250", "depth 1"));
+}
+
+#[test]
+fn a_chain_that_is_out_shows_what_it_lacks() {
+    let table = muted(rules(example!("pictures/chain.sheet")), [0]);
+    let picture = is_good(&drawing(&table, 249, ""));
+    let said = said(&picture);
+    assert_eq!(said[0], "atom 249, out");
+    assert_eq!(said[said.len() - 1], "the rule in slot 0 is muted, a fact");
+    assert!(left_out_in(&picture) > 400);
+    assert!(picture.rows.is_empty());
+}
+
+#[test]
+fn of_many_rules_the_first_are_shown_and_the_slots_of_the_others() {
+    let picture = is_good(&drawing(&rules(example!("pictures/one_head.sheet")), 0, ""));
+    let said = said(&picture);
+    let shown = said
+        .iter()
+        .filter(|told| told.starts_with("the rule in slot "))
+        .count();
+    assert!(shown > 60, "{shown}");
+    let hidden = 256 - shown;
+    let told = format!(
+        "{} cards left out, {hidden} of rules, {hidden} of atoms, ",
+        2 * hidden
+    );
+    let last = &said[place(&said, &told)];
+    assert!(
+        last.ends_with(&format!("the rules in slots {shown} to 255")),
+        "{last}"
+    );
+    let legend: Vec<&str> = picture
+        .legend
+        .iter()
+        .map(|(_, note)| note.text.as_str())
+        .collect();
+    assert_eq!(
+        legend,
+        [
+            "needs (it is out)",
+            "cards left out (too large to show all)"
+        ]
+    );
+}
+
+/// Eight branches do not fit side by side, but one below the other; each row still is a depth.
+#[test]
+fn branches_stand_in_bands() {
+    let picture = is_good(&drawing(&rules(example!("pictures/branches.sheet")), 0, ""));
+    assert_eq!(left_out_in(&picture), 0);
+    let rows: Vec<&str> = picture.rows.iter().map(|row| row.text.as_str()).collect();
+    let band = ["depth 3", "depth 2", "depth 1"];
+    assert_eq!(rows[0], "depth 4");
+    assert!(rows[1..].chunks(3).all(|found| found == band), "{rows:?}");
+    for placed in &picture.cards {
+        let mut rows = picture.rows.iter();
+        let row = rows.find(|row| row.area.y > placed.area.y);
+        let depth = &row.expect("a row").text;
+        let said = &placed.card.lines[1].text;
+        assert!(
+            said.starts_with(&format!("in, {depth}, ")),
+            "{said} {depth}"
+        );
+    }
+    assert!(picture.wires.iter().any(|wire| wire.gutter.is_some()));
+}
+
+/// The reason of atom 100 is told below atom 249, and is left out; where the atom stands again, its card says so.
+#[test]
+fn a_reason_that_is_left_out_is_not_said_to_be_shown() {
+    let chain = example!("pictures/chain.sheet");
+    let table = rules(&format!("{chain}A 250 : 100\nA 251 : 249 250\n"));
+    let said = said(&is_good(&drawing(&table, 251, "")));
+    let again = &said[place(&said, "atom 250, ") + 1];
+    assert_eq!(
+        again,
+        "atom 100, in, depth 101, by slot 100, its reason is left out"
+    );
+}
+
+#[test]
+fn names_of_the_stress_set_are_drawn_whole() {
+    let table = rules(example!("pictures/names.sheet"));
+    for names in [
+        example!("pictures/long.names"),
+        example!("pictures/scripts.names"),
+        example!("pictures/more_scripts.names"),
+    ] {
+        let picture = is_good(&drawing(&table, 1, names));
+        assert_eq!(left_out_in(&picture), 0);
+        let whole: String = said(&picture).concat().replace([' ', ','], "");
+        let shown = named(names).into_values().filter(|name| {
+            let name = name.replace([' ', ',', '\u{202E}'], "");
+            whole.contains(&name)
+        });
+        assert_eq!(shown.count(), 13);
+    }
+}

@@ -18,11 +18,11 @@ struct Lines {
     wide: f64,
 }
 
-/// A piece ends behind a blank or a sign that parts a path or a name.
+/// A piece ends behind a blank or a sign that parts syllables, or a path or a name.
 fn ends_piece(letter: char) -> bool {
     matches!(
         letter,
-        ' ' | '/' | '\\' | '_' | '-' | '\u{200B}' | '\u{3000}'
+        ' ' | '/' | '\\' | '_' | '-' | '\u{F0B}' | '\u{200B}' | '\u{3000}'
     )
 }
 
