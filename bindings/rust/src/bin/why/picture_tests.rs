@@ -261,7 +261,7 @@ fn nothing_overlaps(picture: &Picture) {
 fn text_fits(Placed { card, area }: &Placed) {
     let wide = card.lines.iter().map(line_width).fold(0.0, f64::max);
     let high = card.lines.iter().map(|line| LINE + taller(&line.text));
-    assert!(wide + 2.0 * PAD <= area.width + 0.01);
+    assert!(wide <= 360.01 && wide + 2.0 * PAD <= area.width + 0.01);
     assert!(high.sum::<f64>() + PAD <= area.height + 0.01);
 }
 
@@ -320,8 +320,20 @@ fn well_formed(text: &str) {
     assert!(!text.contains(|letter| letter != '\n' && none(letter)));
 }
 
+/// Where the first atom is in, every shown card stands beside its depth.
+fn rows_are_depths(drawing: &Drawing, picture: &Picture) {
+    let shown = |placed: &&Placed| placed.card.look != Look::LeftOut && drawing.depth > 0;
+    for Placed { card, area } in picture.cards.iter().filter(shown) {
+        let mut rows = picture.rows.iter();
+        let row = rows.find(|row| row.area.y > area.y).expect("a row");
+        assert_eq!(row.text, format!("depth {}", drawing.depth - card.row));
+        assert!(row.area.y < area.bottom());
+    }
+}
+
 fn is_good(drawing: &Drawing) -> Picture {
     let picture = Picture::of(drawing);
+    rows_are_depths(drawing, &picture);
     nothing_overlaps(&picture);
     nothing_is_lost(drawing, &picture);
     picture.cards.iter().for_each(text_fits);
@@ -520,16 +532,6 @@ fn branches_stand_in_bands() {
     let band = ["depth 3", "depth 2", "depth 1"];
     assert_eq!(rows[0], "depth 4");
     assert!(rows[1..].chunks(3).all(|found| found == band), "{rows:?}");
-    for placed in &picture.cards {
-        let mut rows = picture.rows.iter();
-        let row = rows.find(|row| row.area.y > placed.area.y);
-        let depth = &row.expect("a row").text;
-        let said = &placed.card.lines[1].text;
-        assert!(
-            said.starts_with(&format!("in, {depth}, ")),
-            "{said} {depth}"
-        );
-    }
     assert!(picture.wires.iter().any(|wire| wire.gutter.is_some()));
 }
 

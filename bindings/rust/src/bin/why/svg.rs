@@ -1,5 +1,5 @@
 //! The picture as SVG. What stops a rule is told by colour, by the kind of line, and in words; a muted rule is pale,
-//! and its lines are dotted.
+//! and its lines are dotted. A card that stands for others is yellow, and its edge is dots.
 
 use crate::cards::{Link, Look};
 use crate::layout::{taller, Area, Note, Picture, Placed, Sample, Wire};
