@@ -12,7 +12,7 @@ const BOUNDS: [(u32, f64); 140] = [
     // The scripts of India, Thailand and Tibet, and those of the same family.
     (0x900, 1.1), (0x93A, 0.9), (0x950, 1.1), (0x980, 1.3), (0xA74, 1.6), (0xA75, 1.35), (0xB80, 1.8), (0xB94, 2.4),
     (0xB95, 1.4), (0xBA3, 1.8), (0xBA4, 1.4), (0xBB7, 1.7), (0xBBE, 1.0), (0xBC6, 1.4), (0xBC9, 2.8), (0xBCD, 1.0),
-    (0xBCE, 1.5), (0xBF0, 2.6), (0xC00, 1.9), (0xD00, 2.2), (0xD1E, 1.6), (0xD4C, 2.6), (0xD80, 1.9), (0xE00, 1.05),
+    (0xBCE, 2.0), (0xBF0, 2.6), (0xC00, 1.9), (0xD00, 2.2), (0xD1E, 1.6), (0xD4C, 2.6), (0xD80, 1.9), (0xE00, 1.05),
     (0xE5B, 1.4), (0xE80, 1.05), (0xEDC, 1.4), (0xF00, 1.7), (0xF40, 1.1), (0xFCF, 1.7), (0x1000, 1.5), (0x102A, 2.6),
     (0x102B, 1.6), (0x1080, 1.2), (0x1200, 1.65), (0x1400, 1.65), (0x1670, 2.1), (0x16A0, 1.2), (0x1780, 1.05),
     (0x1788, 1.4), (0x1789, 1.05), (0x178E, 1.4), (0x178F, 1.1), (0x17BE, 1.9), (0x17C6, 1.1), (0x17D8, 2.6),
@@ -38,7 +38,8 @@ const WITHOUT_WIDTH: [(u32, u32); 22] = [
     (0xE0100, 0xE01EF),
 ];
 
-/// Marks that take no room directly behind a letter, and elsewhere stand on a circle of dots.
+/// Marks that take no room directly behind a letter, and elsewhere stand on a circle of dots. In the scripts of India
+/// some have the circle behind a letter too: with a vowel, or if the mark is of another font than the letter.
 #[rustfmt::skip]
 const MARKS: [(u32, u32); 86] = [
     (0x900, 0x902), (0x93A, 0x93A), (0x93C, 0x93C), (0x941, 0x948), (0x94D, 0x94D), (0x951, 0x957), (0x962, 0x963),
@@ -80,6 +81,9 @@ const JOINED: [(u32, u32); 115] = [
     (0xABE3, 0xABED), (0xD7B0, 0xD7FF), (0xFB1E, 0xFB1E), (0xFE00, 0xFE2F), (0xFF9E, 0xFF9F),
 ];
 
+/// How wide the circle of dots is, less the room that the letter before it has left.
+const CIRCLE: f64 = 0.55;
+
 /// How much wider bold letters are at most.
 const BOLD: f64 = 1.13;
 
@@ -111,10 +115,10 @@ fn share(letter: char) -> f64 {
 /// The share of a letter behind another.
 fn share_behind(before: char, letter: char) -> f64 {
     let on_letter = before.is_alphabetic() && !joined(before);
-    if on_letter && within(letter, &MARKS) {
-        0.0
-    } else {
-        share(letter)
+    match letter {
+        _ if !on_letter || !within(letter, &MARKS) => share(letter),
+        '\u{900}'..='\u{DFF}' => CIRCLE,
+        _ => 0.0,
     }
 }
 
