@@ -145,8 +145,9 @@ impl Drawing {
 
 impl Words<'_> {
     fn name(&self, atom: u32) -> String {
-        let named = self.names.get(&atom);
-        named.map_or_else(|| format!("atom {atom}"), |name| shown(name))
+        let named = self.names.get(&atom).map(|name| shown(name));
+        let seen = named.filter(|name| !name.trim().is_empty());
+        seen.unwrap_or_else(|| format!("atom {atom}"))
     }
 
     /// The card of an atom, and those below it.

@@ -126,9 +126,10 @@ fn says(cards: &[Card], members: &[usize], why: &str) -> Vec<String> {
 
 /// The slots of the rules that are left out side by side, if they are several.
 fn slots(cards: &[Card], members: &[usize]) -> Option<String> {
-    let on_top = |place: &&usize| cards[**place].from == cards[members[0]].from;
-    let tops: Vec<usize> = members.iter().filter(on_top).copied().collect();
-    match (&cards[members[0]].of, &cards[*tops.last()?].of) {
+    let from = |place: usize| cards[place].from.map(|(from, _)| from);
+    let mut tops = members.iter().rev();
+    let last = tops.find(|&&place| from(place) == from(members[0]))?;
+    match (&cards[members[0]].of, &cards[*last].of) {
         (Of::Rule(first), Of::Rule(last)) if first != last => {
             Some(format!("the rules in slots {first} to {last}"))
         }

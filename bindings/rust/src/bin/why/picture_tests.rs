@@ -566,3 +566,25 @@ fn names_of_the_stress_set_are_drawn_whole() {
         assert_eq!(shown.count(), 13);
     }
 }
+
+/// The last of the rules that are left out is muted, and counts as one of them.
+#[test]
+fn muted_rules_are_left_out_like_others() {
+    let table = muted(rules(example!("pictures/one_head.sheet")), [3, 254, 255]);
+    let said = said(&is_good(&drawing(&table, 0, "")));
+    place(&said, "the rule in slot 3 is muted, it asks for, atom 4");
+    let last = said.iter().find(|told| told.contains(" cards left out, "));
+    assert!(
+        last.is_some_and(|told| told.ends_with(" to 255")),
+        "{last:?}"
+    );
+}
+
+#[test]
+fn a_name_of_which_nothing_is_seen_is_not_used() {
+    let mut names = Names::new();
+    names.insert(1, "\u{202E}\u{2028}".to_string());
+    let table = rules("A 1 :");
+    let text = drawn(&table.why(1).expect("an atom"), &table, &names);
+    assert!(text.contains("<title>Why atom 1 is in</title>"), "{text}");
+}
