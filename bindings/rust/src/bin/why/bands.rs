@@ -1,5 +1,5 @@
 //! Which column and which row each card has. The cards below another stand side by side. Where that would be too wide
-//! they stand in several bands, each below the one before it; the links to the lower bands run down a gutter at the left.
+//! they stand in several bands, each below the one before it; links to the lower bands run down a gutter at the left.
 
 use crate::cards::Card;
 

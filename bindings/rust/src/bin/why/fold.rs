@@ -4,6 +4,7 @@
 //! Cards that are left out and hang together, or stand side by side, have one card that says how many they are.
 
 use crate::cards::{bold, line, Card, Link, Look, Of, ABOVE, EARLIER};
+use crate::shown::figures;
 
 /// How many cards there are from each one down.
 fn weights(cards: &[Card]) -> Vec<usize> {
@@ -109,18 +110,20 @@ fn shown(cards: &[Card], order: &[usize], most: usize) -> Vec<bool> {
 
 /// What the card of a group says: how many cards it stands for, why, and where they can be seen.
 fn says(cards: &[Card], members: &[usize], why: &str) -> Vec<String> {
-    let many = members.len();
+    let many = figures(members.len());
     let mut lines = match counted(cards, members) {
         (_, 0) => vec![format!("{many} cards of atoms left out")],
         (0, _) => vec![format!("{many} cards of rules left out")],
         (atoms, rules) => vec![
             format!("{many} cards left out"),
-            format!("{rules} of rules, {atoms} of atoms"),
+            format!("{} of rules, {} of atoms", figures(rules), figures(atoms)),
         ],
     };
-    lines.push(why.to_string());
     let slots = slots(cards, members);
-    lines.extend(slots.or_else(|| next(cards, members)));
+    let next = slots.is_none().then(|| next(cards, members)).flatten();
+    lines.extend(slots);
+    lines.push(why.to_string());
+    lines.extend(next);
     lines
 }
 

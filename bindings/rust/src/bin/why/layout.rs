@@ -6,6 +6,7 @@ use crate::bands::{Bands, Spot, COLUMN_GAP, GUTTER};
 use crate::cards::{Card, Drawing, Line, Link, Look};
 use crate::fold;
 use crate::measure::{tall, width};
+use crate::shown::figures;
 use crate::wrap::{wrapped, Room};
 
 /// Text sizes, of the headline, of cards, and of the words beside them.
@@ -58,8 +59,8 @@ pub struct Placed {
     pub area: Area,
 }
 
-/// A link from the middle of a card's lower edge, along the turn's height, to the middle of another's upper edge. If the
-/// other is in a lower band, it first goes along a height of its own to a gutter, and down to the turn.
+/// A link from the middle of a card's lower edge, along the turn's height, to the middle of another's upper edge. If
+/// the other is in a lower band, it first goes along a height of its own to a gutter, and down to the turn.
 pub struct Wire {
     pub link: Link,
     pub from: (f64, f64),
@@ -267,19 +268,6 @@ fn left(depth: usize) -> f64 {
     depths.unwrap_or(0.0) + MARGIN
 }
 
-/// A number with a comma before each three figures.
-fn figures(number: f64) -> String {
-    let figures = format!("{}", number.ceil());
-    let mut out = String::new();
-    for (place, figure) in figures.chars().enumerate() {
-        if place > 0 && (figures.len() - place) % 3 == 0 {
-            out.push(',');
-        }
-        out.push(figure);
-    }
-    out
-}
-
 /// A way to draw: how wide the text of a card may be, and whether cards side by side may stand in bands.
 #[derive(Clone, Copy)]
 struct Way {
@@ -348,7 +336,8 @@ impl Picture {
 
     /// Why this picture, of all cards, is not shown.
     fn too_large(&self) -> String {
-        let (wide, high) = (figures(self.width), figures(self.height));
+        let (wide, high) = (self.width.ceil() as usize, self.height.ceil() as usize);
+        let (wide, high) = (figures(wide), figures(high));
         match (self.width > WIDEST, self.height > HIGHEST) {
             (true, true) => {
                 format!("the whole would be {wide} pixels wide and {high} high")

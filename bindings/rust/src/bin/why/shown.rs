@@ -1,5 +1,5 @@
 //! A name as it is drawn: without letters that no picture can hold or that would turn the words behind it around, and
-//! of a very long one its beginning and its end.
+//! of a very long one its beginning and its end. A number as it is drawn.
 
 use crate::measure::{clusters, width};
 
@@ -40,5 +40,19 @@ pub fn shown(name: &str) -> String {
     let last = parts.len() - fitting(parts.iter().rev(), END);
     let left_out = parts[first..last].len();
     let (beginning, end) = (parts[..first].concat(), parts[last..].concat());
+    let left_out = figures(left_out);
     format!("{beginning} ... ({left_out} letters left out) ... {end}")
+}
+
+/// A number with a comma before each three figures.
+pub fn figures(number: usize) -> String {
+    let figures = number.to_string();
+    let mut out = String::new();
+    for (place, figure) in figures.chars().enumerate() {
+        if place > 0 && (figures.len() - place) % 3 == 0 {
+            out.push(',');
+        }
+        out.push(figure);
+    }
+    out
 }

@@ -1,7 +1,7 @@
 //! Text is never wider than it is measured, is parted where a reader would, and is whole when it is put together.
 
 use crate::measure::{clusters, tall, width};
-use crate::shown::shown;
+use crate::shown::{figures, shown};
 use crate::wrap::{wrapped, Room};
 
 /// Letters, and how many times their size they are wide in a font that has them, the widest of those measured.
@@ -165,6 +165,13 @@ fn of_a_very_long_name_it_is_told_how_much_is_left_out() {
     let wide = shown(&"\u{FDFD}".repeat(50));
     assert!(wide.contains("letters left out"), "{wide}");
     assert!(width(&wide, 1.0, false) <= 160.0);
+}
+
+#[test]
+fn large_numbers_have_commas() {
+    let numbers = [0, 999, 1_000, 54_996, 331_190, 1_000_000];
+    let told = ["0", "999", "1,000", "54,996", "331,190", "1,000,000"];
+    assert_eq!(numbers.map(figures), told);
 }
 
 #[test]
