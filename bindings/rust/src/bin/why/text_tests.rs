@@ -4,7 +4,8 @@ use crate::measure::{clusters, tall, width};
 use crate::shown::{figures, shown};
 use crate::wrap::{wrapped, Room};
 
-/// Letters, and how many times their size they are wide in a font that has them, the widest of those measured.
+/// Letters, and how many times their size they are wide in a font that has them: the widest of those measured, but for
+/// `:`, `(` and `%` what is known of Verdana, and for the emoji what is known of coloured fonts.
 #[test]
 fn no_letter_is_wider_than_it_is_measured() {
     for (letters, wide) in [
@@ -13,7 +14,7 @@ fn no_letter_is_wider_than_it_is_measured() {
         ("i", 0.278),
         (":", 0.454),
         ("(", 0.454),
-        ("|", 0.454),
+        ("|", 0.551),
         ("%", 1.076),
         ("\u{E9}", 0.615),
         ("\u{1C4}", 1.421),
