@@ -1,6 +1,8 @@
 //! A reason as cards: what each says, how it looks, and what hangs below it.
 
 use crate::sheet::Names;
+use crate::shown::shown;
+use std::collections::BTreeMap;
 use yeqontur::{Because, Label, Rule, Side, Stop, Stopped, Table, Why};
 
 /// How a card looks.
@@ -10,6 +12,8 @@ pub enum Look {
     Out,
     Rule,
     Muted,
+    /// It stands for cards that are left out.
+    LeftOut,
 }
 
 /// How a card hangs below another.
@@ -33,36 +37,58 @@ pub struct Line {
     pub bold: bool,
     /// For the entry that stops the rule: how.
     pub stops: Option<Link>,
+    /// It goes on with the line above it.
+    pub goes_on: bool,
 }
 
-/// A card and the cards below it, each with its link and how many rows it is lower.
+/// What a card is about: an atom, by its name; the rule in a slot; or cards that are left out, how many.
+#[derive(Clone, PartialEq, Eq, Debug)]
+pub enum Of {
+    Atom(String),
+    Rule(u32),
+    LeftOut { atoms: usize, rules: usize },
+}
+
+#[derive(Clone, PartialEq, Eq, Debug)]
 pub struct Card {
     pub look: Look,
+    pub of: Of,
     pub lines: Vec<Line>,
-    pub below: Vec<(Link, usize, Card)>,
+    /// The card that it hangs from, which stands before it in the list, and how.
+    pub from: Option<(usize, Link)>,
+    pub row: usize,
+    /// Where the reason of its atom is told, if that is another card.
+    pub told: Option<usize>,
 }
 
-/// The whole: a headline, the first card, and its depth, 0 if it is not in.
+/// The whole: a headline, the cards in reading order, and the depth of the first, 0 if it is not in.
 pub struct Drawing {
     pub headline: String,
-    pub card: Card,
+    pub cards: Vec<Card>,
     pub depth: usize,
 }
 
 struct Words<'a> {
     table: &'a Table,
     names: &'a Names,
+    cards: Vec<Card>,
+    /// The card that tells the reason of an atom.
+    told: BTreeMap<u32, usize>,
 }
 
-fn line(text: String) -> Line {
+pub const ABOVE: &str = "shown above: it waits for itself";
+pub const EARLIER: &str = "its reason is shown already";
+
+pub fn line(text: String) -> Line {
     Line {
         text,
         bold: false,
         stops: None,
+        goes_on: false,
     }
 }
 
-fn bold(text: String) -> Line {
+pub fn bold(text: String) -> Line {
     Line {
         bold: true,
         ..line(text)
@@ -92,12 +118,26 @@ fn stops_by(side: Side) -> Link {
     }
 }
 
+fn look(label: Label) -> Look {
+    if label.is_in() {
+        Look::In
+    } else {
+        Look::Out
+    }
+}
+
 impl Drawing {
     pub fn new(why: &Why, table: &Table, names: &Names) -> Drawing {
-        let words = Words { table, names };
+        let mut words = Words {
+            table,
+            names,
+            cards: Vec::new(),
+            told: BTreeMap::new(),
+        };
+        words.atom(why, None, 0);
         Drawing {
             headline: format!("Why {} is {}", words.name(why.atom), state(why.label)),
-            card: words.atom(why),
+            cards: words.cards,
             depth: depth(why.label),
         }
     }
@@ -105,30 +145,45 @@ impl Drawing {
 
 impl Words<'_> {
     fn name(&self, atom: u32) -> String {
-        let named = self.names.get(&atom);
-        named.cloned().unwrap_or_else(|| format!("atom {atom}"))
+        let named = self.names.get(&atom).map(|name| shown(name));
+        let seen = named.filter(|name| !name.trim().is_empty());
+        seen.unwrap_or_else(|| format!("atom {atom}"))
     }
 
-    fn atom(&self, why: &Why) -> Card {
-        let mut lines = vec![bold(self.name(why.atom))];
+    /// The card of an atom, and those below it.
+    fn atom(&mut self, why: &Why, from: Option<(usize, Link)>, row: usize) {
+        let place = self.cards.len();
+        let name = self.name(why.atom);
+        let mut lines = vec![bold(name.clone())];
         lines.extend(self.says(why).into_iter().map(line));
-        let below = match &why.because {
-            Because::Supported { from, .. } => from
+        let cut = matches!(why.because, Because::Above | Because::Earlier);
+        let told = self.told.get(&why.atom).copied().filter(|_| cut);
+        self.cards.push(Card {
+            look: look(why.label),
+            of: Of::Atom(name),
+            lines,
+            from,
+            row,
+            told,
+        });
+        if !cut {
+            self.told.insert(why.atom, place);
+        }
+        self.below(why, place, row);
+    }
+
+    /// The cards below an atom's card.
+    fn below(&mut self, why: &Why, place: usize, row: usize) {
+        match &why.because {
+            Because::Supported { from, .. } => from.iter().for_each(|lower| {
+                let rows = depth(why.label) - depth(lower.label);
+                self.atom(lower, Some((place, Link::RestsOn)), row + rows);
+            }),
+            Because::Stopped(rules) => rules
                 .iter()
-                .map(|w| {
-                    let rows = depth(why.label) - depth(w.label);
-                    (Link::RestsOn, rows, self.atom(w))
-                })
-                .collect(),
-            Because::Stopped(rules) => rules.iter().map(|rule| self.stopped(rule)).collect(),
-            _ => Vec::new(),
-        };
-        let look = if why.label.is_in() {
-            Look::In
-        } else {
-            Look::Out
-        };
-        Card { look, lines, below }
+                .for_each(|stopped| self.stopped(stopped, place, row + 1)),
+            _ => {}
+        }
     }
 
     /// What an atom's card says below its name.
@@ -150,37 +205,45 @@ impl Words<'_> {
                 lines.push("no rule gives it".to_string());
             }
             Because::Stopped(_) => {}
-            Because::Above => lines.push("shown above: it waits for itself".to_string()),
-            Because::Earlier => lines.push("its reason is shown already".to_string()),
+            Because::Above => lines.push(ABOVE.to_string()),
+            Because::Earlier => lines.push(EARLIER.to_string()),
             other => panic!("not drawn yet: {other:?}"),
         }
         lines
     }
 
-    /// A rule of an out atom, and how it hangs below the atom.
-    fn stopped(&self, Stopped { rule, stop, .. }: &Stopped) -> (Link, usize, Card) {
-        match stop {
-            Stop::Spoiled { side, place, by } => {
-                (Link::HasRule, 1, self.spoiled(rule, *side, *place, by))
-            }
-            Stop::Muted => (Link::HasMuted, 1, self.muted(rule)),
+    /// The card of a rule of an out atom, and those below it.
+    fn stopped(&mut self, Stopped { rule, stop, .. }: &Stopped, head: usize, row: usize) {
+        let place = self.cards.len();
+        let (look, link, lines) = match stop {
+            Stop::Spoiled {
+                side, place: at, ..
+            } => (Look::Rule, Link::HasRule, self.spoiled(rule, *side, *at)),
+            Stop::Muted => (Look::Muted, Link::HasMuted, self.muted(rule)),
             other => panic!("not drawn yet: {other}"),
+        };
+        self.cards.push(Card {
+            look,
+            of: Of::Rule(rule.slot),
+            lines,
+            from: Some((head, link)),
+            row,
+            told: None,
+        });
+        if let Stop::Spoiled { side, by, .. } = stop {
+            self.atom(by, Some((place, stops_by(*side))), row + 1);
         }
     }
 
     /// A spoiled rule: its entries, the one that stops it marked.
-    fn spoiled(&self, rule: &Rule, side: Side, place: u32, by: &Why) -> Card {
+    fn spoiled(&self, rule: &Rule, side: Side, place: u32) -> Vec<Line> {
         let mut lines = vec![line(format!("the rule in slot {} asks for", rule.slot))];
         lines.extend(self.entries(rule, Some((side, place))));
-        Card {
-            look: Look::Rule,
-            lines,
-            below: vec![(stops_by(side), 1, self.atom(by))],
-        }
+        lines
     }
 
     /// A muted rule: its entries, none of them marked, since it is not they that stop it.
-    fn muted(&self, rule: &Rule) -> Card {
+    fn muted(&self, rule: &Rule) -> Vec<Line> {
         let entries = self.entries(rule, None);
         let asks = if entries.is_empty() {
             "a fact"
@@ -192,11 +255,7 @@ impl Words<'_> {
             line(asks.to_string()),
         ];
         lines.extend(entries);
-        Card {
-            look: Look::Muted,
-            lines,
-            below: Vec::new(),
-        }
+        lines
     }
 
     /// The entries of a rule with their labels. The one that stops it, by list and place, is marked.
@@ -206,9 +265,9 @@ impl Words<'_> {
             lines.extend((0..).zip(rule.list(side)).map(|(place, &atom)| {
                 let stops = stopper == Some((side, place));
                 Line {
-                    text: self.entry(not, atom),
                     bold: stops,
                     stops: stops.then_some(stops_by(side)),
+                    ..line(self.entry(not, atom))
                 }
             }));
         }

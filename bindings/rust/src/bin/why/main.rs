@@ -9,17 +9,24 @@
 //! PATH once it is made; where anything fails, that file stays as it was.
 
 mod arguments;
+mod bands;
 mod cards;
 mod files;
+mod fold;
 mod json;
 mod layout;
 mod marks;
+mod measure;
+#[cfg(test)]
+mod picture_tests;
 #[cfg(test)]
 mod read_tests;
 mod sheet;
+mod shown;
 mod svg;
 #[cfg(test)]
-mod tests;
+mod text_tests;
+mod wrap;
 
 use arguments::{Asked, Subject, HELP, USAGE};
 use cards::Drawing;
@@ -31,7 +38,7 @@ use yeqontur::{Table, Why};
 
 fn drawn(why: &Why, table: &Table, names: &Names) -> String {
     let drawing = Drawing::new(why, table, names);
-    svg::written(&layout::Picture::of(drawing))
+    svg::written(&layout::Picture::of(&drawing))
 }
 
 /// A tree, with what is needed to show it.

@@ -1,11 +1,32 @@
 //! Sheets, names and the words of the command line are read as the guide says, and what cannot be read is told.
 
 use crate::arguments::{self, Asked, Subject, USAGE};
-use crate::of_table;
 use crate::sheet::{self, Names, Refused, MOST};
-use crate::tests::{picture, rules};
+use crate::{of_checklist, of_table};
 use std::ffi::OsString;
 use std::path::PathBuf;
+use yeqontur::Table;
+
+/// The table of a sheet, none of whose lines is refused.
+pub fn rules(sheet: &str) -> Table {
+    let (table, refused) = sheet::read(sheet.as_bytes());
+    assert_eq!(refused, [], "{sheet}");
+    table
+}
+
+/// The picture of such a sheet's atom, or what is wrong.
+pub fn picture(sheet: &str, atom: &str, names: &str, muted: &[String]) -> Result<String, String> {
+    let shown = of_table(rules(sheet), atom, sheet::names(names)?, muted)?;
+    Ok(shown.written(false))
+}
+
+pub fn checklist_picture(words: &[String]) -> Result<String, String> {
+    Ok(of_checklist(words)?.written(false))
+}
+
+fn words(text: &str) -> Vec<String> {
+    text.split(' ').map(str::to_string).collect()
+}
 
 /// The refused lines of a sheet, each as its number and that of the refusal.
 fn refused(sheet: &[u8]) -> Vec<(usize, u32)> {
@@ -252,4 +273,60 @@ fn options_that_are_wrong_are_told() {
         let sentence = read(line).expect_err(line);
         assert!(sentence.starts_with(told), "{sentence}");
     }
+}
+
+#[test]
+fn a_sheet_is_drawn_with_the_names_of_its_atoms() {
+    let skipped = include_str!("../../../../../examples/skipped.sheet");
+    let names = include_str!("../../../../../examples/deposit.names");
+    let text = picture(skipped, "7", names, &[]).expect("a picture");
+    for words in [
+        "Why complete is out",
+        ">second file skipped<",
+        ">blocked by<",
+    ] {
+        assert!(text.contains(words), "{words}");
+    }
+}
+
+#[test]
+fn checklists_that_cannot_be_read_are_told() {
+    for text in [
+        "",
+        "0",
+        "61",
+        "five",
+        "5 4",
+        "5 sent x",
+        "5 sent 6",
+        "5 sent 0",
+        "5 sent 1 1",
+        "5 lost 1",
+    ] {
+        assert!(checklist_picture(&words(text)).is_err(), "{text}");
+    }
+    assert!(checklist_picture(&[]).is_err());
+    assert!(checklist_picture(&words("60 skipped")).is_ok());
+}
+
+#[test]
+fn slots_that_cannot_be_muted_are_told() {
+    for (slot, told) in [
+        ("x", "not a slot: x"),
+        ("-1", "not a slot: -1"),
+        ("1", "slot 1 refused 9: "),
+        ("256", "slot 256 refused 8: "),
+    ] {
+        let sentence = picture("A 1 :", "1", "", &words(slot)).expect_err(slot);
+        assert!(sentence.starts_with(told), "{sentence}");
+    }
+    assert!(picture("A 1 :", "1", "", &words("0 0")).is_ok());
+}
+
+#[test]
+fn a_replaced_rule_is_drawn_in_its_slot() {
+    let two = "A 1 : 2\nA 2 :\n";
+    let replaced = format!("{two}P 0 1 : 2 ! 3\nP 1 2 : ! 4\n");
+    assert_eq!(rules(&replaced), rules("A 1 : 2 ! 3\nA 2 : ! 4"));
+    assert_eq!(rules(&format!("{two}P 0 1 : 2")), rules(two));
 }

@@ -1,12 +1,14 @@
 //! The picture as SVG. What stops a rule is told by colour, by the kind of line, and in words; a muted rule is pale,
-//! and its lines are dotted.
+//! and its lines are dotted. A card that stands for others is yellow, and its edge is dots.
 
 use crate::cards::{Link, Look};
-use crate::layout::{width, Area, Note, Picture, Placed, Wire};
-use crate::layout::{LARGE, LINE, PAD, SAMPLE, SIZE, SMALL};
+use crate::layout::{taller, Area, Note, Picture, Placed, Sample, Wire};
+use crate::layout::{INDENT, LARGE, LINE, PAD, SAMPLE, SIZE, SMALL};
+use crate::measure::width;
 
 const DARK: &str = "#1f2328";
 const PALE: &str = "#57606a";
+const LEFT_OUT: &str = r##"rx="12" fill="#fdf8e4" stroke="#8a7420" stroke-width="1.5" stroke-dasharray="1 5" stroke-linecap="round""##;
 
 fn escaped(text: &str) -> String {
     let mut out = String::new();
@@ -15,6 +17,7 @@ fn escaped(text: &str) -> String {
             '&' => out.push_str("&amp;"),
             '<' => out.push_str("&lt;"),
             '>' => out.push_str("&gt;"),
+            '\u{FFFE}' | '\u{FFFF}' => out.push('\u{FFFD}'),
             _ if letter.is_control() => out.push(' '),
             _ => out.push(letter),
         }
@@ -104,22 +107,24 @@ pub fn plate(wire: &Wire) -> Option<(&'static str, Area)> {
 
 fn wire(wire: &Wire) -> String {
     let ((x, y), turn, (to, lower)) = (wire.from, wire.turn, wire.to);
-    let path = format!("M{x:.1} {y:.1}V{turn:.1}H{to:.1}V{lower:.1}");
-    let mut out = stroke(wire.link, &path) + &end(wire.link, wire.to);
-    if let Some((words, area)) = plate(wire) {
-        let colour = colour(wire.link);
-        out += &rectangle(
-            area,
-            &format!("rx=\"10\" fill=\"#ffffff\" stroke=\"{colour}\""),
-        );
-        let style = style(true, colour) + " text-anchor=\"middle\"";
-        out += &text(words, (area.middle(), area.y + 14.0), SMALL, &style);
-    }
-    out
+    let gutter = wire.gutter.map(|(x, y)| format!("V{y:.1}H{x:.1}"));
+    let gutter = gutter.unwrap_or_default();
+    let path = format!("M{x:.1} {y:.1}{gutter}V{turn:.1}H{to:.1}V{lower:.1}");
+    stroke(wire.link, &path) + &end(wire.link, wire.to)
 }
 
-fn card(card: &Placed) -> String {
-    let look = match card.look {
+/// The plate of a link, over the lines of all links.
+fn plated(wire: &Wire) -> Option<String> {
+    let (words, area) = plate(wire)?;
+    let colour = colour(wire.link);
+    let look = format!("rx=\"10\" fill=\"#ffffff\" stroke=\"{colour}\"");
+    let style = style(true, colour) + " text-anchor=\"middle\"";
+    let at = (area.middle(), area.y + 14.0);
+    Some(rectangle(area, &look) + &text(words, at, SMALL, &style))
+}
+
+fn look(look: Look) -> &'static str {
+    match look {
         Look::In => r##"rx="8" fill="#e6f4ec" stroke="#1b7f4b" stroke-width="2""##,
         Look::Out => {
             r##"rx="8" fill="#f3f4f6" stroke="#57606a" stroke-width="1.5" stroke-dasharray="3 3""##
@@ -128,16 +133,39 @@ fn card(card: &Placed) -> String {
         Look::Muted => {
             r##"fill="#ffffff" stroke="#8a8f98" stroke-width="1.5" stroke-dasharray="2 4""##
         }
-    };
+        Look::LeftOut => LEFT_OUT,
+    }
+}
+
+fn card(Placed { card, area }: &Placed) -> String {
     let plain = if card.look == Look::Muted { PALE } else { DARK };
-    let mut out = rectangle(card.area, look);
-    let mut y = card.area.y + PAD + 12.0;
+    let mut out = rectangle(*area, look(card.look));
+    let mut y = area.y + PAD + 12.0;
     for line in &card.lines {
         let style = style(line.bold, line.stops.map_or(plain, colour));
-        out += &text(&line.text, (card.area.x + PAD, y), SIZE, &style);
-        y += LINE;
+        let x = area.x + PAD + if line.goes_on { INDENT } else { 0.0 };
+        let taller = taller(&line.text);
+        out += &text(&line.text, (x, y + taller / 2.0), SIZE, &style);
+        y += LINE + taller;
     }
     out
+}
+
+/// What a word of the legend explains, before it.
+fn sample(sample: Sample, note: &Note) -> String {
+    let (x, y) = (note.area.x - SAMPLE, note.area.y + LINE / 2.0);
+    match sample {
+        Sample::Line(link) => stroke(link, &format!("M{x:.1} {y:.1}h34")),
+        Sample::LeftOut => {
+            let area = Area {
+                x,
+                y: y - 7.0,
+                width: 34.0,
+                height: 14.0,
+            };
+            rectangle(area, &LEFT_OUT.replace("rx=\"12\"", "rx=\"5\""))
+        }
+    }
 }
 
 pub fn written(picture: &Picture) -> String {
@@ -146,16 +174,15 @@ pub fn written(picture: &Picture) -> String {
         "<svg xmlns=\"http://www.w3.org/2000/svg\" width=\"{w}\" height=\"{h}\" viewBox=\"0 0 {w} {h}\" role=\"img\" \
          font-family=\"Verdana, DejaVu Sans, Arial, sans-serif\">\n<title>{}</title>\n\
          <rect width=\"{w}\" height=\"{h}\" rx=\"10\" fill=\"#ffffff\"/>\n",
-        escaped(&picture.headline.text)
+        escaped(&picture.title)
     );
-    out += &noted(&picture.headline, LARGE, DARK);
+    let headline = picture.headline.iter();
+    out.extend(headline.map(|note| noted(note, LARGE, DARK)));
     out.extend(picture.rows.iter().map(|note| noted(note, SMALL, PALE)));
     out.extend(picture.wires.iter().map(wire));
+    out.extend(picture.wires.iter().filter_map(plated));
     out.extend(picture.cards.iter().map(card));
-    for (link, note) in &picture.legend {
-        let (x, y) = (note.area.x - SAMPLE, note.area.y + LINE / 2.0);
-        out += &stroke(*link, &format!("M{x:.1} {y:.1}h34"));
-        out += &noted(note, SMALL, PALE);
-    }
+    let legend = picture.legend.iter();
+    out.extend(legend.map(|(what, note)| sample(*what, note) + &noted(note, SMALL, PALE)));
     out + "</svg>\n"
 }
