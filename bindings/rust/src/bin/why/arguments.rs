@@ -4,7 +4,7 @@ use std::ffi::OsString;
 use std::path::PathBuf;
 
 pub const USAGE: &str =
-    "usage: why [--json] [-o PATH] checklist FILES [sent NUMBER..] [skipped NUMBER..]
+    "usage: why [--json] [-o PATH] checklist FILES [sent NUMBER..] [skipped NUMBER..] [good NUMBER]
        why [--json] [-o PATH] SHEET ATOM [NAMES] [muted SLOT..]";
 
 /// What `--help` prints below the usage.
@@ -12,6 +12,7 @@ pub const HELP: &str = "
 Draws why an atom has its label, as an SVG on standard output.
 
   checklist  draws why a checklist of FILES files is complete or is not
+  good       why this file of it, with those before it, is good or is not
   SHEET      the rules; - reads standard input
   ATOM       the atom, a number below 256
   NAMES      a file with a line for each atom that has a name: its number, a blank, and the name

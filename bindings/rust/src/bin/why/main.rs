@@ -1,12 +1,12 @@
 //! Draws why an atom has its label, as an SVG, or prints the tree as JSON.
 //!
-//!     why [--json] [-o PATH] checklist FILES [sent NUMBER..] [skipped NUMBER..]
+//!     why [--json] [-o PATH] checklist FILES [sent NUMBER..] [skipped NUMBER..] [good NUMBER]
 //!     why [--json] [-o PATH] SHEET ATOM [NAMES] [muted SLOT..]
 //!
-//! Of a checklist it draws why it is complete or is not. A sheet is read as the sheet program reads it: the lines that
-//! it refuses are told on standard error, and leave the table as it was. Then the rules in the slots behind `muted` are
-//! muted. NAMES has a line `atom name` for each atom that has a name. All goes to standard output, or over the file at
-//! PATH once it is made; where anything fails, that file stays as it was.
+//! Of a checklist it draws why it is complete or is not, or why one of its files is good or is not. A sheet is read as
+//! the sheet program reads it: the lines that it refuses are told on standard error, and leave the table as it was. Then
+//! the rules in the slots behind `muted` are muted. NAMES has a line `atom name` for each atom that has a name. All goes
+//! to standard output, or over the file at PATH once it is made; where anything fails, that file stays as it was.
 
 mod arguments;
 mod bands;
@@ -67,9 +67,10 @@ fn of_table(table: Table, atom: &str, names: Names, muted: &[String]) -> Result<
 }
 
 fn of_checklist(marks: &[String]) -> Result<Shown, String> {
-    let checklist = marks::checklist(marks)?;
+    let (checklist, atom) = marks::asked(marks)?;
+    let why = checklist.table().why(atom);
     Ok(Shown {
-        why: checklist.why(),
+        why: why.map_err(|refusal| refusal.to_string())?,
         names: marks::names(&checklist),
         table: checklist.into_table(),
     })

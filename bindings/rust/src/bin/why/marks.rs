@@ -1,4 +1,5 @@
-//! Reads a checklist from words: how many files, and the numbers of those that are sent and skipped.
+//! Reads a checklist from words: how many files, the numbers of those that are sent and skipped, and of which file it
+//! is asked whether it is good.
 
 use crate::sheet::{self, Names};
 use yeqontur::{Checklist, Refusal};
@@ -17,8 +18,23 @@ fn opened(files: &str) -> Result<Checklist, String> {
     Checklist::open(count).map_err(|refusal| format!("checklist {files} {refusal}"))
 }
 
+/// The checklist of `FILES sent NUMBER.. skipped NUMBER.. good NUMBER`, and the atom that is asked for: whether this
+/// file is good or, where none is named, the last one, which is whether all is complete.
+pub fn asked(words: &[String]) -> Result<(Checklist, u32), String> {
+    let (marks, file) = match words {
+        [marks @ .., word, file] if word == "good" => (marks, Some(file)),
+        _ => (words, None),
+    };
+    let checklist = checklist(marks)?;
+    let last = checklist.files();
+    let asked = file.map_or(Ok(last), |file| number(file))?;
+    let atoms = checklist.atoms(asked);
+    let atoms = atoms.map_err(|refusal| format!("file {asked} {refusal}"))?;
+    Ok((checklist, atoms.good))
+}
+
 /// The checklist of `FILES sent NUMBER.. skipped NUMBER..`, in any order of the marks.
-pub fn checklist(words: &[String]) -> Result<Checklist, String> {
+fn checklist(words: &[String]) -> Result<Checklist, String> {
     let how_many = "behind checklist stands how many files it has";
     let (files, marks) = words.split_first().ok_or(how_many)?;
     let mut checklist = opened(files)?;

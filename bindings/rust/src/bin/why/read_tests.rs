@@ -302,11 +302,26 @@ fn checklists_that_cannot_be_read_are_told() {
         "5 sent 0",
         "5 sent 1 1",
         "5 lost 1",
+        "5 good x",
+        "5 good 0",
+        "5 good 6",
+        "5 good",
+        "5 good 1 sent 2",
     ] {
         assert!(checklist_picture(&words(text)).is_err(), "{text}");
     }
     assert!(checklist_picture(&[]).is_err());
     assert!(checklist_picture(&words("60 skipped")).is_ok());
+}
+
+/// What a picture that leaves files out tells to ask for can be asked for.
+#[test]
+fn a_file_of_a_checklist_can_be_asked_for() {
+    let drawn = |text: &str| checklist_picture(&words(text)).expect(text);
+    let second = drawn("5 sent 1 skipped 2 good 2");
+    assert!(second.contains(">Why file 2 good is out<"), "{second}");
+    assert_eq!(drawn("5 sent 1 2 3 4 5 good 5"), drawn("5 sent 1 2 3 4 5"));
+    assert!(drawn("5 good 1").contains(">Why file 1 good is out<"));
 }
 
 #[test]
