@@ -1,8 +1,8 @@
 //! The deposit checklist of request 106: its atoms and rules, and its calls over a raw table.
 //!
-//! Whether a table's rules are a checklist's is found as the request says it: some number of files, with the marks that
-//! the facts name, gives these rules and no others. A refused call leaves the table and the lent buffer as they are;
-//! opening takes no table, and refused it hands back the empty one.
+//! Whether a table's rules are a checklist's is found as specification 8.4 says it: some number of files, with the marks
+//! that the facts name, gives these rules and no others. A refused call leaves the table and the lent buffer as they
+//! are; opening takes no table, and refused it hands back the empty one.
 
 use crate::atoms::AtomSet;
 use crate::calls::{add, ask_sound, lend, remove};

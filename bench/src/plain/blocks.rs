@@ -22,8 +22,8 @@ pub fn write_word(bytes: &mut [u8], at: usize, number: u16) {
     bytes[at..at + 2].copy_from_slice(&number.to_le_bytes());
 }
 
-/// A and B of a block, byte for byte as the request words them and the library makes them. Weighing each byte by how
-/// often B takes it in would be faster, but another algorithm.
+/// A and B of a block, byte for byte as specification 7.5 words them and the library makes them. Weighing each byte by
+/// how often B takes it in would be faster, but another algorithm.
 pub fn sums(block: &Block) -> (u16, u16) {
     block[..BODY].iter().fold((1, 0), |(a, b): (u16, u16), &x| {
         let a = a.wrapping_add(u16::from(x));

@@ -66,7 +66,7 @@
 //!
 //! A call keeps nothing and shares nothing, so any number of threads may call at once, and every type here may be sent
 //! to another thread. A thread with 128 KB of stack can make any call (in a debug build those of a checklist ask for
-//! 160 KB); the tree of the deepest table needs 256 KB in a release build and under 1 MB in a debug build.
+//! 160 KB); the deepest tree ([`Table::why`]) needs up to 384 KB in a release build and 1.5 MB in a debug build.
 //!
 //! # Versions
 //!

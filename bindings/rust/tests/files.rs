@@ -31,7 +31,7 @@ fn seal(file: &mut [u8]) {
     }
 }
 
-/// The file of these rules, as the request says it.
+/// The file of these rules, as specification 7.2 to 7.5 say it.
 fn written(rules: &[Rule]) -> Vec<u8> {
     let blocks = rules.len().div_ceil(22).max(1);
     let mut file = vec![0; BLOCK * blocks];
@@ -65,7 +65,7 @@ fn facts(count: u32) -> Table {
     t
 }
 
-/// The table's file is the one that the request describes, and gives the table back.
+/// The table's file is the one that the specification describes, and gives the table back.
 fn survives(t: &Table) {
     let file = t.save();
     let rules: Vec<Rule> = t.rules().collect();

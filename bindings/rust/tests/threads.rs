@@ -55,9 +55,19 @@ fn checklist_calls() {
     assert!(checklist.complete());
 }
 
-fn tree() {
-    let why = chain().why(255).expect("a tree");
-    assert_eq!(why.atom, 255);
+/// The deepest trees: of a chain that is in; of one that is out, for want of the fact at its end; and where that end
+/// waits for the beginning.
+fn trees() {
+    let mut table = chain();
+    let in_atom = table.why(255).expect("a tree");
+    assert!(in_atom.label.is_in());
+    assert_eq!(table.mute(0), Ok(()));
+    let out = table.why(255).expect("a tree");
+    assert_eq!(out.label, Label::Out);
+    assert_eq!(table.replace(0, 0, &[255], &[]), Ok(()));
+    let circle = table.why(255).expect("a tree");
+    assert_eq!(circle.label, Label::Out);
+    assert!(circle != out);
 }
 
 fn joined(threads: Vec<JoinHandle<()>>) {
@@ -74,11 +84,7 @@ fn calls_from_8_threads_of_128_kb() {
 }
 
 #[test]
-fn the_tree_of_the_deepest_table() {
-    let bytes = if cfg!(debug_assertions) {
-        1 << 20
-    } else {
-        256 << 10
-    };
-    joined(vec![with_stack(bytes, tree)]);
+fn the_deepest_trees() {
+    let kb = if cfg!(debug_assertions) { 1536 } else { 384 };
+    joined(vec![with_stack(kb << 10, trees)]);
 }

@@ -1,5 +1,4 @@
--- The limits of a table, and the specification's (specification 1.5). They stand here and nowhere else. Assumes
--- nothing.
+-- The limits of a table (specification 1.5). They stand here and nowhere else. Assumes nothing.
 use Prim.Native.Nat.{ℕ}
 
 -- The limits of a table: atoms and slots are numbered from 0 to below these; a rule has at most so many entries.
@@ -8,6 +7,6 @@ pub record Limits : Type 0 where
   pub slots : ℕ
   pub entries : ℕ
 
--- The specification's limits.
+-- Those of the specification, which is the document that the name means.
 abbrev pub document : Limits
 document = record { atoms = 256; slots = 256; entries = 8 }

@@ -1,5 +1,5 @@
 -- Request #104: the in atoms are sought in rounds over the slots, lowest layer first (specification 2.15). What a round
--- is, when a layer ends, how many rounds it has, and what that number lies between (9.4). Assumes nothing.
+-- is, when a layer ends, how many rounds it has, and what that number lies between (specification 9.4). Assumes nothing.
 use Prim.Native.Nat.{ℕ, zero, suc, _≤_}
 use mathlib.Core.Path.{_≡_}
 use mathlib.Core.Bool.{Bool, true, false, not, _&&_, _||_}

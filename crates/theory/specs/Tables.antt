@@ -1,5 +1,5 @@
--- The small tables T1 to T11 (specification 10.1) and those of requests #102 and #108 (10.2) as one list, and what is
--- claimed of each. Assumes nothing.
+-- The small tables T1 to T11 (specification 10.1) and those of requests #102 and #108 (specification 10.2) as one list,
+-- and what is claimed of each. Assumes nothing.
 use Prim.Native.Nat.{ℕ, zero, suc}
 use mathlib.Core.Path.{_≡_}
 use mathlib.Core.Bool.{true}

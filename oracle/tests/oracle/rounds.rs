@@ -295,9 +295,9 @@ fn layers_grow_over_negative_entries_never_fall_over_positive_ones_and_none_is_e
     }
 }
 
-/// The rounds as the request tells them, and what they find. Layers are taken lowest first. A round goes over the slots
-/// in order and puts in the head of each unmuted rule of the layer that is valid in what was found up to there. The
-/// layer ends at its first round that adds none.
+/// The rounds as specification 2.15 tells them, and what they find. Layers are taken lowest first. A round goes over the
+/// slots in order and puts in the head of each unmuted rule of the layer that is valid in what was found up to there.
+/// The layer ends at its first round that adds none.
 fn made(program: &[Option<Page>], layers: &[u32]) -> (Vec<u32>, AtomSet) {
     let mut found = AtomSet::empty();
     let mut counts = Vec::new();
