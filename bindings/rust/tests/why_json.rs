@@ -70,7 +70,7 @@ fn stopped_told(stopped: &Stopped) -> String {
     }
 }
 
-/// The branches of a reason, and the reason in a line, without them.
+/// The branches of a node, and the node in a line, without them.
 fn told(why: &Why) -> (Vec<&Why>, String) {
     let (branches, because) = match &why.because {
         Because::Supported { rule, from } => {
@@ -95,7 +95,7 @@ fn told(why: &Why) -> (Vec<&Why>, String) {
     (branches, format!("{} {}: {because}", why.atom, why.label))
 }
 
-/// The reasons of a tree in reading order, a line each.
+/// The nodes of a tree in reading order, a line each.
 fn lines(why: &Why) -> Vec<String> {
     let (mut waiting, mut lines) = (vec![why], Vec::new());
     while let Some(why) = waiting.pop() {
@@ -138,57 +138,55 @@ impl Back<'_> {
         format!("{rule} {how} at {}", number(value, "place"))
     }
 
-    /// A cut reason says where the reason of its atom stands: before it, and told.
-    fn cut(&self, reason: &Json, place: usize) {
-        let at = number(reason, "at") as usize;
+    /// A cut node says where the node of its atom stands: before it, and told.
+    fn cut(&self, node: &Json, place: usize) {
+        let at = number(node, "at") as usize;
         assert!(at < place);
-        assert_eq!(self.tree[at].get("atom"), reason.get("atom"));
+        assert_eq!(self.tree[at].get("atom"), node.get("atom"));
         let told = word(&self.tree[at], "because");
         assert!(told == "supported" || told == "stopped", "{told}");
     }
 
-    /// A reason of the document in a line, as that of a tree.
-    fn line(&self, place: usize, reason: &Json) -> String {
-        let kind = word(reason, "because");
+    /// A node of the document in a line, as that of a tree.
+    fn line(&self, place: usize, node: &Json) -> String {
+        let kind = word(node, "because");
         let because = match kind {
             "supported" => {
-                let from = items(reason, "from").len();
-                format!("{kind} {} from {from}", self.rule(reason))
+                let from = items(node, "from").len();
+                format!("{kind} {} from {from}", self.rule(node))
             }
             "stopped" => {
-                let rules = items(reason, "rules").iter();
+                let rules = items(node, "rules").iter();
                 let rules: Vec<String> = rules.map(|rule| self.stopped(rule)).collect();
                 format!("{kind} {rules:?}")
             }
             _ => kind.to_string(),
         };
         if kind == "above" || kind == "earlier" {
-            self.cut(reason, place);
+            self.cut(node, place);
         }
-        format!("{} {}: {because}", number(reason, "atom"), label(reason))
+        format!("{} {}: {because}", number(node, "atom"), label(node))
     }
 }
 
-/// The reasons of a document of this table, a line each. With the order that `in_reading_order` asks for they are a
-/// tree, since a line says how many branches a reason has.
+/// The nodes of a document of this table, a line each. With the order that `in_reading_order` asks for they are a
+/// tree, since a line says how many branches a node has.
 fn back(document: &Json, table: &Table) -> Vec<String> {
     let tree = items(document, "tree");
     let back = Back { table, tree };
-    let reasons = tree.iter().enumerate();
-    reasons
-        .map(|(place, reason)| back.line(place, reason))
-        .collect()
+    let nodes = tree.iter().enumerate();
+    nodes.map(|(place, node)| back.line(place, node)).collect()
 }
 
-/// The numbers of a reason's branches, from the left.
-fn branches(reason: &Json) -> Vec<usize> {
-    let listed = reason.get("from").or(reason.get("rules"));
+/// The numbers of a node's branches, from the left.
+fn branches(node: &Json) -> Vec<usize> {
+    let listed = node.get("from").or(node.get("rules"));
     let listed = listed.map_or(&[][..], Json::items).iter();
     let numbers = listed.filter_map(|branch| branch.get("by").unwrap_or(branch).number());
     numbers.map(|number| number as usize).collect()
 }
 
-/// Depth first, left to right, the reasons come in the order of their numbers.
+/// Depth first, left to right, the nodes come in the order of their numbers.
 fn in_reading_order(document: &Json) -> bool {
     let tree = items(document, "tree");
     let (mut waiting, mut next) = (vec![0], 0);
@@ -295,7 +293,7 @@ fn checklists_are_printed_with_their_names() {
         assert_eq!(word(root.get("label").expect("a label"), "state"), first);
         assert!(items(&document, "tree")
             .iter()
-            .all(|reason| reason.get("name").is_some()));
+            .all(|node| node.get("name").is_some()));
     }
 }
 
@@ -312,10 +310,10 @@ fn names_come_back_as_they_were_given() {
     assert_eq!(told, "");
     let document = read(&printed);
     assert_eq!(schema().holds(&document), Ok(()));
-    let reasons = items(&document, "tree");
-    let entry = &items(reasons[0].get("rule").expect("a rule"), "positives")[0];
-    assert_eq!(reasons[0].get("name"), None);
-    for named in [&reasons[1], entry] {
+    let nodes = items(&document, "tree");
+    let entry = &items(nodes[0].get("rule").expect("a rule"), "positives")[0];
+    assert_eq!(nodes[0].get("name"), None);
+    for named in [&nodes[1], entry] {
         assert_eq!(word(named, "name"), names[2..].trim_end());
     }
 }

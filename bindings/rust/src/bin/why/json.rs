@@ -1,5 +1,5 @@
-//! The tree as JSON: a list of reasons in reading order, each of which names its branches by their numbers in the list.
-//! A tree may be 256 reasons deep, and many readers of JSON give up far above that where one stands inside another.
+//! The tree as JSON: a list of nodes in reading order, each of which names its branches by their numbers in the list.
+//! A tree may be 256 nodes deep, and many readers of JSON give up before that where one stands inside another.
 
 use crate::sheet::Names;
 use std::collections::BTreeMap;
@@ -8,8 +8,8 @@ use yeqontur::{Because, Label, Rule, Side, Stop, Stopped, Table, Why};
 /// Another shape gets another name, so that a reader can tell.
 const FORMAT: &str = "yeqontur-why-1";
 
-/// A reason, and the numbers of its branches.
-struct Reason<'a> {
+/// A node, and the numbers of its branches.
+struct Node<'a> {
     why: &'a Why,
     branches: Vec<usize>,
 }
@@ -29,9 +29,9 @@ fn branches(why: &Why) -> Vec<&Why> {
     }
 }
 
-/// The reasons in reading order: depth first, left to right.
-fn listed(why: &Why) -> Vec<Reason<'_>> {
-    let mut list: Vec<Reason> = Vec::new();
+/// The nodes in reading order: depth first, left to right.
+fn listed(why: &Why) -> Vec<Node<'_>> {
+    let mut list: Vec<Node> = Vec::new();
     let mut waiting: Vec<(Option<usize>, &Why)> = vec![(None, why)];
     while let Some((above, why)) = waiting.pop() {
         let number = list.len();
@@ -40,7 +40,7 @@ fn listed(why: &Why) -> Vec<Reason<'_>> {
         }
         let below = branches(why).into_iter().rev();
         waiting.extend(below.map(|branch| (Some(number), branch)));
-        list.push(Reason {
+        list.push(Node {
             why,
             branches: Vec::new(),
         });
@@ -48,11 +48,11 @@ fn listed(why: &Why) -> Vec<Reason<'_>> {
     list
 }
 
-/// The number of each atom's first reason. Where a reason is cut, that is the one which is told.
-fn firsts(list: &[Reason]) -> BTreeMap<u32, usize> {
+/// The number of each atom's first node. Where a node is cut, that is the one which is told.
+fn firsts(list: &[Node]) -> BTreeMap<u32, usize> {
     let numbered = list.iter().enumerate().rev();
     numbered
-        .map(|(number, reason)| (reason.why.atom, number))
+        .map(|(number, node)| (node.why.atom, number))
         .collect()
 }
 
@@ -141,7 +141,7 @@ impl Writer<'_> {
         format!(r#""because": "{word}", "at": {at}"#)
     }
 
-    fn reason(&self, Reason { why, branches }: &Reason) -> String {
+    fn node(&self, Node { why, branches }: &Node) -> String {
         let because = match &why.because {
             Because::Absent => r#""because": "absent""#.to_string(),
             Because::Supported { rule, .. } => {
@@ -163,7 +163,7 @@ impl Writer<'_> {
     }
 }
 
-/// The document: a reason to a line, and the rules of an out atom below it, each on a line of its own.
+/// The document: a node to a line, and the rules of an out atom below it, each on a line of its own.
 pub fn written(why: &Why, table: &Table, names: &Names) -> String {
     let list = listed(why);
     let writer = Writer {
@@ -171,6 +171,6 @@ pub fn written(why: &Why, table: &Table, names: &Names) -> String {
         labels: table.labels().collect(),
         firsts: firsts(&list),
     };
-    let tree = lines(list.iter().map(|reason| writer.reason(reason)), "  ");
+    let tree = lines(list.iter().map(|node| writer.node(node)), "  ");
     format!("{{\"format\": \"{FORMAT}\", \"tree\": {tree}}}\n")
 }
