@@ -9,7 +9,7 @@
  * too long (refusal 2) is not read, whatever its length says, nor is a file whose length is wrong (refusal 16).
  *
  * Nothing is allocated or kept, so any number of threads may call at once; a thread with 128 KB of stack can make any
- * call.
+ * call (tried with gcc, and with clang from -O1 on).
  *
  * The library is for x86-64. Build with `pkg-config --cflags --libs yeqontur` where it is installed (./install PREFIX);
  * in the repository with -Iinclude and target/staticlib/libyeqontur.a, which `rt staticlib yeqontur` makes.
@@ -33,7 +33,8 @@ extern "C" {
  * another name. Who keeps the bytes of a table keeps this number with them. */
 #define YEQONTUR_LAYOUT 1
 
-/* The compiler warns where the answer of a call is dropped that changes a table, or hands one or a file over. */
+/* The compiler warns where the answer of a call is dropped that changes a table, saves or loads one, or opens a
+ * checklist. */
 #if defined(__GNUC__)
 #define YEQONTUR_KEEP __attribute__((warn_unused_result))
 #else
@@ -77,8 +78,8 @@ typedef struct {
 /* A table goes in by value and comes back by value. Any bytes are a table; question 15 says whether it is sound
  * (docs/SPECIFICATION.md, 3.4). A table with a list that does not ascend is not, nor is one with the same rule in two
  * slots, muted or not. Its structs have no padding, so two sound tables with the same rules in the same slots, the same
- * of them muted, are equal byte for byte (memcmp): a table can be stored, compared and hashed as the 7,168 bytes that it
- * is. The empty table is all zero. */
+ * of them muted, are equal byte for byte (memcmp): a table can be stored, compared and hashed as the 7,168 bytes that
+ * it is. The empty table is all zero. */
 typedef struct {
     yeqontur_rule rules[YEQONTUR_SLOTS];
     yeqontur_kept_label labels[YEQONTUR_ATOMS];

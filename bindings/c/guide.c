@@ -106,11 +106,11 @@ static void show_why(const yeqontur_table *table, uint32_t atom) {
     show(table, atom, 0, told);
 }
 
-/* The slot of an atom that has one rule. */
+/* The slot of an atom's first rule; one that holds no rule where it has none. */
 static uint32_t slot_of(const yeqontur_table *table, uint32_t atom) {
     uint32_t slots[YEQONTUR_SLOTS];
-    yeqontur_justifications(*table, atom, slots, YEQONTUR_SLOTS);
-    return slots[0];
+    const yeqontur_list_answer list = yeqontur_justifications(*table, atom, slots, YEQONTUR_SLOTS);
+    return list.count > 0 ? slots[0] : YEQONTUR_SLOTS;
 }
 
 /* Two changes to the rule of notes.txt. The first is refused, and the old rule still stands. */

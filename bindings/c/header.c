@@ -31,6 +31,26 @@ static void versions(void) {
     expect(strcmp(text, YEQONTUR_VERSION_TEXT) == 0, "the version in words");
 }
 
+/* Each named state is the one that the calls leave or tell: of slots, of labels, and of what is said of a rule. */
+static void states(void) {
+    const uint32_t two = 2, three = 3, four = 4;
+    yeqontur_table table = added(yeqontur_empty(), 1, &two, 1, &three, 1);
+    expect(table.rules[0].state == YEQONTUR_RULE_HELD, "a held rule");
+    expect(table.rules[1].state == YEQONTUR_RULE_FREE, "a free slot");
+    expect(yeqontur_spoiler(table, 0).spoiled == YEQONTUR_SPOILER_NEEDS, "a rule that needs an atom");
+    table = fact(table, 2);
+    expect(yeqontur_spoiler(table, 0).spoiled == YEQONTUR_SPOILER_NONE, "a valid rule");
+    expect(yeqontur_label(table, 1).state == YEQONTUR_LABEL_IN, "an atom that is in");
+    expect(yeqontur_label(table, 3).state == YEQONTUR_LABEL_OUT, "an atom that is out");
+    expect(yeqontur_label(table, four).state == YEQONTUR_LABEL_ABSENT, "an atom of no rule");
+    expect(table.labels[1].state == YEQONTUR_LABEL_IN && table.labels[3].state == YEQONTUR_LABEL_OUT, "kept labels");
+    table = fact(table, 3);
+    expect(yeqontur_spoiler(table, 0).spoiled == YEQONTUR_SPOILER_BLOCKED_BY, "a rule that is blocked");
+    expect(yeqontur_mute_in(&table, 0, 1) == YEQONTUR_ACCEPTED, "a muting");
+    expect(table.rules[0].state == YEQONTUR_RULE_MUTED, "a muted rule");
+    expect(yeqontur_spoiler(table, 0).spoiled == YEQONTUR_SPOILER_MUTED, "what is said of it");
+}
+
 /* A call in place answers what the call answers, and leaves its table; refused, the one that was there. */
 static void in_place(const yeqontur_table *before, const yeqontur_table *after, uint32_t told, uint32_t refused,
                      const yeqontur_table *table, const char *what) {
@@ -137,6 +157,7 @@ static void checklists(void) {
 int main(void) {
     refusals();
     versions();
+    states();
     additions();
     slots();
     files();

@@ -70,12 +70,12 @@
 //!
 //! # Versions
 //!
-//! [`VERSION`] is that of this crate, [`version`] that of the library that is linked. Cases and fields may still come where a type is marked non-exhaustive: there a
-//! `match` has a further arm, and a pattern ends with `..`. The others are complete: an atom has one of three labels,
-//! a rule has two lists, and a file of a checklist one of three states. [`raw`] has the structs of
-//! `include/yeqontur.h`, field for field.
+//! [`VERSION`] is that of this crate, [`version`] that of the library that is linked. Cases and fields may still come
+//! where a type is marked non-exhaustive: there a `match` has a further arm, and the pattern of a struct ends with `..`;
+//! the fields of a case stay. The other types are complete: an atom has one of three labels, a rule has two lists, and a
+//! file of a checklist one of three states. [`raw`] has the structs of `yeqontur.h`, field for field.
 //!
-//! The guide, with whole programs, is `docs/GUIDE.md` of the repository.
+//! The guide, with whole programs, is `docs/GUIDE.md` of the repository; it is installed in `share/doc/yeqontur`.
 
 #![deny(missing_docs)]
 #![deny(unsafe_code)] // but for `raw`

@@ -179,7 +179,7 @@ impl Rule {
     }
 }
 
-/// As the specification writes it. Its slot, and that it is muted, are not written.
+/// As the specification writes it (1.3). Its slot, and that it is muted, are not written.
 ///
 /// ```
 /// # use yeqontur::Table;

@@ -153,6 +153,37 @@ fn asked(call: &str) -> String {
     named.next().expect(call)[2].clone()
 }
 
+/// The raw calls of the crate that have a row of their own in 4.4 or share one.
+const RAW: [(&str, &str); 14] = [
+    ("add", "Add"),
+    ("remove", "Remove"),
+    ("replace", "Replace"),
+    ("mute", "Mute"),
+    ("label", "Label"),
+    ("spoiler", "Spoiler"),
+    ("save", "Save"),
+    ("load", "Load"),
+    ("checklist_open", "Open"),
+    ("checklist_sent", "File sent"),
+    ("checklist_skipped", "File skipped"),
+    ("checklist_withdraw", "Skip withdrawn"),
+    ("checklist_missing", "Missing files"),
+    ("checklist_complete", "Complete"),
+];
+
+#[test]
+fn each_raw_call_of_the_crate_says_what_it_asks() {
+    let docs = file("bindings/rust/src/raw.rs");
+    for (name, call) in RAW {
+        let (_, doc) = docs
+            .split_once(&format!("/// `yeqontur_{name}`: "))
+            .expect(name);
+        let (_, numbers) = doc.split_once("Asks ").expect(name);
+        let (numbers, _) = numbers.split_once(".\n").expect(name);
+        assert_eq!(numbers, asked(call), "{name}");
+    }
+}
+
 /// The book stands for sound tables, so 15 is left to the calls on files, which ask by it for a checklist.
 #[test]
 fn the_book_asks_what_the_calls_ask() {
