@@ -48,7 +48,7 @@ static void orders(void) {
     const yeqontur_table table = added(yeqontur_empty(), 5, given, 3, NULL, 0, 0);
     const yeqontur_rule *rule = &table.rules[0];
     expect(rule->positives == 3 && rule->entries[0] == 1 && rule->entries[1] == 2 && rule->entries[2] == 3,
-           "5 < 3 1 2 is kept as 1 2 3");
+           "5 < 3, 1, 2 is kept as 1, 2, 3");
     yeqontur_change change = yeqontur_add(table, 5, other, 3, NULL, 0);
     expect(change.refused == 5 && held(&change.table) == 1, "the same rule in another order is refused 5");
     expect(memcmp(&change.table, &table, sizeof table) == 0, "and the table comes back as it was");

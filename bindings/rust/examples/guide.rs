@@ -78,7 +78,7 @@ fn show(why: &Why, indent: usize) {
     match &why.because {
         Because::Supported { from, .. } => from.iter().for_each(|w| show(w, indent + 2)),
         Because::Stopped(rules) => rules.iter().for_each(|rule| show_stopped(rule, indent + 2)),
-        // No rule has the atom, or its reason is shown elsewhere in the tree.
+        // No rule has the atom, or its branches are shown elsewhere in the tree.
         _ => {}
     }
 }

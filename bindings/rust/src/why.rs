@@ -28,9 +28,9 @@ pub struct Why {
     pub because: Because,
 }
 
-/// The tree is finite and has at most one branch for each entry of each rule, and one for each muted rule: where a
-/// reason with branches of its own would be told again, it is cut, and says where the reason stands. Reading order is
-/// depth first, left to right. More cases may come.
+/// The tree is finite and has at most one branch for each entry of each rule, and one for each muted rule: where the
+/// branches of an atom would be told again, it is cut, and says where they stand. Reading order is depth first, left to
+/// right. More cases may come.
 ///
 /// ```
 /// # use yeqontur::{Because, Table, Why};
@@ -60,14 +60,14 @@ pub enum Because {
     Supported {
         /// The supporting rule.
         rule: Rule,
-        /// A reason for each positive entry, ascending.
+        /// A branch for each positive entry, ascending.
         from: Vec<Why>,
     },
     /// Out, since each of its rules, by slot, is stopped. An atom that is the head of no rule has none to show.
     Stopped(Vec<Stopped>),
     /// Cut: the atom stands above on this path, and waits for itself. Only an out atom can.
     Above,
-    /// Cut: the reason of this atom was told earlier in the tree, on another path.
+    /// Cut: the branches of this atom were told earlier in the tree, on another path.
     Earlier,
 }
 
@@ -112,10 +112,10 @@ pub enum Stop {
         side: Side,
         /// The entry's place in that list, which ascends, from 0.
         place: u32,
-        /// The entry's atom, with its own reason.
+        /// The entry's atom, with its own branches.
         by: Why,
     },
-    /// Whatever its entries are: no reason of theirs is told.
+    /// Whatever its entries are: no branch is theirs.
     Muted,
 }
 
@@ -141,7 +141,7 @@ impl fmt::Display for Stop {
     }
 }
 
-/// How far the reason of an atom has been told.
+/// How far the branches of an atom have been told.
 #[derive(Clone, Copy, PartialEq, Eq)]
 enum Told {
     No,
@@ -205,7 +205,7 @@ impl Teller<'_> {
         })
     }
 
-    /// A reason without branches may be told many times: it is short.
+    /// An atom without branches may be told many times: that is short.
     fn because(&mut self, atom: u32, label: Label) -> Result<Because, Refusal> {
         self.told[atom as usize] = Told::Begun;
         let because = match label {
@@ -230,7 +230,7 @@ impl Teller<'_> {
         Ok(Because::Supported { rule, from })
     }
 
-    // Not inlined: each of the 256 levels of the deepest reason, whose atoms are in, would have room for it.
+    // Not inlined: each of the 256 levels of the deepest tree of in atoms would have room for it.
     #[inline(never)]
     fn stopped(&mut self, atom: u32) -> Result<Because, Refusal> {
         let mut rules = Vec::new();

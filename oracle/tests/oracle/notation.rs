@@ -1,4 +1,4 @@
-//! Rules as they are written (specification 1.3): `1 < 2 !3` is head 1, positive 2, negative 3. A muted rule has a `~`
+//! Rules as the tests write them, shorter than specification 1.3: `1 < 2 !3` is `1 < 2, not 3`. A muted rule has a `~`
 //! in front.
 
 use oracle::calls;

@@ -1,7 +1,7 @@
-//! A reason as cards: what each says, how it looks, and what hangs below it.
+//! A tree as cards: what each says, how it looks, and what hangs below it.
 
 use crate::sheet::Names;
-use crate::shown::shown;
+use crate::shown::{seen, shown};
 use std::collections::BTreeMap;
 use yeqontur::{Because, Label, Rule, Side, Stop, Stopped, Table, Why};
 
@@ -41,7 +41,7 @@ pub struct Line {
     pub goes_on: bool,
 }
 
-/// What a card is about: an atom, by its name; the rule in a slot; or cards that are left out, how many.
+/// What a card is about: an atom, by what can be asked for; the rule in a slot; or cards that are left out, how many.
 #[derive(Clone, PartialEq, Eq, Debug)]
 pub enum Of {
     Atom(String),
@@ -57,7 +57,7 @@ pub struct Card {
     /// The card that it hangs from, which stands before it in the list, and how.
     pub from: Option<(usize, Link)>,
     pub row: usize,
-    /// Where the reason of its atom is told, if that is another card.
+    /// The card that the branches of its atom hang from, if that is another one.
     pub told: Option<usize>,
 }
 
@@ -72,12 +72,12 @@ struct Words<'a> {
     table: &'a Table,
     names: &'a Names,
     cards: Vec<Card>,
-    /// The card that tells the reason of an atom.
+    /// The card that the branches of an atom hang from.
     told: BTreeMap<u32, usize>,
 }
 
 pub const ABOVE: &str = "shown above: it waits for itself";
-pub const EARLIER: &str = "its reason is shown already";
+pub const EARLIER: &str = "its branches are shown already";
 
 pub fn line(text: String) -> Line {
     Line {
@@ -146,21 +146,20 @@ impl Drawing {
 impl Words<'_> {
     fn name(&self, atom: u32) -> String {
         let named = self.names.get(&atom).map(|name| shown(name));
-        let seen = named.filter(|name| !name.trim().is_empty());
+        let seen = named.filter(|name| name.chars().any(seen));
         seen.unwrap_or_else(|| format!("atom {atom}"))
     }
 
     /// The card of an atom, and those below it.
     fn atom(&mut self, why: &Why, from: Option<(usize, Link)>, row: usize) {
         let place = self.cards.len();
-        let name = self.name(why.atom);
-        let mut lines = vec![bold(name.clone())];
+        let mut lines = vec![bold(self.name(why.atom))];
         lines.extend(self.says(why).into_iter().map(line));
         let cut = matches!(why.because, Because::Above | Because::Earlier);
         let told = self.told.get(&why.atom).copied().filter(|_| cut);
         self.cards.push(Card {
             look: look(why.label),
-            of: Of::Atom(name),
+            of: Of::Atom(self.asked(why.atom)),
             lines,
             from,
             row,
@@ -170,6 +169,15 @@ impl Words<'_> {
             self.told.insert(why.atom, place);
         }
         self.below(why, place, row);
+    }
+
+    /// By its number an atom can be asked for, whatever its name is.
+    fn asked(&self, atom: u32) -> String {
+        let (name, number) = (self.name(atom), format!("atom {atom}"));
+        if name == number {
+            return number;
+        }
+        format!("{number}, {name}")
     }
 
     /// The cards below an atom's card.

@@ -119,37 +119,45 @@ fn says(cards: &[Card], members: &[usize], why: &str) -> Vec<String> {
             format!("{} of rules, {} of atoms", figures(rules), figures(atoms)),
         ],
     };
-    let slots = slots(cards, members);
-    let next = slots.is_none().then(|| next(cards, members)).flatten();
-    lines.extend(slots);
+    lines.extend(slots(cards, members));
     lines.push(why.to_string());
-    lines.extend(next);
+    lines.push(seen(cards, members));
     lines
 }
 
-/// The slots of the rules that are left out side by side, if they are several.
+/// The slots of all rules that are left out, if they are several and follow one another.
 fn slots(cards: &[Card], members: &[usize]) -> Option<String> {
-    let from = |place: usize| cards[place].from.map(|(from, _)| from);
-    let mut tops = members.iter().rev();
-    let last = tops.find(|&&place| from(place) == from(members[0]))?;
-    match (&cards[members[0]].of, &cards[*last].of) {
-        (Of::Rule(first), Of::Rule(last)) if first != last => {
-            Some(format!("the rules in slots {first} to {last}"))
-        }
+    let slot = |place: &usize| match cards[*place].of {
+        Of::Rule(slot) => Some(slot as usize),
         _ => None,
-    }
+    };
+    let mut slots: Vec<usize> = members.iter().filter_map(slot).collect();
+    slots.sort_unstable();
+    let (first, last) = (*slots.first()?, *slots.last()?);
+    let gapless = first < last && last - first + 1 == slots.len();
+    gapless.then(|| format!("the rules in slots {first} to {last}"))
 }
 
-/// The first atom that has something below it that is left out as well: its own picture shows that.
-fn next(cards: &[Card], members: &[usize]) -> Option<String> {
-    let hangs = |from: usize| {
-        let mut others = members.iter();
-        others.any(|&other| cards[other].from.is_some_and(|(found, _)| found == from))
+/// How the cards of a group can be seen: in the picture of the atom that all others of them hang below, or of the one
+/// that all of them do. Where that is the atom of this picture, it is no help.
+fn seen(cards: &[Card], members: &[usize]) -> String {
+    let from = |place: usize| cards[place].from.map(|(from, _)| from);
+    let beside = |&&place: &&usize| from(place) == from(members[0]);
+    let alone = members.iter().filter(beside).count() == 1;
+    let start = if alone {
+        Some(members[0])
+    } else {
+        from(members[0])
     };
-    members.iter().find_map(|&place| match &cards[place].of {
-        Of::Atom(name) if hangs(place) => Some(format!("to go on, ask for {name}")),
+    let mut up = std::iter::successors(start, |&place| from(place));
+    let atom = up.find_map(|place| match &cards[place].of {
+        Of::Atom(asked) => Some((place, asked)),
         _ => None,
-    })
+    });
+    match atom {
+        Some((place, asked)) if place > 0 => format!("to go on, ask for {asked}"),
+        _ => "all are in the tree as JSON (--json)".to_string(),
+    }
 }
 
 /// How many of the cards are of atoms, and how many of rules.
@@ -178,7 +186,7 @@ fn left_out(cards: &[Card], members: &[usize], from: Option<(usize, Link)>, why:
     }
 }
 
-/// A shown card. Where its reason is told on another card, its last line says so; that card may be left out.
+/// A shown card. Where its branches hang from another card, its last line says so; that card may be left out.
 fn kept(card: &Card, from: Option<(usize, Link)>, shown: &[bool]) -> Card {
     let mut kept = Card {
         from,
@@ -187,14 +195,14 @@ fn kept(card: &Card, from: Option<(usize, Link)>, shown: &[bool]) -> Card {
     if let (Some(told), Some(line)) = (card.told, kept.lines.last_mut()) {
         line.text = match line.text.as_str() {
             ABOVE if !shown[told] => "left out above: it waits for itself".to_string(),
-            EARLIER if !shown[told] => "its reason is left out".to_string(),
+            EARLIER if !shown[told] => "its branches are left out".to_string(),
             text => text.to_string(),
         };
     }
     kept
 }
 
-/// The first so many cards of the order, and a card for each group of the others, with the reason why it is left out.
+/// The first so many cards of the order, and a card for each group of the others, which says why they are left out.
 pub fn folded(cards: &[Card], order: &[usize], most: usize, why: &str) -> Vec<Card> {
     let shown = shown(cards, order, most);
     let groups = groups(cards, &shown);

@@ -1,6 +1,6 @@
 //! Where everything stands. Each card has a column of its own, as wide as what hangs below it, and each row is as high
 //! as its highest card, so that nothing overlaps. Links run down a column and along the space between rows. A picture
-//! that would be too large shows as many cards as have room.
+//! that would be too large leaves cards out (fold.rs).
 
 use crate::bands::{Bands, Spot, COLUMN_GAP, GUTTER};
 use crate::cards::{Card, Drawing, Line, Link, Look};

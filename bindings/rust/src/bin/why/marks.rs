@@ -43,6 +43,7 @@ fn checklist(words: &[String]) -> Result<Checklist, String> {
         match (word.as_str(), call) {
             ("sent", _) => call = Some(Checklist::sent),
             ("skipped", _) => call = Some(Checklist::skipped),
+            ("good", _) => return Err("good and one file's number stand last".to_string()),
             (file, Some(mark)) => mark(&mut checklist, number(file)?)
                 .map_err(|refusal| format!("file {file} {refusal}"))?,
             (_, None) => return Err(format!("sent or skipped is missing before {word}")),

@@ -94,10 +94,11 @@ fn within(letter: char, ranges: &[(u32, u32)]) -> bool {
 }
 
 /// How many times its size a letter is wide at most. The first letters have bounds of their own: what was measured, and
-/// for Verdana, which was not at hand, the widths that are known of it (`:` 0.454, and bold `(` 0.543 and `%` 1.272).
+/// for Verdana, which was not at hand, the widths that are known of it (`:` 0.454, and bold `j` 0.402, `(` 0.543 and `%` 1.272).
 fn share(letter: char) -> f64 {
     match letter {
-        'i' | 'j' | 'l' | '\'' => 0.31,
+        'i' | 'l' | '\'' => 0.31,
+        'j' => 0.36,
         ' ' | '.' | ',' => 0.38,
         'f' | 't' | 'r' | '-' | '!' => 0.48,
         '(' | ')' | ':' | ';' => 0.49,
@@ -155,8 +156,22 @@ fn closes(letter: char) -> bool {
     closing.contains(letter)
 }
 
-/// Whether the text has letters of a script that goes far over or under the line, so that it needs a higher one.
+/// Marks of which several on one letter stand over each other.
+pub fn stacks(letter: char) -> bool {
+    let unseen = matches!(letter as u32, 0x200B..=0x200F | 0x2060 | 0xFE00..=0xFE0F | 0xE0000..);
+    let further = matches!(letter as u32, 0x488..=0x489 | 0x1ABE..=0x1AFF | 0x1DF6..=0x1DFF | 0x20D0..=0x20F0);
+    let marks = within(letter, &WITHOUT_WIDTH) || within(letter, &MARKS);
+    !unseen && (marks || further)
+}
+
+/// Whether the text goes far over or under the line, by its script or by marks over marks, so that it needs a higher
+/// one.
 pub fn tall(text: &str) -> bool {
+    let behind = text.chars().skip(1);
+    let mut pairs = text.chars().zip(behind);
+    if pairs.any(|(one, next)| stacks(one) && stacks(next)) {
+        return true;
+    }
     let mut codes = text.chars().map(|letter| letter as u32);
     codes.any(|code| {
         matches!(

@@ -56,7 +56,7 @@ fn all_files() -> Vec<u32> {
     (1..=60).collect()
 }
 
-/// The two that the program of the story shows, after its scan and at its end, and some of large reasons.
+/// The two that the program of the story shows, after its scan and at its end, and some of large trees.
 #[test]
 fn the_pictures_of_the_repository_are_made_by_the_program() {
     let five_rules = rules(example!("pictures/five_rules.sheet"));
@@ -170,7 +170,7 @@ fn an_in_atom_shows_its_supporting_rule_alone() {
     assert!(!text.contains("muted"), "{text}");
 }
 
-/// Tables of every kind of reason, from a seed; some of their rules are muted. Of the positives of a rule there are at
+/// Tables of every kind of tree, from a seed; some of their rules are muted. Of the positives of a rule there are at
 /// least so many, but in one of 16.
 fn table(mut seed: u32, atoms: u32, rules: u32, least: u32) -> Table {
     let mut below = |bound: u32| {
@@ -296,6 +296,57 @@ fn nothing_is_lost(drawing: &Drawing, picture: &Picture) {
     );
 }
 
+/// The number that stands in a text behind these words.
+fn number_behind(told: &str, words: &str) -> Option<usize> {
+    let (_, rest) = told.split_once(words)?;
+    let figures: String = rest.chars().take_while(char::is_ascii_digit).collect();
+    figures.parse().ok()
+}
+
+/// How many cards hang below that of an atom whose branches are told there.
+fn below_atom(drawing: &Drawing, atom: usize) -> usize {
+    let (alone, named) = (format!("atom {atom}"), format!("atom {atom}, "));
+    let is_it = |card: &Card| match &card.of {
+        Of::Atom(asked) => card.told.is_none() && (*asked == alone || asked.starts_with(&named)),
+        _ => false,
+    };
+    let mut below = vec![false; drawing.cards.len()];
+    for (place, card) in drawing.cards.iter().enumerate() {
+        let from = card.from.is_some_and(|(from, _)| below[from]);
+        below[place] = from || is_it(card);
+    }
+    below.iter().filter(|&&below| below).count()
+}
+
+/// A card that stands for others names slots only if they are exactly those of the rules left out, and an atom only if
+/// it is another one than that of the picture, with as many cards below it.
+fn what_is_left_out_is_told_rightly(drawing: &Drawing, picture: &Picture) {
+    let cards = || picture.cards.iter().map(|placed| &placed.card);
+    let shown: Vec<&Of> = cards().map(|card| &card.of).collect();
+    for card in cards().filter(|card| card.look == Look::LeftOut) {
+        let lines: Vec<&str> = card.lines.iter().map(|line| line.text.as_str()).collect();
+        let told = lines.join(" ");
+        if let Some(first) = number_behind(&told, "the rules in slots ") {
+            let last = number_behind(&told, &format!("slots {first} to ")).expect("a last slot");
+            let rules = matches!(card.of, Of::LeftOut { rules, .. } if rules == last - first + 1);
+            let hidden = (first..=last).all(|slot| !shown.contains(&&Of::Rule(slot as u32)));
+            assert!(rules && hidden, "{told}");
+        }
+        let Some(atom) = number_behind(&told, "to go on, ask for atom ") else {
+            assert!(
+                told.ends_with("all are in the tree as JSON (--json)"),
+                "{told}"
+            );
+            continue;
+        };
+        let this = number_behind(&format!("{:?}", drawing.cards[0].of), "atom ");
+        assert!(
+            this != Some(atom) && below_atom(drawing, atom) >= left_out(card),
+            "{told}"
+        );
+    }
+}
+
 /// Whether the text is XML as far as this program writes it: known marks, each text closed, and no letter that XML does
 /// not have.
 fn well_formed(text: &str) {
@@ -333,6 +384,7 @@ fn is_good(drawing: &Drawing) -> Picture {
     rows_are_depths(drawing, &picture);
     nothing_overlaps(&picture);
     nothing_is_lost(drawing, &picture);
+    what_is_left_out_is_told_rightly(drawing, &picture);
     picture.cards.iter().for_each(text_fits);
     well_formed(&svg::written(&picture));
     assert!(picture.width <= WIDEST && picture.height <= HIGHEST);
@@ -532,16 +584,16 @@ fn branches_stand_in_bands() {
     assert!(picture.wires.iter().any(|wire| wire.gutter.is_some()));
 }
 
-/// The reason of atom 100 is told below atom 249, and is left out; where the atom stands again, its card says so.
+/// The branches of atom 100 are told below atom 249, and are left out; where the atom stands again, its card says so.
 #[test]
-fn a_reason_that_is_left_out_is_not_said_to_be_shown() {
+fn branches_that_are_left_out_are_not_said_to_be_shown() {
     let chain = example!("pictures/chain.sheet");
     let table = rules(&format!("{chain}A 250 : 100\nA 251 : 249 250\n"));
     let said = said(&is_good(&drawing(&table, 251, "")));
     let again = &said[place(&said, "atom 250, ") + 1];
     assert_eq!(
         again,
-        "atom 100, in, depth 101, by slot 100, its reason is left out"
+        "atom 100, in, depth 101, by slot 100, its branches are left out"
     );
 }
 
@@ -577,11 +629,32 @@ fn muted_rules_are_left_out_like_others() {
     );
 }
 
+/// The rules of two atoms in turn: those of one are left out, and their slots do not follow one another.
+#[test]
+fn slots_with_others_between_them_are_not_told() {
+    let mut sheet = String::new();
+    for rule in 0..128 {
+        sheet += &format!("A 0 : {}\nA 1 : {}\n", rule + 2, rule + 2);
+    }
+    let picture = is_good(&drawing(&rules(&sheet), 0, ""));
+    assert!(left_out_in(&picture) > 20);
+    assert!(said(&picture)
+        .iter()
+        .all(|told| !told.contains("the rules in slots")));
+}
+
 #[test]
 fn a_name_of_which_nothing_is_seen_is_not_used() {
-    let mut names = Names::new();
-    names.insert(1, "\u{202E}\u{2028}".to_string());
     let table = rules("A 1 :");
-    let text = drawn(&table.why(1).expect("an atom"), &table, &names);
-    assert!(text.contains("<title>Why atom 1 is in</title>"), "{text}");
+    for name in [
+        "\u{202E}\u{2028}",
+        "\u{200B}\u{AD}",
+        "\u{3164}",
+        "\u{2800} \u{2060}",
+        "\u{FEFF}\u{200F}",
+    ] {
+        let names = Names::from([(1, name.to_string())]);
+        let text = drawn(&table.why(1).expect("an atom"), &table, &names);
+        assert!(text.contains("<title>Why atom 1 is in</title>"), "{text}");
+    }
 }

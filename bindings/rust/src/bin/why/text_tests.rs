@@ -175,6 +175,18 @@ fn large_numbers_have_commas() {
     assert_eq!(numbers.map(figures), told);
 }
 
+/// More would reach into the lines above and below.
+#[test]
+fn a_letter_has_three_marks_at_most() {
+    let marks = |count| format!("e{}f", "\u{301}".repeat(count));
+    assert_eq!(shown(&marks(3)), marks(3));
+    assert_eq!(shown(&marks(8)), marks(3));
+    assert_eq!(shown(&"\u{301}".repeat(40)), "\u{301}".repeat(3));
+    let greek = "\u{3B1}\u{314}\u{301}\u{345}";
+    assert_eq!(shown(&greek.repeat(2)), greek.repeat(2));
+    assert!(tall(&marks(2)) && tall(&marks(3)) && !tall(&marks(1)));
+}
+
 #[test]
 fn lines_of_tall_scripts_are_known() {
     assert!(tall("\u{F66}\u{F90}") && tall("x \u{1000}") && tall("\u{1242B}"));
