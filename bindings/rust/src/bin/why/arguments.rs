@@ -1,11 +1,18 @@
 //! What the words of the command line ask for. Paths are taken as they come; other words are read as text.
 
 use std::ffi::OsString;
-use std::path::PathBuf;
+use std::path::{Path, PathBuf};
 
-pub const USAGE: &str =
-    "usage: why [--json] [-o PATH] checklist FILES [sent NUMBER..] [skipped NUMBER..] [good NUMBER]
-       why [--json] [-o PATH] SHEET ATOM [NAMES] [muted SLOT..]";
+/// How the program is called, by the name that it was called by: installed it has another one.
+pub fn usage() -> String {
+    let path = std::env::args_os().next().map(PathBuf::from);
+    let name = path.as_deref().and_then(Path::file_name);
+    let name = name.map_or("why".into(), |name| name.to_string_lossy());
+    format!(
+        "usage: {name} [--json] [-o PATH] checklist FILES [sent NUMBER..] [skipped NUMBER..] [good NUMBER]
+       {name} [--json] [-o PATH] SHEET ATOM [NAMES] [muted SLOT..]"
+    )
+}
 
 /// What `--help` prints below the usage.
 pub const HELP: &str = "
@@ -79,7 +86,7 @@ fn parted(words: impl Iterator<Item = OsString>) -> Result<(Options, Vec<OsStrin
             }
             _ if is_option(&word) => {
                 let word = word.to_string_lossy();
-                return Err(format!("no such option: {word}\n{USAGE}"));
+                return Err(format!("no such option: {word}\n{}", usage()));
             }
             _ => others.push(word),
         }
@@ -100,7 +107,7 @@ fn names_and_muted(words: &[OsString]) -> Result<(Option<&OsString>, &[OsString]
         [word, slots @ ..] if word == "muted" => Ok((None, slots)),
         [names] => Ok((Some(names), &[])),
         [names, word, slots @ ..] if word == "muted" => Ok((Some(names), slots)),
-        _ => Err(USAGE.to_string()),
+        _ => Err(usage()),
     }
 }
 
@@ -116,7 +123,7 @@ fn subject(words: &[OsString]) -> Result<Subject, String> {
                 muted: text(muted),
             })
         }
-        _ => Err(USAGE.to_string()),
+        _ => Err(usage()),
     }
 }
 

@@ -4,9 +4,9 @@
 //!     why [--json] [-o PATH] SHEET ATOM [NAMES] [muted SLOT..]
 //!
 //! Of a checklist it draws why it is complete or is not, or why one of its files is good or is not. A sheet is read as
-//! the sheet program reads it: the lines that it refuses are told on standard error, and leave the table as it was. Then
-//! the rules in the slots behind `muted` are muted. NAMES has a line `atom name` for each atom that has a name. All goes
-//! to standard output, or over the file at PATH once it is made; where anything fails, that file stays as it was.
+//! the sheet program reads it: the lines that it refuses are told on standard error, and leave the table as it was.
+//! Then the rules in the slots behind `muted` are muted. NAMES has a line `atom name` for each atom that has a name. All
+//! goes to standard output, or over the file at PATH once it is made; where anything fails, that file stays as it was.
 
 mod arguments;
 mod bands;
@@ -28,7 +28,7 @@ mod svg;
 mod text_tests;
 mod wrap;
 
-use arguments::{Asked, Subject, HELP, USAGE};
+use arguments::{usage, Asked, Subject, HELP};
 use cards::Drawing;
 use files::Failure;
 use sheet::Names;
@@ -109,7 +109,7 @@ fn of(subject: &Subject) -> Result<Shown, String> {
 
 fn obey(asked: &Asked) -> Result<(), Failure> {
     match asked {
-        Asked::Help => files::write(&format!("{USAGE}\n{HELP}"), None),
+        Asked::Help => files::write(&format!("{}\n{HELP}", usage()), None),
         Asked::Tree {
             subject,
             json,

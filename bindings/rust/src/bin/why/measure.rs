@@ -94,7 +94,8 @@ fn within(letter: char, ranges: &[(u32, u32)]) -> bool {
 }
 
 /// How many times its size a letter is wide at most. The first letters have bounds of their own: what was measured, and
-/// for Verdana, which was not at hand, the widths that are known of it (`:` 0.454, and bold `j` 0.402, `(` 0.543 and `%` 1.272).
+/// for Verdana, which was not at hand, the widths that are known of it (`:` 0.454, and bold `j` 0.402, `(` 0.543 and
+/// `%` 1.272).
 fn share(letter: char) -> f64 {
     match letter {
         'i' | 'l' | '\'' => 0.31,

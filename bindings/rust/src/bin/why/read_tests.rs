@@ -1,6 +1,6 @@
 //! Sheets, names and the words of the command line are read as the guide says, and what cannot be read is told.
 
-use crate::arguments::{self, Asked, Subject, USAGE};
+use crate::arguments::{self, usage, Asked, Subject};
 use crate::sheet::{self, Names, Refused, MOST};
 use crate::{of_checklist, of_table};
 use std::ffi::OsString;
@@ -258,7 +258,7 @@ fn words_that_ask_for_nothing_are_told() {
         "sheet 7 names Muted 1",
         "-- --json",
     ] {
-        assert_eq!(read(line), Err(USAGE.to_string()), "{line}");
+        assert_eq!(read(line), Err(usage()), "{line}");
     }
 }
 
