@@ -235,7 +235,7 @@ impl Table {
     /// # Errors
     ///
     /// The first of these that applies: [`Refusal::SlotTooLarge`] (8), [`Refusal::SlotFree`] (9).
-    // Not inlined, nor is what tells of an out atom (why.rs): a reason goes down 256 levels, and each has a frame.
+    // Not inlined, nor is what tells of an out atom (why.rs): a tree goes down 256 levels, and each has a frame.
     #[inline(never)]
     pub fn rule(&self, slot: u32) -> Result<Rule, Refusal> {
         self.spoiler(slot)?; // asks whether the slot holds a rule

@@ -1,7 +1,8 @@
 //! A tree as cards: what each says, how it looks, and what hangs below it.
 
+use crate::measure::seen;
 use crate::sheet::Names;
-use crate::shown::{seen, shown};
+use crate::shown::shown;
 use std::collections::BTreeMap;
 use yeqontur::{Because, Label, Rule, Side, Stop, Stopped, Table, Why};
 
@@ -145,9 +146,9 @@ impl Drawing {
 
 impl Words<'_> {
     fn name(&self, atom: u32) -> String {
-        let named = self.names.get(&atom).map(|name| shown(name));
-        let seen = named.filter(|name| name.chars().any(seen));
-        seen.unwrap_or_else(|| format!("atom {atom}"))
+        let name = self.names.get(&atom);
+        let name = name.filter(|name| name.chars().any(seen));
+        name.map_or_else(|| format!("atom {atom}"), |name| shown(name))
     }
 
     /// The card of an atom, and those below it.
@@ -171,7 +172,8 @@ impl Words<'_> {
         self.below(why, place, row);
     }
 
-    /// By its number an atom can be asked for, whatever its name is.
+    /// By its number an atom of a sheet can be asked for, whatever its name is; a file of a checklist has its number in
+    /// the name.
     fn asked(&self, atom: u32) -> String {
         let (name, number) = (self.name(atom), format!("atom {atom}"));
         if name == number {

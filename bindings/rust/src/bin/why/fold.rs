@@ -186,18 +186,29 @@ fn left_out(cards: &[Card], members: &[usize], from: Option<(usize, Link)>, why:
     }
 }
 
-/// A shown card. Where its branches hang from another card, its last line says so; that card may be left out.
-fn kept(card: &Card, from: Option<(usize, Link)>, shown: &[bool]) -> Card {
+/// What a card says whose branches hang from another one, where those are not all shown.
+fn cut(cards: &[Card], text: &str, told: usize, shown: &[bool]) -> Option<&'static str> {
+    let places = 0..cards.len();
+    let branches = places.filter(|&place| cards[place].from.is_some_and(|(from, _)| from == told));
+    let (seen, unseen): (Vec<usize>, Vec<usize>) = branches.partition(|&place| shown[place]);
+    match text {
+        ABOVE if !shown[told] => Some("left out above: it waits for itself"),
+        EARLIER if seen.is_empty() => Some("its branches are left out"),
+        EARLIER if !unseen.is_empty() => Some("its branches are left out in part"),
+        _ => None,
+    }
+}
+
+/// A shown card.
+fn kept(cards: &[Card], card: &Card, from: Option<(usize, Link)>, shown: &[bool]) -> Card {
     let mut kept = Card {
         from,
         ..card.clone()
     };
     if let (Some(told), Some(line)) = (card.told, kept.lines.last_mut()) {
-        line.text = match line.text.as_str() {
-            ABOVE if !shown[told] => "left out above: it waits for itself".to_string(),
-            EARLIER if !shown[told] => "its branches are left out".to_string(),
-            text => text.to_string(),
-        };
+        if let Some(text) = cut(cards, &line.text, told, shown) {
+            line.text = text.to_string();
+        }
     }
     kept
 }
@@ -217,7 +228,7 @@ pub fn folded(cards: &[Card], order: &[usize], most: usize, why: &str) -> Vec<Ca
         }
         places.push(found.len());
         if shown[place] {
-            found.push(kept(card, from, &shown));
+            found.push(kept(cards, card, from, &shown));
         } else {
             let members: Vec<usize> = (place..cards.len())
                 .filter(|&other| groups[other] == place)

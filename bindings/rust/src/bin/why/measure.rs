@@ -157,20 +157,48 @@ fn closes(letter: char) -> bool {
     closing.contains(letter)
 }
 
-/// Marks of which several on one letter stand over each other.
-pub fn stacks(letter: char) -> bool {
-    let unseen = matches!(letter as u32, 0x200B..=0x200F | 0x2060 | 0xFE00..=0xFE0F | 0xE0000..);
-    let further = matches!(letter as u32, 0x488..=0x489 | 0x1ABE..=0x1AFF | 0x1DF6..=0x1DFF | 0x20D0..=0x20F0);
-    let marks = within(letter, &WITHOUT_WIDTH) || within(letter, &MARKS);
-    !unseen && (marks || further)
+/// Marks of any letter, of which several stand over each other. The grapheme joiner between them is not seen.
+#[rustfmt::skip]
+const PILED: [(u32, u32); 30] = [
+    (0x300, 0x34E), (0x350, 0x36F), (0x483, 0x489), (0x6D6, 0x6DC), (0x6DF, 0x6E4), (0x6E7, 0x6E8), (0x6EA, 0x6ED),
+    (0x730, 0x74A), (0x7EB, 0x7F3), (0x8CA, 0x8E1), (0x8E3, 0x8FF), (0x1A75, 0x1A7F), (0x1AB0, 0x1AFF),
+    (0x1CD0, 0x1CE8), (0x1DC0, 0x1DFF), (0x20D0, 0x20F0), (0x2DE0, 0x2DFF), (0x3099, 0x309A), (0xA66F, 0xA67D),
+    (0xA69E, 0xA69F), (0xA8E0, 0xA8F1), (0xFE20, 0xFE2F), (0x1D165, 0x1D169), (0x1D16D, 0x1D172), (0x1D17B, 0x1D182),
+    (0x1D185, 0x1D18B), (0x1D1AA, 0x1D1AD), (0x1E000, 0x1E02A), (0x1E130, 0x1E136), (0x1E8D0, 0x1E8D6),
+];
+
+/// Letters of which nothing is seen, wherever they stand.
+#[rustfmt::skip]
+const UNSEEN: [(u32, u32); 19] = [
+    (0xAD, 0xAD), (0x34F, 0x34F), (0x61C, 0x61C), (0x115F, 0x1160), (0x17B4, 0x17B5), (0x180B, 0x180F),
+    (0x200B, 0x200F), (0x202A, 0x202E), (0x2060, 0x206F), (0x2800, 0x2800), (0x3164, 0x3164), (0xFE00, 0xFE0F),
+    (0xFEFF, 0xFEFF), (0xFFA0, 0xFFA0), (0xFFF9, 0xFFFB), (0x1BCA0, 0x1BCA3), (0x1D159, 0x1D159), (0x1D173, 0x1D17A),
+    (0xE0000, 0xE0FFF),
+];
+
+/// Whether something is seen where the letter stands.
+pub fn seen(letter: char) -> bool {
+    !letter.is_whitespace() && !letter.is_control() && !within(letter, &UNSEEN)
+}
+
+/// How many marks a letter may have where this is one of them: of those that pile up four, as the Greek of dictionaries
+/// needs; of those of a script, most of which stand side by side or in a place of their own, eight.
+pub fn most_marks(letter: char) -> Option<usize> {
+    let of_script = within(letter, &WITHOUT_WIDTH) || within(letter, &MARKS);
+    match letter {
+        _ if !seen(letter) => None,
+        _ if within(letter, &PILED) => Some(4),
+        _ => of_script.then_some(8),
+    }
 }
 
 /// Whether the text goes far over or under the line, by its script or by marks over marks, so that it needs a higher
 /// one.
 pub fn tall(text: &str) -> bool {
-    let behind = text.chars().skip(1);
-    let mut pairs = text.chars().zip(behind);
-    if pairs.any(|(one, next)| stacks(one) && stacks(next)) {
+    let letters = || text.chars().filter(|&letter| seen(letter));
+    let mut pairs = letters().zip(letters().skip(1));
+    let is_mark = |letter| most_marks(letter).is_some();
+    if pairs.any(|(one, next)| is_mark(one) && is_mark(next)) {
         return true;
     }
     let mut codes = text.chars().map(|letter| letter as u32);

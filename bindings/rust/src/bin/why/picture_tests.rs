@@ -415,7 +415,7 @@ fn pictures_of_every_kind_are_good() {
     assert!(muted > 100, "{muted} pictures with a muted rule");
 }
 
-/// Reasons of up to 256 rules, most of them too large to be shown whole.
+/// Trees of up to 256 rules, most of them too large to be shown whole.
 #[test]
 fn large_pictures_of_every_kind_are_good() {
     let mut folded = 0;
@@ -584,6 +584,33 @@ fn branches_stand_in_bands() {
     assert!(picture.wires.iter().any(|wire| wire.gutter.is_some()));
 }
 
+/// Atom 239 is the last that is shown of the chain's beginning, atom 11 the first of its end; of atom 1 in the last
+/// table some rules are shown and others left out. Each has a second card.
+#[test]
+fn a_second_card_says_whether_the_branches_are_shown() {
+    let chain = example!("pictures/chain.sheet");
+    let second = |atom: u32| format!("{chain}A 250 : {atom}\nA 251 : 249 250\n");
+    let many: String = (3..253).map(|atom| format!("A 1 : {atom}\n")).collect();
+    let many = format!("A 0 : 1\nA 0 : 2\nA 2 : 1\n{many}");
+    for (sheet, atom, told) in [
+        (
+            second(239),
+            251,
+            "atom 239, in, depth 240, by slot 239, its branches are left out",
+        ),
+        (
+            second(11),
+            251,
+            "atom 11, in, depth 12, by slot 11, its branches are shown already",
+        ),
+        (many, 0, "atom 1, out, its branches are left out in part"),
+    ] {
+        let picture = is_good(&drawing(&rules(&sheet), atom, ""));
+        let said = said(&picture);
+        assert!(said.iter().any(|card| card == told), "{told}: {said:?}");
+    }
+}
+
 /// The branches of atom 100 are told below atom 249, and are left out; where the atom stands again, its card says so.
 #[test]
 fn branches_that_are_left_out_are_not_said_to_be_shown() {
@@ -647,6 +674,7 @@ fn slots_with_others_between_them_are_not_told() {
 fn a_name_of_which_nothing_is_seen_is_not_used() {
     let table = rules("A 1 :");
     for name in [
+        &"\u{3164}".repeat(200),
         "\u{202E}\u{2028}",
         "\u{200B}\u{AD}",
         "\u{3164}",

@@ -1,8 +1,8 @@
 //! A name as it is drawn: without letters that no picture can hold or that would turn the words behind it around,
-//! without marks that would reach into other lines, and of a very long one its beginning and its end. A number as it is
+//! without marks that would reach far into other lines, and of a very long one its beginning and its end. A number as it is
 //! drawn.
 
-use crate::measure::{clusters, stacks, width};
+use crate::measure::{clusters, most_marks, seen, width};
 
 /// How long a name is at most, as many times the size of its letters; and its parts, where it is longer.
 const LONGEST: f64 = 160.0;
@@ -31,24 +31,25 @@ fn fitting<'a>(parts: impl Iterator<Item = &'a &'a str>, most: f64) -> usize {
     parts.take_while(fits).count()
 }
 
-/// As many marks of one letter have room in its line. Languages need no more: three in Greek, with one of them below.
-const MOST_MARKS: usize = 3;
-
-/// The name without the marks that would reach into the lines above and below.
+/// The name without the marks that a letter has too many of: they would reach far into other lines. What is not seen
+/// between marks does not part them.
 fn marked(name: &str) -> String {
     let mut marks = 0;
-    let has_room = |letter: &char| {
-        marks = if stacks(*letter) { marks + 1 } else { 0 };
-        marks <= MOST_MARKS
+    let has_room = |letter: &char| match most_marks(*letter) {
+        Some(most) => {
+            marks += 1;
+            marks <= most
+        }
+        None if seen(*letter) => {
+            marks = 0;
+            true
+        }
+        None => {
+            marks *= usize::from(!letter.is_whitespace());
+            true
+        }
     };
     name.chars().filter(has_room).collect()
-}
-
-/// Whether something is seen where the letter stands.
-pub fn seen(letter: char) -> bool {
-    let unseen = matches!(letter as u32, 0xAD | 0x34F | 0x61C | 0x115F..=0x1160 | 0x17B4..=0x17B5 | 0x180B..=0x180F
-        | 0x200B..=0x200F | 0x2060..=0x206F | 0x2800 | 0x3164 | 0xFE00..=0xFE0F | 0xFEFF | 0xFFA0 | 0xE0000..=0xE0FFF);
-    !letter.is_whitespace() && !unseen
 }
 
 pub fn shown(name: &str) -> String {

@@ -175,16 +175,44 @@ fn large_numbers_have_commas() {
     assert_eq!(numbers.map(figures), told);
 }
 
-/// More would reach into the lines above and below.
+/// More would reach far into the lines above and below, also with something unseen between them.
 #[test]
-fn a_letter_has_three_marks_at_most() {
+fn marks_that_pile_up_are_four_at_most() {
     let marks = |count| format!("e{}f", "\u{301}".repeat(count));
-    assert_eq!(shown(&marks(3)), marks(3));
-    assert_eq!(shown(&marks(8)), marks(3));
-    assert_eq!(shown(&"\u{301}".repeat(40)), "\u{301}".repeat(3));
-    let greek = "\u{3B1}\u{314}\u{301}\u{345}";
-    assert_eq!(shown(&greek.repeat(2)), greek.repeat(2));
-    assert!(tall(&marks(2)) && tall(&marks(3)) && !tall(&marks(1)));
+    assert_eq!(shown(&marks(4)), marks(4));
+    assert_eq!(shown(&marks(8)), marks(4));
+    for pile in [
+        "\u{301}",
+        "\u{2DE0}",
+        "\u{1E130}",
+        "\u{301}\u{FE0F}",
+        "\u{301}\u{200D}",
+        "\u{8E4}",
+    ] {
+        let kept = shown(&format!("e{}", pile.repeat(40)));
+        let first = pile.chars().next().expect("a mark");
+        assert_eq!(kept.matches(first).count(), 4, "{kept}");
+    }
+    assert!(tall(&marks(2)) && tall("e\u{301}\u{200D}\u{301}") && !tall(&marks(1)));
+}
+
+/// Vietnamese and Greek taken apart, Hebrew with vowels and accents, Arabic, Burmese, Tibetan, Hindi, Thai.
+#[test]
+fn no_usual_name_loses_a_mark() {
+    for name in [
+        "o\u{302}\u{323}i e\u{302}\u{301}",
+        "\u{3B1}\u{304}\u{314}\u{301}\u{345}",
+        "\u{5E9}\u{5B4}\u{5BC}\u{5BD}\u{5C1}\u{5D9}",
+        "\u{5DC}\u{5B8}\u{591}\u{34F}\u{5B4}\u{5DD}",
+        "\u{645}\u{651}\u{64E}\u{670}",
+        "\u{101C}\u{103B}\u{103E}\u{102D}\u{102F}\u{1037}\u{101D}\u{103E}\u{1000}\u{103A}",
+        "\u{F40}\u{FB5}\u{FA8}\u{F71}\u{F72}",
+        "\u{F56}\u{FB7}\u{FB2}\u{F71}\u{F74}\u{F83}",
+        "\u{915}\u{93C}\u{941}\u{902}\u{951}",
+        "\u{E19}\u{E49}\u{E33}",
+    ] {
+        assert_eq!(shown(name), name);
+    }
 }
 
 #[test]
