@@ -369,12 +369,12 @@ yeqontur_complete_answer yeqontur_checklist_complete(yeqontur_table table);
 /* The calls that change a table or hand one back, on a table in place. Each answers `refused`. Accepted, `*table` is
  * the new one; refused, `*table` stays as it is, also where a file is loaded or a checklist opened. */
 
-/* Not to be called by clients: what all but two of them have in common. */
-static inline uint32_t yeqontur_kept(yeqontur_table *table, const yeqontur_accepted *answer) {
-    if (answer->refused == YEQONTUR_ACCEPTED) {
-        *table = answer->table;
+/* Not to be called by clients: what they have in common. */
+static inline uint32_t yeqontur_kept(yeqontur_table *table, uint32_t refused, const yeqontur_table *after) {
+    if (refused == YEQONTUR_ACCEPTED) {
+        *table = *after;
     }
-    return answer->refused;
+    return refused;
 }
 
 /* `slot` gets the slot that the rule took; it may be NULL, and stays where the call is refused. */
@@ -383,22 +383,16 @@ static inline uint32_t yeqontur_add_to(yeqontur_table *table, uint32_t head, con
                                        size_t positive_count, const uint32_t *negatives, size_t negative_count,
                                        uint32_t *slot) {
     const yeqontur_change answer = yeqontur_add(*table, head, positives, positive_count, negatives, negative_count);
-    if (answer.refused == YEQONTUR_ACCEPTED) {
-        *table = answer.table;
-        if (slot != NULL) {
-            *slot = answer.slot;
-        }
+    if (slot != NULL && answer.refused == YEQONTUR_ACCEPTED) {
+        *slot = answer.slot;
     }
-    return answer.refused;
+    return yeqontur_kept(table, answer.refused, &answer.table);
 }
 
 YEQONTUR_KEEP
 static inline uint32_t yeqontur_remove_from(yeqontur_table *table, uint32_t slot) {
     const yeqontur_change answer = yeqontur_remove(*table, slot);
-    if (answer.refused == YEQONTUR_ACCEPTED) {
-        *table = answer.table;
-    }
-    return answer.refused;
+    return yeqontur_kept(table, answer.refused, &answer.table);
 }
 
 YEQONTUR_KEEP
@@ -407,43 +401,43 @@ static inline uint32_t yeqontur_replace_in(yeqontur_table *table, uint32_t slot,
                                            const uint32_t *negatives, size_t negative_count) {
     const yeqontur_accepted answer =
         yeqontur_replace(*table, slot, head, positives, positive_count, negatives, negative_count);
-    return yeqontur_kept(table, &answer);
+    return yeqontur_kept(table, answer.refused, &answer.table);
 }
 
 YEQONTUR_KEEP
 static inline uint32_t yeqontur_mute_in(yeqontur_table *table, uint32_t slot, uint32_t muted) {
     const yeqontur_accepted answer = yeqontur_mute(*table, slot, muted);
-    return yeqontur_kept(table, &answer);
+    return yeqontur_kept(table, answer.refused, &answer.table);
 }
 
 YEQONTUR_KEEP
 static inline uint32_t yeqontur_load_into(yeqontur_table *table, const uint8_t *bytes, size_t length) {
     const yeqontur_loaded answer = yeqontur_load(bytes, length);
-    return yeqontur_kept(table, &answer);
+    return yeqontur_kept(table, answer.refused, &answer.table);
 }
 
 YEQONTUR_KEEP
 static inline uint32_t yeqontur_checklist_open_into(yeqontur_table *table, uint32_t files) {
     const yeqontur_accepted answer = yeqontur_checklist_open(files);
-    return yeqontur_kept(table, &answer);
+    return yeqontur_kept(table, answer.refused, &answer.table);
 }
 
 YEQONTUR_KEEP
 static inline uint32_t yeqontur_checklist_sent_in(yeqontur_table *table, uint32_t file) {
     const yeqontur_accepted answer = yeqontur_checklist_sent(*table, file);
-    return yeqontur_kept(table, &answer);
+    return yeqontur_kept(table, answer.refused, &answer.table);
 }
 
 YEQONTUR_KEEP
 static inline uint32_t yeqontur_checklist_skipped_in(yeqontur_table *table, uint32_t file) {
     const yeqontur_accepted answer = yeqontur_checklist_skipped(*table, file);
-    return yeqontur_kept(table, &answer);
+    return yeqontur_kept(table, answer.refused, &answer.table);
 }
 
 YEQONTUR_KEEP
 static inline uint32_t yeqontur_checklist_withdraw_in(yeqontur_table *table, uint32_t file) {
     const yeqontur_accepted answer = yeqontur_checklist_withdraw(*table, file);
-    return yeqontur_kept(table, &answer);
+    return yeqontur_kept(table, answer.refused, &answer.table);
 }
 
 #ifdef __cplusplus

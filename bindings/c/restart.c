@@ -1,5 +1,5 @@
 /* A table that survives a restart: each start sends one more file, and the next one knows. */
-#define _XOPEN_SOURCE 700 /* fsync, mkstemp, realpath: this program is for Unix */
+#define _XOPEN_SOURCE 700 /* fsync, lstat, realpath: this program is for Unix */
 
 #include <yeqontur.h>
 
@@ -130,11 +130,25 @@ static int flush_folder(const char *path) {
     return opened < 0 ? -1 : closed(opened, fsync(opened));
 }
 
+/* Creates a file beside another that was not there before, so that no two programs write to one new file. Its name has
+ * the number of this process; one that an earlier process of the same number left behind is passed over. */
+static int create(char new_path[PATH_BYTES], const char *path) {
+    char behind[64];
+    int file = -1, number = 0;
+    do {
+        snprintf(behind, sizeof behind, ".tmp-%ld-%d", (long)getpid(), number++);
+        if (join(new_path, path, behind) != 0) {
+            return -1;
+        }
+        file = open(new_path, O_WRONLY | O_CREAT | O_EXCL, S_IRUSR | S_IWUSR);
+    } while (file < 0 && errno == EEXIST);
+    return file;
+}
+
 /* Puts a file with these bytes in the place of another, in one step. */
 static int replace(const char *path, mode_t mode, const uint8_t *bytes, size_t count) {
     char new_path[PATH_BYTES];
-    /* mkstemp puts letters in place of the X: a name that was free, so that no two programs write to one new file. */
-    const int file = join(new_path, path, ".tmp-XXXXXX") == 0 ? mkstemp(new_path) : -1;
+    const int file = create(new_path, path);
     if (file < 0) {
         return -1;
     }

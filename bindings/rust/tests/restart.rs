@@ -131,6 +131,23 @@ fn a_muted_rule_is_a_rule_and_stays_muted() {
     assert_eq!(muted, [true, false, false]);
 }
 
+/// An earlier process of the same number left its new files behind: they are passed over, and stay.
+#[test]
+fn new_files_that_were_left_behind_are_passed_over() {
+    let (folder, path) = saved("left_behind");
+    let leave = r#"echo x > "$1.tmp-$$-0"; echo x > "$1.tmp-$$-1"; exec "$0" "$1""#;
+    let mut shell = Command::new("sh");
+    shell.arg("-c").arg(leave).arg(program()).arg(&path);
+    assert!(shell.status().expect("a shell").success());
+    assert_eq!(rules(&path), 1);
+    let left = names(&folder);
+    assert_eq!(left.len(), 3, "{left:?}");
+    let texts = left.iter().filter(|name| name.contains(".tmp-"));
+    for name in texts {
+        assert_eq!(fs::read(folder.join(name)).expect("a file"), b"x\n");
+    }
+}
+
 #[test]
 fn a_folder_is_neither_read_nor_replaced() {
     let folder = folder("c_folder");
