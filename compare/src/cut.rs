@@ -1,5 +1,5 @@
 //! Sheets that are longer than a program reads: what it prints of an input is what the first 1,048,576 bytes print
-//! (`MOST`, `cut` and `ProgramPrints` of crates/sheets/specs/Sheets.antt), whatever follows them.
+//! (`MOST`, `cut` and `ProgramPrints` of crates/sheet_meaning/specs/Sheets.antt), whatever follows them.
 
 use crate::program::run;
 use oracle::generate::sheets::{self, Flavour};

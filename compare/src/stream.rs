@@ -1,4 +1,4 @@
-//! A sheet of `L` lines over a full table, as long as a program reads (`MOST` of crates/sheets/specs/Sheets.antt):
+//! A sheet of `L` lines over a full table, as long as a program reads (`MOST` of crates/sheet_meaning/specs/Sheets.antt):
 //! gigabytes are printed, and memory stays as it is.
 
 use crate::program::{start, write_pieces};

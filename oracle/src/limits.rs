@@ -15,7 +15,7 @@ pub const FILES: u32 = 60;
 /// How many bytes a line of a sheet has at most, its newline not counted.
 pub const LINE_BYTES: usize = 120;
 
-/// How many bytes of its input a program reads at most, as if the input ended there. crates/sheets/specs/Sheets.antt
+/// How many bytes of its input a program reads at most, as if the input ended there. crates/sheet_meaning/specs/Sheets.antt
 /// says the same: `MOST`, and `cut`, the part of an input that is read.
 pub const INPUT_BYTES: usize = 1_048_576;
 

@@ -6,7 +6,7 @@ use super::replies::reply;
 use std::io::{self, Read, Write};
 use yeqontur::raw::Table;
 
-/// The most bytes of input that are read, as if it ended there: `MOST` of crates/sheets/specs/Sheets.antt.
+/// The most bytes of input that are read, as if it ended there: `MOST` of crates/sheet_meaning/specs/Sheets.antt.
 const MOST: usize = 1_048_576;
 
 /// How many bytes a read or a write has at most.

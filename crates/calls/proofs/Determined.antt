@@ -32,7 +32,7 @@ use Rattle.calls.specs.declared.SpoilerAnswer.{SpoilerAnswer}
 use Rattle.calls.specs.declared.SpoilerAnswer.the-variants as spoilt
 use Rattle.calls.specs.declared.ListAnswer.{ListAnswer}
 use Rattle.calls.specs.declared.ListAnswer.the-variants as listed
-use Rattle.blocks.specs.Questions.{file-questions}
+use Rattle.file_blocks.specs.Questions.{file-questions}
 use Rattle.calls.specs.Answers.{numberOf, tellLabel, tellPage}
 use Rattle.calls.specs.Contracts as contract
 use Rattle.calls.specs.Contracts.{held, AddEnds, ChangeEnds, RemoveEnds, ReplaceEnds, MuteEnds, LabelEnds}

@@ -22,8 +22,8 @@ use Rattle.table.specs.Rules.{bookOf, pastRule}
 use Rattle.table.specs.Labels.{labelAt}
 use Rattle.table.specs.Clean.{emptyTable}
 use Rattle.table.specs.Sound.{Sound}
-use Rattle.blocks.specs.Files.{fileOf}
-use Rattle.blocks.specs.Questions.{file-questions, pagesOf}
+use Rattle.file_blocks.specs.Files.{fileOf}
+use Rattle.file_blocks.specs.Questions.{file-questions, pagesOf}
 use Rattle.calls.specs.declared.Refusal.{Refusal}
 use Rattle.calls.specs.declared.Refusal.the-variants.{Buffer, Unsound}
 use Rattle.calls.specs.declared.AddAnswer.{AddAnswer}

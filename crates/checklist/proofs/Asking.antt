@@ -29,16 +29,16 @@ use Rattle.calls.specs.declared.LabelAnswer.the-variants as label
 use Rattle.calls.specs.declared.ListAnswer.{ListAnswer}
 use Rattle.calls.specs.Contracts as contract
 use Rattle.calls.specs.Contracts.{held, LabelEnds}
-use Rattle.listing.specs.Lists.{below}
-use Rattle.listing.specs.Written.{Written, short, fits}
-use Rattle.listing.proofs.Lists.{flags-list}
+use Rattle.written_lists.specs.Lists.{below}
+use Rattle.written_lists.specs.Written.{Written, short, fits}
+use Rattle.written_lists.proofs.Lists.{flags-list}
 use Rattle.checklist.specs.declared.CompleteAnswer.the-variants as told
-use Rattle.frame.specs.Frame.{Checklist, sent, skipped, good, is-mark, files-of, marked}
+use Rattle.checklist_frame.specs.Frame.{Checklist, sent, skipped, good, is-mark, files-of, marked}
 use Rattle.checklist.specs.Questions.{on-list, lacks}
 use Rattle.checklist.specs.Contracts as ends
 use Rattle.checklist.specs.Contracts.{CompleteEnds, MissingEnds, tellComplete}
 use Rattle.checklist.specs.Parts.{Lacking}
-use Rattle.frame.proofs.Frames.{checklist-of, mark-below, sent-mark, skipped-mark}
+use Rattle.checklist_frame.proofs.Frames.{checklist-of, mark-below, sent-mark, skipped-mark}
 use Rattle.checklist.proofs.Model.{mark-in}
 use Rattle.checklist.proofs.Labels.{Told, told-absent, told-out, told-in, told-refused, in?, model-in}
 

@@ -19,7 +19,7 @@ use Rattle.calls.specs.Contracts.{held}
 use Rattle.calls.proofs.Determined.{refusal-unique, both, same-model, list-determined}
 use Rattle.calls.proofs.OneTable.{table-unique}
 use Rattle.checklist.specs.declared.CompleteAnswer.{CompleteAnswer}
-use Rattle.frame.specs.Frame.{good, files-of}
+use Rattle.checklist_frame.specs.Frame.{good, files-of}
 use Rattle.checklist.specs.Questions.{FileCall, checklist-questions, mark-questions, open-questions}
 use Rattle.checklist.specs.Contracts.{OpenEnds, FileEnds, MissingEnds, CompleteEnds, tellComplete}
 use Rattle.checklist.specs.Contracts.{unsound, refused, accepted}

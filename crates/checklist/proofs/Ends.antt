@@ -34,16 +34,16 @@ use Rattle.calls.specs.Contracts as contract
 use Rattle.calls.specs.Contracts.{held, AddEnds, RemoveEnds, LabelEnds}
 use Rattle.checklist.specs.declared.AskedFile.{AskedFile}
 use Rattle.checklist.specs.declared.AskedFile.the-variants as asked
-use Rattle.frame.specs.Frame.{Checklist, sent, skipped, fact, is-mark, files-of, marked, first-slot}
+use Rattle.checklist_frame.specs.Frame.{Checklist, sent, skipped, fact, is-mark, files-of, marked, first-slot}
 use Rattle.checklist.specs.Questions.{FileCall, file-sent, file-skipped, skip-withdrawn, file, on-list, allowed}
 use Rattle.checklist.specs.Questions.{mark-questions}
 use Rattle.checklist.specs.Book.{with-fact, marks-changed}
 use Rattle.checklist.specs.Contracts as ends
 use Rattle.checklist.specs.Contracts.{FileEnds}
-use Rattle.frame.specs.Parts.{count-of}
+use Rattle.checklist_frame.specs.Parts.{count-of}
 use Rattle.checklist.specs.Parts.{FileAsked, MarkAdded, taken, stands, other, MarkRemoved}
 use Rattle.checklist.specs.Parts as parts
-use Rattle.frame.proofs.Frames.{checklist-of, mark-below, sent-mark, skipped-mark}
+use Rattle.checklist_frame.proofs.Frames.{checklist-of, mark-below, sent-mark, skipped-mark}
 use Rattle.checklist.proofs.Marks.{marked-at, marked-of, checklist-stratified, free-slot, added-checklist}
 use Rattle.checklist.proofs.Marks.{rules-added, fact-slot}
 use Rattle.checklist.proofs.Model.{mark-in, mark-support}

@@ -24,12 +24,12 @@ use Rattle.theory.proofs.Questions.{held-below, set-held, set-other, other-set,
 use Rattle.theory.proofs.Cycles.{stratified-iff}
 use Rattle.theory.proofs.Strata.{strata-acyclic}
 use Rattle.theory.proofs.Sameness.{same-refl}
-use Rattle.frame.specs.Frame.{Checklist, MarkFact, none-muted, good, fact, frame, files, is-mark, equal, marked}
-use Rattle.frame.specs.Frame.{first-slot}
+use Rattle.checklist_frame.specs.Frame.{Checklist, MarkFact, none-muted, good, fact, frame, files, is-mark, equal, marked}
+use Rattle.checklist_frame.specs.Frame.{first-slot}
 use Rattle.checklist.specs.Book.{with-fact}
-use Rattle.frame.proofs.Unmuted.{unmuted-set}
-use Rattle.frame.proofs.Frames.{in-one, equal-refl, equal-path, frame-head, in-files, passes-held}
-use Rattle.frame.proofs.Frames.{mark-below, mark-not-good}
+use Rattle.checklist_frame.proofs.Unmuted.{unmuted-set}
+use Rattle.checklist_frame.proofs.Frames.{in-one, equal-refl, equal-path, frame-head, in-files, passes-held}
+use Rattle.checklist_frame.proofs.Frames.{mark-below, mark-not-good}
 
 -- A mark stands exactly if a slot holds its fact. (Of pages it is asked of all rules held.)
 

@@ -17,10 +17,10 @@ use Rattle.theory.proofs.Lists.{leb-le, le-leb, le-or-lt}
 use Rattle.theory.proofs.Rules.{held-unique, rules-at, valid-positive, valid-negative, valid-of}
 use Rattle.theory.proofs.Found.{ordered-rule}
 use Rattle.theory.proofs.Pages.{active-held}
-use Rattle.frame.specs.Frame.{Checklist, sent, skipped, good, fact, frame, is-mark, marked}
+use Rattle.checklist_frame.specs.Frame.{Checklist, sent, skipped, good, fact, frame, is-mark, marked}
 use Rattle.checklist.specs.Questions.{on-list, lacks}
-use Rattle.frame.proofs.Unmuted.{active-all}
-use Rattle.frame.proofs.Frames.{in-one, mark-not-good, sent-mark, skipped-mark}
+use Rattle.checklist_frame.proofs.Unmuted.{active-all}
+use Rattle.checklist_frame.proofs.Frames.{in-one, mark-not-good, sent-mark, skipped-mark}
 use Rattle.checklist.proofs.Marks.{marked-at, marked-of, frame-good, mark-rule}
 
 -- The slot that supports a mark's atom holds its fact, and lies behind the frame.

@@ -33,16 +33,16 @@ use Rattle.calls.specs.declared.Changed.{Changed}
 use Rattle.calls.specs.declared.ChangeAnswer.the-variants as change
 use Rattle.calls.specs.declared.Refusal.the-variants.{FileCount}
 use Rattle.calls.specs.Contracts.{held, Sized, AddEnds, unsound, refused, accepted}
-use Rattle.frame.specs.Frame.{Checklist, most-files, sent, skipped, good, fact, frame, files, is-mark, marked}
-use Rattle.frame.specs.Frame.{unmuted-on}
+use Rattle.checklist_frame.specs.Frame.{Checklist, most-files, sent, skipped, good, fact, frame, files, is-mark, marked}
+use Rattle.checklist_frame.specs.Frame.{unmuted-on}
 use Rattle.checklist.specs.Book.{opened}
 use Rattle.checklist.specs.Contracts.{OpenEnds}
 use Rattle.checklist.specs.Contracts as contract
 use Rattle.checklist.specs.Parts.{FrameAdded, Framed}
-use Rattle.frame.proofs.Unmuted.{unmuted-of}
-use Rattle.frame.proofs.Frames.{in-one, frame-head}
+use Rattle.checklist_frame.proofs.Unmuted.{unmuted-of}
+use Rattle.checklist_frame.proofs.Frames.{in-one, frame-head}
 use Rattle.checklist.proofs.Marks.{marked-at, descending-acyclic, checklist-stratified, mark-behind}
-use Rattle.frame.proofs.Slots.{file-rule, frame-file}
+use Rattle.checklist_frame.proofs.Slots.{file-rule, frame-file}
 
 -- What the table holds after the first i rules of the frame.
 abbrev pub stage : ℕ → Pages

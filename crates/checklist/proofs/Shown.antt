@@ -30,11 +30,11 @@ use Rattle.calls.specs.Contracts.{held}
 use Rattle.checklist.specs.declared.CompleteAnswer.{CompleteAnswer}
 use Rattle.checklist.specs.declared.CompleteAnswer.the-variants.{Complete}
 use Rattle.checklist.specs.declared.CompleteAnswer.the-variants as told
-use Rattle.frame.specs.Frame.{good, frame, files-of}
+use Rattle.checklist_frame.specs.Frame.{good, frame, files-of}
 use Rattle.checklist.specs.Questions.{FileCall, on-list, checklist-questions, lacks}
 use Rattle.checklist.specs.Contracts as list
 use Rattle.checklist.specs.Contracts.{FileEnds, MissingEnds, CompleteEnds, tellComplete}
-use Rattle.frame.proofs.Frames.{checklist-of, no-files, muted-no-files}
+use Rattle.checklist_frame.proofs.Frames.{checklist-of, no-files, muted-no-files}
 use Rattle.checklist.proofs.Ends.{listed-file, is-listed}
 use Rattle.checklist.proofs.Determined.{file-determined, missing-determined, complete-determined}
 use Rattle.checklist.proofs.Model.{Clear, lacks-iff, complete-iff}

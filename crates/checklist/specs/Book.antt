@@ -8,7 +8,7 @@ use Rattle.theory.specs.Rules.{Pages, all, new-page}
 use Rattle.theory.specs.Limits.{Limits}
 use Rattle.theory.specs.Questions.{first-no}
 use Rattle.theory.specs.Book.{Answer, refused, accepted, empty, with-page}
-use Rattle.frame.specs.Frame.{sent, skipped, fact, frame, files, first-slot}
+use Rattle.checklist_frame.specs.Frame.{sent, skipped, fact, frame, files, first-slot}
 use Rattle.checklist.specs.Questions.{FileCall, file-sent, file-skipped, skip-withdrawn, mark-questions}
 use Rattle.checklist.specs.Questions.{open-questions}
 

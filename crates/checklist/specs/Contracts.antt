@@ -22,7 +22,7 @@ use Rattle.calls.specs.Answers.{numberOf}
 use Rattle.calls.specs.Contracts.{held, Sized, ListEnds}
 use Rattle.checklist.specs.declared.CompleteAnswer.{CompleteAnswer}
 use Rattle.checklist.specs.declared.CompleteAnswer.the-variants as told
-use Rattle.frame.specs.Frame.{good, files-of}
+use Rattle.checklist_frame.specs.Frame.{good, files-of}
 use Rattle.checklist.specs.Questions.{FileCall, checklist-questions, mark-questions, open-questions, on-list}
 use Rattle.checklist.specs.Questions.{lacks}
 use Rattle.checklist.specs.Book.{marks-changed, opened}

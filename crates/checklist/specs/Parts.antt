@@ -22,7 +22,7 @@ use Rattle.calls.specs.Answers.{numberOf}
 use Rattle.calls.specs.Contracts.{held, Sized, AddEnds, RemoveEnds, LabelEnds}
 use Rattle.checklist.specs.declared.AskedFile.{AskedFile}
 use Rattle.checklist.specs.declared.AskedFile.the-variants as asked
-use Rattle.frame.specs.Frame.{most-files, sent, skipped, fact, frame, files-of}
+use Rattle.checklist_frame.specs.Frame.{most-files, sent, skipped, fact, frame, files-of}
 use Rattle.checklist.specs.Questions.{on-list}
 use Rattle.checklist.specs.Book.{opened}
 

@@ -7,7 +7,7 @@ use mathlib.Core.Option.{Option, none, some}
 use lib.Dec.{leb}
 use Rattle.theory.specs.Rules.{Pages}
 use Rattle.theory.specs.Questions.{Question, asks, is-some}
-use Rattle.frame.specs.Frame.{most-files, sent, skipped, files-of, marked}
+use Rattle.checklist_frame.specs.Frame.{most-files, sent, skipped, files-of, marked}
 
 -- The calls on a file.
 pub data FileCall : Type 0 where

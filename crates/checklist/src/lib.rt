@@ -1,6 +1,8 @@
 // The deposit checklist, a library above the table: it reads the slots, and the labels that a sound table keeps, and
 // what it asks and changes it does by the calls label, add and remove. Its list is written as those of the calls are.
 // Arguments are bare numbers; no call asks anything of its caller.
+use add_remove::add;
+use add_remove::remove;
 use calls::AddAnswer;
 use calls::ChangeAnswer;
 use calls::Changed;
@@ -8,21 +10,19 @@ use calls::LabelAnswer;
 use calls::ListAnswer;
 use calls::Refusal;
 use calls::refusal_number;
-use changes::add;
-use changes::remove;
-use frame::MOST;
-use frame::file_count;
-use listing::write_marked;
+use checklist_frame::MOST;
+use checklist_frame::file_count;
 use queries::label;
 use table::Table;
 use table::kept::keep;
+use written_lists::write_marked;
 ghost use mathlib.Core.Path.{_≡_};
 ghost use mathlib.Core.Bool.{true};
 ghost use mathlib.Core.Logic.{_↔_};
 ghost use mathlib.Core.Option.{some};
 ghost use Prim.Native.Nat.{_≤_};
 ghost use Rattle.table.specs.Sound.{Sound};
-ghost use Rattle.frame.specs.Frame.{most-files};
+ghost use Rattle.checklist_frame.specs.Frame.{most-files};
 ghost use Rattle.calls.specs.declared.ChangeAnswer.the-variants.{Refused};
 ghost use Rattle.checklist.specs.Questions.{file-sent, file-skipped, skip-withdrawn, on-list};
 ghost use Rattle.checklist.specs.Contracts.{OpenEnds, FileEnds, MissingEnds, CompleteEnds};

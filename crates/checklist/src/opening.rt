@@ -1,8 +1,8 @@
 // The frame of a checklist, added rule by rule.
-use changes::add;
+use add_remove::add;
 use table::Table;
 ghost use Prim.Native.Nat.{_≤_};
-ghost use Rattle.frame.specs.Frame.{most-files};
+ghost use Rattle.checklist_frame.specs.Frame.{most-files};
 ghost use Rattle.checklist.specs.Parts.{FrameAdded, Framed};
 
 // The table with the frame's rule of slot i.

@@ -8,7 +8,7 @@ use lib.ListN.{length, take, drop}
 use Rattle.places.specs.declared.Place.{Place}
 use Rattle.places.specs.Places.{nextLine}
 use Rattle.fields.proofs.Wrote.{wrote-length}
-use Rattle.sheets.specs.Sheets.{State, longer}
+use Rattle.sheet_meaning.specs.Sheets.{State, longer}
 use Rattle.judging.specs.Judging.{ROOM}
 use Rattle.replies.specs.declared.Reply.{Reply}
 use Rattle.replies.specs.Replies.{Replies, RepliesIn}

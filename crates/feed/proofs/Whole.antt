@@ -8,10 +8,10 @@ use lib.Seq.{length-take-le}
 use Rattle.replies.specs.declared.Reply.{Reply}
 use Rattle.judging.specs.Judging.{ROOM}
 use Rattle.fields.proofs.Wrote.{wrote-start}
-use Rattle.sheets.proofs.Unique.{sheet-prints-unique}
-use Rattle.sheets.proofs.Reading.{reads-then, lines-at-most}
+use Rattle.sheet_meaning.proofs.Unique.{sheet-prints-unique}
+use Rattle.sheet_meaning.proofs.Reading.{reads-then, lines-at-most}
 use Rattle.passing.specs.declared.Sheet.{Sheet}
-use Rattle.sheets.specs.Sheets.{State, start, Reads, stop, SheetPrints, MOST}
+use Rattle.sheet_meaning.specs.Sheets.{State, start, Reads, stop, SheetPrints, MOST}
 use Rattle.passing.specs.Sheets.{StandsFor}
 use Rattle.feed.specs.Sheets.{RepliesAt, Pieces, none, piece}
 

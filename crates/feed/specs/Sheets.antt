@@ -3,7 +3,7 @@ use Prim.Native.Nat.{ℕ, _+_, _≤_}
 use mathlib.Core.Path.{_≡_}
 use mathlib.Core.List.{List, [], _++_}
 use lib.ListN.{length, take}
-use Rattle.sheets.specs.Sheets.{State}
+use Rattle.sheet_meaning.specs.Sheets.{State}
 use Rattle.judging.specs.Judging.{ROOM}
 use Rattle.replies.specs.declared.Reply.{Reply}
 use Rattle.replies.specs.Replies.{Replies}

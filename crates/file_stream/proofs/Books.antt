@@ -21,10 +21,10 @@ use Rattle.table.specs.declared.Table.{Table}
 use Rattle.table.specs.Clean.{emptyTable}
 use Rattle.table.specs.Labels.{labelAt}
 use Rattle.table.specs.Sound.{Sound}
-use Rattle.blocks.specs.Files.{fileOf}
-use Rattle.blocks.specs.Questions.{file-questions, pagesOf, whole}
-use Rattle.blocks.proofs.Reading.{whole-parts}
-use Rattle.blocks.proofs.RoundTrips.{file-accepted, file-pages}
+use Rattle.file_blocks.specs.Files.{fileOf}
+use Rattle.file_blocks.specs.Questions.{file-questions, pagesOf, whole}
+use Rattle.file_blocks.proofs.Reading.{whole-parts}
+use Rattle.file_blocks.proofs.RoundTrips.{file-accepted, file-pages}
 use Rattle.calls.specs.declared.ListAnswer.{ListAnswer}
 use Rattle.calls.specs.declared.ChangeAnswer.{ChangeAnswer}
 use Rattle.calls.specs.declared.ChangeAnswer.the-variants as changed
@@ -35,9 +35,9 @@ use Rattle.calls.specs.Contracts.{held, SaveEnds, LoadEnds}
 use Rattle.calls.proofs.Determined.{load-determined}
 use Rattle.history.specs.Claim.{bookAfter}
 use Rattle.history.proofs.Sequence.{sound-model}
-use Rattle.sheets.specs.Sheets.{MOST, cut}
-use Rattle.sheets.specs.Calls.{callsOf}
-use Rattle.sheets.specs.Seen.{SeesLabels}
+use Rattle.sheet_meaning.specs.Sheets.{MOST, cut}
+use Rattle.sheet_meaning.specs.Calls.{callsOf}
+use Rattle.sheet_meaning.specs.Seen.{SeesLabels}
 use Rattle.stream.proofs.Joined.{fedBytes, program-history}
 use Rattle.file_stream.specs.declared.Saved.{Saved}
 use Rattle.file_stream.specs.Saves.{LONGEST, countOf, SavesInput}

@@ -9,16 +9,16 @@ use Rattle.theory.specs.Limits.{document}
 use Rattle.theory.specs.Questions.{first-no}
 use Rattle.table.specs.declared.Table.{Table}
 use Rattle.table.specs.Labels.{labelAt}
-use Rattle.blocks.specs.Questions.{file-questions, pagesOf}
+use Rattle.file_blocks.specs.Questions.{file-questions, pagesOf}
 use Rattle.calls.specs.declared.ChangeAnswer.{ChangeAnswer}
 use Rattle.calls.specs.declared.ChangeAnswer.the-variants as changed
 use Rattle.calls.specs.Answers.{numberOf}
 use Rattle.calls.specs.Contracts.{LoadEnds}
 use Rattle.fields.specs.Texts.{bytes}
 use Rattle.fields.specs.Written.{Wrote}
-use Rattle.printing.specs.Printed.{named}
-use Rattle.label_lines.specs.LabelLines.{labelLines}
-use Rattle.sheets.specs.Seen.{SeesLabels}
+use Rattle.sheet_printing.specs.Printed.{named}
+use Rattle.sheet_label_lines.specs.LabelLines.{labelLines}
+use Rattle.sheet_meaning.specs.Seen.{SeesLabels}
 use Rattle.file_stream.specs.declared.Given.{Given}
 use Rattle.file_stream.specs.declared.Listed.{Listed}
 use Rattle.file_stream.specs.Saves.{LONGEST}

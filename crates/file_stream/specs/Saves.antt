@@ -3,7 +3,7 @@
 use Prim.Native.Nat.{ℕ, _*_}
 use mathlib.Core.Path.{_≡_}
 use lib.ListN.{replicate}
-use Rattle.blocks.specs.Files.{BLOCK, BLOCKS}
+use Rattle.file_blocks.specs.Files.{BLOCK, BLOCKS}
 use Rattle.calls.specs.declared.ListAnswer.{ListAnswer}
 use Rattle.calls.specs.declared.ListAnswer.the-variants as listed
 use Rattle.calls.specs.Contracts.{SaveEnds}

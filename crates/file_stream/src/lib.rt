@@ -1,13 +1,13 @@
 // The programs that keep a table on disk (request #103): one reads a sheet and writes the file of the table that it
 // leaves; the other reads a file and writes the labels of its table as `L` does, or `refused` and the number.
-use blocks::LONGEST;
 use calls::ChangeAnswer;
 use calls::ListAnswer;
 use calls::refusal_number;
-use files::load;
-use files::save;
-use label_lines::write_labels;
-use printing::write_named;
+use file_blocks::LONGEST;
+use file_calls::load;
+use file_calls::save;
+use sheet_label_lines::write_labels;
+use sheet_printing::write_named;
 use stream::Last;
 use stream::leave_input;
 use stream::read_some;

@@ -32,8 +32,8 @@ use Rattle.table.specs.Labels.{labelAt}
 use Rattle.table.specs.Clean.{emptyTable}
 use Rattle.table.specs.Sound.{Sound}
 use Rattle.table.proofs.Empty.{empty-sound, free-book}
-use Rattle.blocks.specs.Questions.{file-questions, pagesOf}
-use Rattle.blocks.specs.Book.{loadAnswer, loadPages}
+use Rattle.file_blocks.specs.Questions.{file-questions, pagesOf}
+use Rattle.file_blocks.specs.Book.{loadAnswer, loadPages}
 use Rattle.calls.specs.declared.ChangeAnswer.{ChangeAnswer}
 use Rattle.calls.specs.declared.LabelAnswer.{LabelAnswer}
 use Rattle.calls.specs.declared.SpoilerAnswer.{SpoilerAnswer}

@@ -6,7 +6,7 @@ use Rattle.theory.specs.Rules.{Pages}
 use Rattle.theory.specs.Limits.{Limits}
 use Rattle.theory.specs.Book as book
 use Rattle.theory.specs.Book.{Answer, answer, after}
-use Rattle.blocks.specs.Book.{loadAnswer, loadPages}
+use Rattle.file_blocks.specs.Book.{loadAnswer, loadPages}
 use Rattle.checklist.specs.Book as list
 use Rattle.checklist.specs.Book.{checklistAnswer, checklistAfter}
 

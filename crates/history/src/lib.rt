@@ -1,15 +1,15 @@
 // A list of calls, written as numbers, made one after another from the empty table.
+use add_remove::add;
+use add_remove::remove;
 use calls::AddAnswer;
 use calls::ChangeAnswer;
 use calls::Changed;
 use calls::refusal_number;
-use changes::add;
-use changes::remove;
 use checklist::file_sent;
 use checklist::file_skipped;
 use checklist::open;
 use checklist::skip_withdrawn;
-use files::load;
+use file_calls::load;
 use muting::mute;
 use replacing::replace;
 use table::Table;

@@ -11,18 +11,18 @@ use borrow.Author.Tests.{leb-true, leb-false, le-leb, lt-leb, not-true, not-fals
 use types.Run.{OneOf}
 use denote.Enum.Declared.{tagOf}
 use Rattle.table.specs.declared.Table.{Table}
-use Rattle.lines.specs.declared.Command.{Command}
-use Rattle.lines.specs.declared.Parsed.{Parsed}
+use Rattle.sheet_lines.specs.declared.Command.{Command}
+use Rattle.sheet_lines.specs.declared.Parsed.{Parsed}
 use Rattle.places.specs.declared.Place.{Place}
-use Rattle.lines.specs.declared.Reading.{Reading}
-use Rattle.lines.specs.declared.Reading.the-variants as reading-of
+use Rattle.sheet_lines.specs.declared.Reading.{Reading}
+use Rattle.sheet_lines.specs.declared.Reading.the-variants as reading-of
 use Rattle.places.specs.Places.{Onward}
-use Rattle.lines.specs.Readings.{is, reading, lineOf, readingOf, commandOf, Answers}
-use Rattle.lines.proofs.Reading as T
-use Rattle.printing.specs.Printed.{refusalLine}
+use Rattle.sheet_lines.specs.Readings.{is, reading, lineOf, readingOf, commandOf, Answers}
+use Rattle.sheet_lines.proofs.Reading as T
+use Rattle.sheet_printing.specs.Printed.{refusalLine}
 use Rattle.fields.specs.Written.{Wrote}
-use Rattle.sheets.specs.Lines as prints
-use Rattle.sheets.specs.Lines.{Prints}
+use Rattle.sheet_meaning.specs.Lines as prints
+use Rattle.sheet_meaning.specs.Lines.{Prints}
 use Rattle.judging.specs.declared.Judged.{Judged}
 use Rattle.judging.specs.declared.Judged.the-variants as judged
 use Rattle.judging.specs.Judging.{ROOM, Passes}

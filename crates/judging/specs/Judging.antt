@@ -7,10 +7,10 @@ use mathlib.Core.List.{List}
 use lib.ListN.{length, drop}
 use Rattle.table.specs.declared.Table.{Table}
 use Rattle.places.specs.declared.Place.{Place}
-use Rattle.lines.specs.Commands as sheet
-use Rattle.lines.specs.Readings.{is, reading}
+use Rattle.sheet_lines.specs.Commands as sheet
+use Rattle.sheet_lines.specs.Readings.{is, reading}
 use Rattle.fields.specs.Written.{Wrote}
-use Rattle.sheets.specs.Lines.{Prints}
+use Rattle.sheet_meaning.specs.Lines.{Prints}
 use Rattle.judging.specs.declared.Passed.{Passed}
 
 -- Room for the bytes of every reply.

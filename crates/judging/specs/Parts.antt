@@ -4,12 +4,12 @@ use mathlib.Core.Path.{_≡_}
 use mathlib.Core.List.{List}
 use lib.ListN.{take, drop}
 use Rattle.table.specs.declared.Table.{Table}
-use Rattle.lines.specs.declared.Parsed.{Parsed}
-use Rattle.lines.specs.declared.Reading.{Reading}
-use Rattle.lines.specs.declared.Reading.the-variants as reading-of
-use Rattle.lines.specs.Readings.{is, reading, readingOf, commandOf}
+use Rattle.sheet_lines.specs.declared.Parsed.{Parsed}
+use Rattle.sheet_lines.specs.declared.Reading.{Reading}
+use Rattle.sheet_lines.specs.declared.Reading.the-variants as reading-of
+use Rattle.sheet_lines.specs.Readings.{is, reading, readingOf, commandOf}
 use Rattle.fields.specs.Written.{Wrote}
-use Rattle.sheets.specs.Lines.{Prints}
+use Rattle.sheet_meaning.specs.Lines.{Prints}
 use Rattle.judging.specs.declared.Judged.{Judged}
 use Rattle.judging.specs.declared.Judged.the-variants as judged
 

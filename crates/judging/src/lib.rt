@@ -1,10 +1,10 @@
 // What a line of a sheet is, and the reply to one that leaves the table alone, written into a lent buffer.
-use lines::Command;
-use lines::Parsed;
-use lines::Reading;
-use lines::read::read;
 use places::Place;
-use printing::write_refusal;
+use sheet_lines::Command;
+use sheet_lines::Parsed;
+use sheet_lines::Reading;
+use sheet_lines::read::read;
+use sheet_printing::write_refusal;
 ghost use mathlib.Core.Path.{_≡_};
 ghost use Prim.Native.Nat.{_+_, _≤_};
 ghost use lib.Dec.{leb};

@@ -26,7 +26,7 @@ use Rattle.calls.specs.Contracts.{held, Sized, ChangeEnds, MuteEnds}
 use Rattle.calls.proofs.Asking.{PassesSlot, slot-low, slot-holds}
 use Rattle.labels.specs.declared.Labelling.{Labelling}
 use Rattle.labels.specs.Labelling.{LabellingOf}
-use Rattle.changes.proofs.OneSlot.{accepted-after, book-after, bounded-after}
+use Rattle.add_remove.proofs.OneSlot.{accepted-after, book-after, bounded-after}
 use Rattle.muting.specs.Marks.{slotMarked}
 
 -- The mark as the code sets it.

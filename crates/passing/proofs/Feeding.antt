@@ -14,8 +14,8 @@ use Rattle.places.proofs.Leading.{leading-within}
 use Rattle.judging.specs.declared.Passed.{Passed}
 use Rattle.fields.specs.Written.{Wrote}
 use Rattle.fields.proofs.Wrote.{wrote-then, wrote-nothing}
-use Rattle.sheets.specs.Lines.{Prints}
-use Rattle.sheets.specs.Sheets.{State, longer, ended, stop}
+use Rattle.sheet_meaning.specs.Lines.{Prints}
+use Rattle.sheet_meaning.specs.Sheets.{State, longer, ended, stop}
 use Rattle.passing.specs.declared.Begun.{Begun}
 use Rattle.passing.specs.declared.Sheet.{Sheet}
 use Rattle.passing.specs.declared.Fed.{Fed}
@@ -23,7 +23,7 @@ use Rattle.passing.specs.declared.Run.{Run}
 use Rattle.passing.specs.Sheets.{BegunOf, StandsFor, ofLine, lineEnd}
 use Rattle.passing.specs.Sheets.{FeedsFrom, Feeds}
 use Rattle.passing.specs.Parts.{Longer, PassesEnded, PassesOn, sheetOf, fedOf}
-use Rattle.sheets.proofs.Reading.{reads-then, lines-at-most}
+use Rattle.sheet_meaning.proofs.Reading.{reads-then, lines-at-most}
 use Rattle.passing.proofs.Reading.{reads-part, reads-line}
 
 -- A line ends within the piece.

@@ -13,14 +13,14 @@ use mir.Val.{Val}
 use denote.Struct.Declared.{row}
 use denote.Laws.{Is}
 use Rattle.table.specs.declared.Table.{Table}
-use Rattle.lines.specs.Readings.{reading}
-use Rattle.lines.proofs.Cut.{reading-cut}
+use Rattle.sheet_lines.specs.Readings.{reading}
+use Rattle.sheet_lines.proofs.Cut.{reading-cut}
 use Rattle.places.specs.declared.Place.{Place}
 use Rattle.judging.specs.declared.Passed.{Passed}
 use Rattle.judging.specs.Judging.{Answered, Passes}
 use Rattle.fields.proofs.Wrote.{wrote-length}
-use Rattle.sheets.specs.Lines as prints
-use Rattle.sheets.specs.Lines.{Prints}
+use Rattle.sheet_meaning.specs.Lines as prints
+use Rattle.sheet_meaning.specs.Lines.{Prints}
 use Rattle.passing.specs.declared.Begun.{Begun}
 use Rattle.passing.specs.declared.Sheet.{Sheet}
 use Rattle.passing.specs.Sheets.{KEPT, BegunOf}

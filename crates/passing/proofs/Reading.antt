@@ -10,9 +10,9 @@ use lib.Seq.{take-suc, append-snoc}
 use borrow.Author.Tests.{eqb-true, eqb-false}
 use Rattle.table.specs.declared.Table.{Table}
 use Rattle.places.specs.Places.{leading}
-use Rattle.sheets.specs.Lines.{Prints}
+use Rattle.sheet_meaning.specs.Lines.{Prints}
 use Rattle.fields.specs.Texts.{NEWLINE}
-use Rattle.sheets.specs.Sheets.{State, longer, ended, Reads, stop, byte, newline}
+use Rattle.sheet_meaning.specs.Sheets.{State, longer, ended, Reads, stop, byte, newline}
 use Rattle.passing.specs.Sheets.{lineEnd}
 
 -- Bytes of the line at hand, and then others.

@@ -7,7 +7,7 @@ use lib.Dec.{eqb}
 use lib.ListN.{length, take, drop}
 use Rattle.fields.specs.Texts.{NEWLINE}
 use Rattle.places.specs.Places.{leading}
-use Rattle.sheets.specs.Sheets.{State, Reads}
+use Rattle.sheet_meaning.specs.Sheets.{State, Reads}
 use Rattle.passing.specs.declared.Begun.{Begun}
 use Rattle.passing.specs.declared.Sheet.{Sheet}
 use Rattle.passing.specs.declared.Fed.{Fed}

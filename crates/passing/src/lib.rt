@@ -6,7 +6,7 @@ use table::Table;
 ghost use mathlib.Core.Path.{_≡_};
 ghost use Prim.Native.Nat.{_+_, _≤_, min};
 ghost use lib.ListN.{length, drop};
-ghost use Rattle.sheets.specs.Sheets.{start};
+ghost use Rattle.sheet_meaning.specs.Sheets.{start};
 ghost use Rattle.passing.specs.Sheets.{KEPT, lineEnd, StandsFor};
 ghost use Rattle.passing.specs.Parts.{Longer, PassesEnded, PassesOn};
 

@@ -12,7 +12,7 @@ use Rattle.table.specs.Rules.{bookOf, programOf, pastRule}
 use Rattle.table.specs.Clean.{WellFormed}
 use Rattle.table.specs.Sets.{number}
 use Rattle.table.specs.Sound.{Sound}
-use Rattle.slots.specs.Slots.{Single}
+use Rattle.well_formed.specs.Slots.{Single}
 use Rattle.labels.specs.Labelling.{Labels}
 use Rattle.probe.specs.declared.Relabelled.{Relabelled}
 use Rattle.probe.specs.declared.RoundsCounted.{RoundsCounted}

@@ -43,9 +43,9 @@ use Rattle.calls.specs.Answers.{tellLabel, tellPage}
 use Rattle.calls.specs.Contracts.{held, LabelEnds, SpoilerEnds, ListEnds}
 use Rattle.calls.specs.Contracts as contract
 use Rattle.calls.proofs.Asking.{Passes, passes-low, ask-passed, list-refused, PassesSlot, page-is, slot-holds}
-use Rattle.listing.specs.Lists.{below}
-use Rattle.listing.specs.Written.{Written, short, fits}
-use Rattle.listing.proofs.Lists.{flags-list}
+use Rattle.written_lists.specs.Lists.{below}
+use Rattle.written_lists.specs.Written.{Written, short, fits}
+use Rattle.written_lists.proofs.Lists.{flags-list}
 
 -- Every atom of a sound table's rules is below the number of atoms.
 pub sound-bounded : (t : Table) → Sound t → Bounded (all (held t)) (document .atoms)

@@ -1,6 +1,5 @@
 // The calls that ask a table and change nothing. Each asks question 15 (specification 3.4) first, so that the kept
 // labels are the defined ones, then those of its argument; the first answered no is the refusal.
-use affected::reached;
 use calls::Asked;
 use calls::AskedSlot;
 use calls::LabelAnswer;
@@ -8,13 +7,14 @@ use calls::ListAnswer;
 use calls::SpoilerAnswer;
 use calls::ask;
 use calls::slots::ask_slot;
-use found::following;
-use found::justifying;
-use listing::write_marked;
+use relations::following;
+use relations::justifying;
+use repercussions::reached;
 use table::Table;
 use table::kept::keep;
 use table::parts::label_of;
 use table::parts::rule_in;
+use written_lists::write_marked;
 ghost use Rattle.calls.specs.Contracts.{LabelEnds, SpoilerEnds};
 ghost use Rattle.calls.specs.Contracts.{JustificationsEnd, ConsequencesEnd, RepercussionsEnd};
 

@@ -35,9 +35,9 @@ use Rattle.calls.specs.Contracts.{held, Sized, ReplaceEnds}
 use Rattle.calls.proofs.Asking.{slot-low}
 use Rattle.labels.specs.declared.Labelling.{Labelling}
 use Rattle.labels.specs.Labelling.{LabellingOf}
-use Rattle.making.specs.Parts.{SlotWith}
-use Rattle.changes.proofs.Putting.{same-told, rule-refused, book-put, bounded-put, put-cyclic, put-stratified}
-use Rattle.changes.proofs.Putting.{put-sized, put-sound}
+use Rattle.new_rule.specs.Parts.{SlotWith}
+use Rattle.add_remove.proofs.Putting.{same-told, rule-refused, book-put, bounded-put, put-cyclic, put-stratified}
+use Rattle.add_remove.proofs.Putting.{put-sized, put-sound}
 
 -- A refusal that hands the table back as it came.
 pub handed-back :

@@ -12,15 +12,15 @@ use Rattle.calls.specs.declared.ListAnswer.{ListAnswer}
 use Rattle.calls.specs.declared.ListAnswer.the-variants as listed
 use Rattle.calls.specs.Contracts as contract
 use Rattle.calls.specs.Contracts.{ListEnds, ReasonEnds}
-use Rattle.lines.specs.declared.Command.{Command}
-use Rattle.lines.specs.declared.Parsed.{Parsed}
+use Rattle.sheet_lines.specs.declared.Command.{Command}
+use Rattle.sheet_lines.specs.declared.Parsed.{Parsed}
 use Rattle.places.specs.declared.Place.{Place}
-use Rattle.lines.specs.Commands as sheet
+use Rattle.sheet_lines.specs.Commands as sheet
 use Rattle.places.specs.Places.{Onward}
-use Rattle.lines.specs.Readings.{is, reading, commandOf, Answers}
+use Rattle.sheet_lines.specs.Readings.{is, reading, commandOf, Answers}
 use Rattle.fields.specs.Written.{Wrote}
-use Rattle.sheets.specs.Lines as prints
-use Rattle.sheets.specs.Lines.{lent, tellReason, Prints}
+use Rattle.sheet_meaning.specs.Lines as prints
+use Rattle.sheet_meaning.specs.Lines.{lent, tellReason, Prints}
 use Rattle.judging.specs.declared.Judged.{Judged}
 use Rattle.judging.specs.declared.Judged.the-variants as judged
 use Rattle.judging.specs.Judging.{ROOM}

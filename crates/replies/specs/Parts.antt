@@ -4,8 +4,8 @@ use mathlib.Core.Path.{_≡_}
 use mathlib.Core.List.{List}
 use Rattle.table.specs.declared.Table.{Table}
 use Rattle.places.specs.declared.Place.{Place}
-use Rattle.lines.specs.Commands as sheet
-use Rattle.lines.specs.Readings.{is, reading}
+use Rattle.sheet_lines.specs.Commands as sheet
+use Rattle.sheet_lines.specs.Readings.{is, reading}
 use Rattle.fields.specs.Written.{Wrote}
 use Rattle.replies.specs.declared.Reply.{Reply}
 use Rattle.replies.specs.Replies.{Replies}

@@ -6,7 +6,7 @@ use lib.ListN.{length, drop}
 use Rattle.table.specs.declared.Table.{Table}
 use Rattle.places.specs.declared.Place.{Place}
 use Rattle.fields.specs.Written.{Wrote}
-use Rattle.sheets.specs.Lines.{Prints}
+use Rattle.sheet_meaning.specs.Lines.{Prints}
 use Rattle.judging.specs.Judging.{ROOM}
 use Rattle.replies.specs.declared.Reply.{Reply}
 

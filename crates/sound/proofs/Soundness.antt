@@ -24,7 +24,7 @@ use Rattle.table.specs.Rules.{bookOf, pastRule}
 use Rattle.table.specs.Labels.{labelAt, labelOf, absentLabel}
 use Rattle.table.specs.Clean.{WellFormed, CleanLabel}
 use Rattle.table.specs.Sound.{Sound}
-use Rattle.slots.specs.Slots.{Single}
+use Rattle.well_formed.specs.Slots.{Single}
 use Rattle.certificate.specs.Certificate.{Confirmed}
 use Rattle.sound.specs.Occurrence.{OccurrenceKept}
 use Rattle.table.proofs.Programs.{program-at}

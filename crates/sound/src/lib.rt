@@ -2,13 +2,13 @@
 // slots.
 use certificate::certified;
 use occurring::occurring;
-use slots::labels_clean;
-use slots::no_two_equal;
-use slots::slots_well_formed;
 use strata::strata;
 use table::Label;
 use table::Rule;
 use table::Table;
+use well_formed::labels_clean;
+use well_formed::no_two_equal;
+use well_formed::slots_well_formed;
 ghost use mathlib.Core.Path.{_≡_};
 ghost use mathlib.Core.Bool.{true};
 ghost use mathlib.Core.Logic.{_↔_};

@@ -5,10 +5,10 @@ use mathlib.Core.Path.{_≡_, sym, subst}
 use mathlib.Core.List.{List, _++_}
 use lib.ListN.{take}
 use lib.Seq.{take-all}
-use Rattle.sheets.specs.Sheets.{MOST, SheetPrints, ProgramPrints}
-use Rattle.sheets.specs.Calls.{callsOf}
-use Rattle.sheets.specs.Seen.{BookPrints}
-use Rattle.sheets.proofs.Books.{sheet-book, sheet-history}
+use Rattle.sheet_meaning.specs.Sheets.{MOST, SheetPrints, ProgramPrints}
+use Rattle.sheet_meaning.specs.Calls.{callsOf}
+use Rattle.sheet_meaning.specs.Seen.{BookPrints}
+use Rattle.sheet_meaning.proofs.Books.{sheet-book, sheet-history}
 use Rattle.history.specs.Claim.{bookAnswers, History}
 use Rattle.feed.proofs.Whole.{pieces-end}
 use Rattle.stream.specs.declared.Last.{Last}

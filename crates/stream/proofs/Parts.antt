@@ -9,7 +9,7 @@ use Rattle.passing.specs.declared.Sheet.{Sheet}
 use Rattle.passing.specs.declared.Fed.{Fed}
 use Rattle.passing.specs.Sheets.{Feeds}
 use Rattle.feed.specs.Sheets.{RepliesAt, Pieces, none, piece}
-use Rattle.sheets.specs.Sheets.{MOST}
+use Rattle.sheet_meaning.specs.Sheets.{MOST}
 use Rattle.stream.specs.declared.Answered.{Answered}
 use Rattle.stream.specs.declared.Last.{Last}
 use Rattle.stream.specs.Answered.{AnswersPiece, AnswersLines, AnswersFrom}

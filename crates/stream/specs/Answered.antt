@@ -5,7 +5,7 @@ use mathlib.Core.Path.{_≡_}
 use mathlib.Core.Bool.{true}
 use mathlib.Core.List.{List}
 use lib.ListN.{length, take}
-use Rattle.sheets.specs.Sheets.{start, MOST}
+use Rattle.sheet_meaning.specs.Sheets.{start, MOST}
 use Rattle.judging.specs.Judging.{ROOM}
 use Rattle.passing.specs.declared.Sheet.{Sheet}
 use Rattle.passing.specs.Sheets.{StandsFor}

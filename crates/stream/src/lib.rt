@@ -12,7 +12,7 @@ ghost use lib.ListN.{length, take};
 ghost use Rattle.judging.specs.Judging.{ROOM};
 ghost use Rattle.stream.specs.Answered.{AnswersPiece, AnswersLines, AnswersFrom, AnswersLast};
 
-// The most bytes of input that are read (`MOST` in crates/sheets/specs/Sheets.antt): what follows is as if the input
+// The most bytes of input that are read (`MOST` in crates/sheet_meaning/specs/Sheets.antt): what follows is as if the input
 // ended there.
 const MOST: usize = 1048576;
 

@@ -12,14 +12,14 @@ use Rattle.calls.specs.declared.ListAnswer.{ListAnswer}
 use Rattle.calls.specs.Contracts.{AddEnds, RemoveEnds, LabelEnds, SpoilerEnds}
 use Rattle.checklist.specs.declared.CompleteAnswer.{CompleteAnswer}
 use Rattle.checklist.specs.Contracts.{CompleteEnds}
-use Rattle.crossing.specs.declared.Change.{Change}
-use Rattle.crossing.specs.declared.AtomLabel.{AtomLabel}
-use Rattle.crossing.specs.declared.RuleSpoiler.{RuleSpoiler}
-use Rattle.crossing.specs.declared.Written.{Written}
-use Rattle.crossing.specs.declared.Accepted.{Accepted}
-use Rattle.crossing.specs.declared.Completeness.{Completeness}
-use Rattle.crossing.specs.Numbers.{crossedAdd, crossedRemove, crossedLabel, crossedSpoiler, crossedList}
-use Rattle.crossing.specs.Numbers.{crossedChange, crossedComplete}
+use Rattle.c_answers.specs.declared.Change.{Change}
+use Rattle.c_answers.specs.declared.AtomLabel.{AtomLabel}
+use Rattle.c_answers.specs.declared.RuleSpoiler.{RuleSpoiler}
+use Rattle.c_answers.specs.declared.Written.{Written}
+use Rattle.c_answers.specs.declared.Accepted.{Accepted}
+use Rattle.c_answers.specs.declared.Completeness.{Completeness}
+use Rattle.c_answers.specs.Numbers.{crossedAdd, crossedRemove, crossedLabel, crossedSpoiler, crossedList}
+use Rattle.c_answers.specs.Numbers.{crossedChange, crossedComplete}
 
 -- What crosses is the answer of a call that meets its contract.
 

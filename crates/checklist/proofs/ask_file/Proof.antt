@@ -3,7 +3,7 @@ use mathlib.Core.Path.{sym, _∙_}
 use Rattle.theory.proofs.Lists.{clash, not-true, not-false}
 use Rattle.calls.specs.Contracts.{held}
 use Rattle.checklist.specs.Parts.{unsound, off-list, passed}
-use Rattle.frame.proofs.Frames.{checklist-of}
+use Rattle.checklist_frame.proofs.Frames.{checklist-of}
 use Rattle.checklist.proofs.Ends.{counted-none, counted-some}
 use borrow.Author.Needs.{needs}
 use Rattle.checklist.proofs.ask_file.Statement.{statement}

@@ -2,7 +2,7 @@
 use native.Mathlib.Omega.{arith}
 use Rattle.calls.specs.Contracts.{held}
 use Rattle.checklist.specs.Contracts.{unsound}
-use Rattle.frame.proofs.Frames.{checklist-of}
+use Rattle.checklist_frame.proofs.Frames.{checklist-of}
 use Rattle.checklist.proofs.Ends.{counted-none, counted-some}
 use Rattle.checklist.proofs.Asking.{complete-in, complete-absent, complete-out, complete-refused}
 use borrow.Author.Needs.{needs}

@@ -1,6 +1,6 @@
 -- `checklist::is_sound` tells whether the table is sound. Assumes nothing.
 use native.Mathlib.Omega.{arith}
-use Rattle.frame.proofs.Slots.{told-no, told-yes}
+use Rattle.checklist_frame.proofs.Slots.{told-no, told-yes}
 use Rattle.checklist.proofs.Labels.{told-absent, told-out, told-in, told-refused}
 use borrow.Author.Needs.{needs}
 use Rattle.checklist.proofs.is_sound.Statement.{statement}

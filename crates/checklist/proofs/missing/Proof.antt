@@ -7,7 +7,7 @@ use Rattle.theory.proofs.Questions.{first-no-here}
 use Rattle.calls.specs.declared.Refusal.the-variants.{Unsound}
 use Rattle.calls.specs.Contracts as contract
 use Rattle.calls.specs.Contracts.{held}
-use Rattle.frame.proofs.Frames.{checklist-of}
+use Rattle.checklist_frame.proofs.Frames.{checklist-of}
 use Rattle.checklist.proofs.Ends.{counted-none, counted-some}
 use Rattle.checklist.proofs.Asking.{missing-ends}
 use borrow.Author.Needs.{needs}

@@ -2,7 +2,7 @@
 use native.Mathlib.Omega.{arith}
 use mathlib.Core.Path.{_∙_}
 use Rattle.fields.proofs.Wrote.{wrote-nothing}
-use Rattle.sheets.specs.Lines as prints
+use Rattle.sheet_meaning.specs.Lines as prints
 use Rattle.judging.proofs.Judging.{neither, told}
 use borrow.Author.Needs.{needs}
 use Rattle.judging.proofs.judge.Statement.{statement}

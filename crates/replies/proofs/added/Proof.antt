@@ -3,9 +3,9 @@ use native.Mathlib.Omega.{arith}
 use mathlib.Core.Path.{sym, _∙_, ap}
 use lib.ListN.{length-map}
 use Rattle.fields.specs.Texts.{bytes}
-use Rattle.printing.specs.Printed.{refusalLine}
-use Rattle.sheets.specs.Lines as prints
-use Rattle.sheets.specs.Lines.{tellAdd}
+use Rattle.sheet_printing.specs.Printed.{refusalLine}
+use Rattle.sheet_meaning.specs.Lines as prints
+use Rattle.sheet_meaning.specs.Lines.{tellAdd}
 use Rattle.replies.proofs.Saying.{replied}
 use borrow.Author.Needs.{needs}
 use Rattle.replies.proofs.added.Statement.{statement}

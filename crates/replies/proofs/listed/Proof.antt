@@ -3,8 +3,8 @@ use native.Mathlib.Omega.{arith}
 use mathlib.Core.Path.{refl, ap}
 use Rattle.questions.proofs.Passes.{granted}
 use Rattle.questions.proofs.Passes.{refused as not-sound}
-use Rattle.printing.specs.Printed.{refusalLine}
-use Rattle.sheets.specs.Lines as prints
+use Rattle.sheet_printing.specs.Printed.{refusalLine}
+use Rattle.sheet_meaning.specs.Lines as prints
 use Rattle.replies.proofs.Saying.{replied}
 use borrow.Author.Needs.{needs}
 use Rattle.replies.proofs.listed.Statement.{statement}

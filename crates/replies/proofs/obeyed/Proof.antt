@@ -1,8 +1,8 @@
 -- `replies::obeyed` meets its contract. Assumes nothing.
 use mathlib.Core.Path.{_∙_, ap}
-use Rattle.lines.specs.declared.Command.{Command}
-use Rattle.lines.specs.declared.Parsed.{Parsed}
-use Rattle.lines.specs.Readings.{Line, is, commandOf}
+use Rattle.sheet_lines.specs.declared.Command.{Command}
+use Rattle.sheet_lines.specs.declared.Parsed.{Parsed}
+use Rattle.sheet_lines.specs.Readings.{Line, is, commandOf}
 use Rattle.judging.specs.Parts.{positives, negatives}
 use borrow.Author.Needs.{needs}
 use Rattle.replies.proofs.obeyed.Statement.{statement}

@@ -1,7 +1,7 @@
 -- `replies::removed` meets its contract. Assumes nothing.
 use mathlib.Core.Path.{refl}
 use Rattle.fields.specs.Texts.{bytes}
-use Rattle.sheets.specs.Lines as prints
+use Rattle.sheet_meaning.specs.Lines as prints
 use Rattle.replies.proofs.Saying.{replied}
 use borrow.Author.Needs.{needs}
 use Rattle.replies.proofs.removed.Statement.{statement}

@@ -3,7 +3,7 @@ use native.Mathlib.Omega.{arith}
 use mathlib.Core.Path.{refl}
 use lib.ListN.{length-map}
 use Rattle.fields.specs.Texts.{bytes}
-use Rattle.sheets.specs.Lines as prints
+use Rattle.sheet_meaning.specs.Lines as prints
 use Rattle.replies.proofs.Saying.{replied}
 use borrow.Author.Needs.{needs}
 use Rattle.replies.proofs.replaced.Statement.{statement}

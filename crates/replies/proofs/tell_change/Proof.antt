@@ -1,8 +1,8 @@
 -- `replies::tell_change` meets its contract. Assumes nothing.
 use native.Mathlib.Omega.{arith}
 use mathlib.Core.Path.{sym, _∙_, ap}
-use Rattle.printing.specs.Printed.{refusalLine}
-use Rattle.sheets.specs.Lines.{tellChange}
+use Rattle.sheet_printing.specs.Printed.{refusalLine}
+use Rattle.sheet_meaning.specs.Lines.{tellChange}
 use Rattle.replies.proofs.Saying.{wrote-same}
 use borrow.Author.Needs.{needs}
 use Rattle.replies.proofs.tell_change.Statement.{statement}

@@ -1,0 +1,106 @@
+-- How an addition to a sound table ends, from the answers of its questions. Assumes nothing.
+use Prim.Native.Nat.{ℕ, _≤_, _<_}
+use mathlib.Core.Path.{_≡_, refl, sym, _∙_, ap, subst}
+use mathlib.Core.Bool.{true, false, not}
+use mathlib.Core.List.{List, [], _∷_}
+use mathlib.Core.Option.{Option, none, some}
+use lib.ListN.{length, set}
+use Rattle.theory.specs.Rules.{all, Held, Bounded, any-rule, same, kept}
+use Rattle.theory.specs.Rules as theory
+use Rattle.theory.specs.Dependencies.{NegativeCycle}
+use Rattle.theory.specs.Questions.{asks, first-no, rule-questions, add-questions}
+use Rattle.theory.specs.Questions.{lowest-free, is-some, put-in, stratified, with-replaced}
+use Rattle.theory.specs.Limits.{document}
+use Rattle.theory.proofs.Lists.{clash}
+use Rattle.theory.proofs.Rules.{any-rule-of}
+use Rattle.theory.proofs.Sameness.{same-kept}
+use Rattle.theory.proofs.Questions.{first-no-yes, first-no-here, first-no-take, first-no-before}
+use Rattle.table.specs.declared.Rule.{Rule}
+use Rattle.table.specs.declared.Table.{Table}
+use Rattle.table.specs.Rules.{bookOf, programOf}
+use Rattle.table.specs.Questions.{refusalNumber}
+use Rattle.table.specs.Sound.{Sound}
+use Rattle.calls.specs.declared.Refusal.{Refusal}
+use Rattle.calls.specs.declared.Refusal.the-variants as refusal
+use Rattle.calls.specs.declared.AddAnswer.the-variants as added
+use Rattle.calls.specs.declared.Added.{Added}
+use Rattle.calls.specs.Answers.{numberOf}
+use Rattle.calls.specs.Contracts as contract
+use Rattle.calls.specs.Contracts.{held, Sized, AddEnds}
+use Rattle.labels.specs.declared.Labelling.{Labelling}
+use Rattle.labels.specs.Labelling.{LabellingOf}
+use Rattle.new_rule.specs.Parts.{SlotWith}
+use Rattle.add_remove.proofs.Putting.{rule-refused, book-put, bounded-put, put-cyclic, put-stratified, put-sized}
+use Rattle.add_remove.proofs.Putting.{put-sound}
+
+-- A refusal that hands the table back as it came.
+pub handed-back :
+    (t : Table) (q : theory.Rule) (f : Refusal) (r : Added) → r ≡ record { answer = added.Refused f; table = t }
+    → AddEnds t q (added.Refused f) t → AddEnds t q (r .answer) (r .table)
+handed-back t q f r e E = subst (λ (x : Added). AddEnds t q (x .answer) (x .table)) (sym e) E
+
+-- An addition of the rule q to the table t.
+module _ (t : Table) (S : Sound t) (q : theory.Rule) where
+  pub refused-early :
+      (k : ℕ) → k ≡ refusalNumber (first-no (rule-questions document q)) → (k ≡ 0 → ⊥) → (f : Refusal)
+      → (0 < k → k ≤ 4 → numberOf f ≡ k) → AddEnds t q (added.Refused f) t
+  refused-early k told n f number =
+      contract.refused f S (first-no-before (rule-questions document q) _ _ (rule-refused q k told n f number))
+
+  module _ (pass : first-no (rule-questions document q) ≡ none) where
+    four : first-no (add-questions document (all (held t)) q)
+        ≡ first-no
+        (asks 5 (not (any-rule (same q) (all (held t))))
+        ∷ asks 6 (is-some (lowest-free (all (held t))))
+        ∷ asks 7 (stratified (put-in (all (held t)) (lowest-free (all (held t))) (kept q)))
+        ∷ [])
+    four = first-no-take 4 (add-questions document (all (held t)) q) pass
+
+    pub refused-same : any-rule (same q) (all (held t)) ≡ true → AddEnds t q (added.Refused refusal.Same) t
+    refused-same u = contract.refused refusal.Same S (four ∙ first-no-here _ _ (ap not u))
+
+    module _ (other : any-rule (same q) (all (held t)) ≡ false) where
+      five : first-no (add-questions document (all (held t)) q)
+          ≡ first-no
+          (asks 6 (is-some (lowest-free (all (held t))))
+          ∷ asks 7 (stratified (put-in (all (held t)) (lowest-free (all (held t))) (kept q)))
+          ∷ [])
+      five = four ∙ first-no-yes _ _ (ap not other)
+
+      pub refused-full : lowest-free (all (held t)) ≡ none → AddEnds t q (added.Refused refusal.Full) t
+      refused-full e = contract.refused refusal.Full S (five ∙ first-no-here _ _ (ap is-some e))
+
+      alone : (k : ℕ) → Held (all (held t)) k (kept q) → ⊥
+      alone k h = clash (any-rule-of (same q) (all (held t)) k (kept q) h (same-kept q)) other
+
+      -- the rule is put into the lowest free slot
+      module _
+          (s : ℕ) (inside : s < document .slots) (low : lowest-free (all (held t)) ≡ some s) (r : Rule)
+          (R : SlotWith (kept q) r) (slots : List Rule) (put : slots ≡ set (t .rules) s r)
+        where
+          six : first-no (add-questions document (all (held t)) q)
+              ≡ first-no (asks 7 (stratified (with-replaced (all (held t)) s q)) ∷ [])
+          six =
+              five ∙ first-no-yes _ _ (ap is-some low)
+              ∙ ap (λ (o : Option ℕ). first-no (asks 7 (stratified (put-in (all (held t)) o (kept q))) ∷ [])) low
+
+          pub bounded-changed : Bounded (programOf slots) (document .atoms)
+          bounded-changed = bounded-put t S q pass s inside (λ k n. alone k) r R slots put
+
+          module _ (l : Labelling) (L : LabellingOf (bookOf slots) l) where
+            pub refused-cycle : l .acyclic ≡ false → AddEnds t q (added.Refused refusal.NegativeCycle) t
+            refused-cycle e =
+                contract.refused refusal.NegativeCycle S
+                (six ∙ first-no-here _ _ (put-cyclic t S q pass s inside (λ k n. alone k) r R slots put l L e))
+
+            pub add-ends :
+                l .acyclic ≡ true → Sized t → length (r .entries) ≡ document .entries
+                → length (l .labels) ≡ document .atoms
+                → AddEnds t q (added.Taken (record { 0 = s })) (record { rules = slots; labels = l .labels })
+            add-ends e Z n m =
+                contract.accepted (record { 0 = s }) _ S
+                (six ∙ first-no-yes _ _ (put-stratified t S q pass s inside (λ k n. alone k) r R slots put l L e)
+                ∙ (unfold first-no in refl))
+                low (put-sized t S q pass s inside (λ k n. alone k) r R slots put l L Z n m)
+                (book-put t S q pass s inside (λ k n. alone k) r R slots put)
+                (put-sound t S q pass s inside (λ k n. alone k) r R slots put l L e)

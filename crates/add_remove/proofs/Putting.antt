@@ -1,0 +1,120 @@
+-- A rule put into a slot of a sound table, free or with a rule that gives way: what the answers to the questions tell,
+-- and the table after it. Assumes nothing.
+use Prim.Native.Nat.{ℕ, _≤_, _<_}
+use native.Mathlib.Omega.{arith}
+use mathlib.Core.Path.{_≡_, refl, sym, _∙_, ap, subst}
+use mathlib.Core.Logic.{_↔_}
+use mathlib.Core.Bool.{Bool, true, false, _&&_}
+use mathlib.Core.List.{List, [], _∷_}
+use mathlib.Core.Option.{Option, none, some, Option·some-injective}
+use lib.Dec.{leb, ltb}
+use lib.ListN.{length, set}
+use Rattle.theory.specs.Lists.{every}
+use Rattle.theory.specs.Rules.{Program, all, rule-on, new-page, Held, Ascending, Bounded, any-rule, same, kept}
+use Rattle.theory.specs.Rules as theory
+use Rattle.theory.specs.Dependencies.{NegativeCycle}
+use Rattle.theory.specs.Questions.{first-no, rule-questions, stratified, with-replaced}
+use Rattle.theory.specs.Limits.{document}
+use Rattle.theory.proofs.Lists.{same-test, and-l, and-r, every-at, leb-le, ltb-lt}
+use Rattle.theory.proofs.Pages.{all-set}
+use Rattle.theory.proofs.Sameness.{same-held, kept-passes, kept-ascending}
+use Rattle.theory.proofs.Cycles.{cycle-found, stratified-iff}
+use Rattle.theory.proofs.Questions.{first-no-asked}
+use Rattle.table.specs.declared.Rule.{Rule}
+use Rattle.table.specs.declared.Table.{Table}
+use Rattle.table.specs.Rules.{bookOf, programOf, ruleOf, slotOf}
+use Rattle.table.specs.Questions.{refusalNumber}
+use Rattle.table.specs.Sound.{Sound}
+use Rattle.table.proofs.Programs.{slot-rule}
+use Rattle.calls.specs.declared.Refusal.{Refusal}
+use Rattle.calls.specs.Answers.{numberOf}
+use Rattle.calls.specs.Contracts.{held, Sized}
+use Rattle.labels.specs.declared.Labelling.{Labelling}
+use Rattle.labels.specs.Labelling.{LabellingOf}
+use Rattle.new_rule.specs.Parts.{SlotWith}
+use Rattle.add_remove.proofs.OneSlot.{book-after, bounded-after, sound-after, sized-after}
+
+-- Whether a program of ascending lists holds the rule of a slot made for q tells whether it holds the same rule as q.
+pub same-told :
+    (P : Program) → ((s : ℕ) (p : theory.Rule) → Held P s p → Ascending p) → (q : theory.Rule)
+    → first-no (rule-questions document q) ≡ none → (r : Rule) → SlotWith (kept q) r → (b v : Bool)
+    → (b ≡ true) ↔ ((s : ℕ) × Held P s (ruleOf r)) → b ≡ v → any-rule (same q) P ≡ v
+same-told P up q pass r R b v e u =
+    let one : ruleOf r ≡ kept q = slot-rule r (kept q) (ap rule-on (R .held)) in
+    let told = same-held document P q up pass in
+    same-test (any-rule (same q) P) b
+    (λ y. (let w = told .0 y in e .1 (w .0, subst (Held P (w .0)) (sym one) (w .1))))
+    (λ y. (let w = e .0 y in told .1 (w .0, subst (Held P (w .0)) one (w .1))))
+    ∙ u
+
+-- One of questions 1 to 4 is answered no, and the refusal has its number.
+
+rule-number : (q : theory.Rule) (k : ℕ) → first-no (rule-questions document q) ≡ some k → (0 < k) × (k ≤ 4)
+unfolding every
+rule-number q k e =
+    let u = every-at (λ j. ltb 0 j && leb j 4) (1 ∷ 2 ∷ 3 ∷ 4 ∷ []) refl k
+    (first-no-asked (rule-questions document q) k e) in
+    (ltb-lt 0 k (and-l (ltb 0 k) _ u), leb-le k 4 (and-r (ltb 0 k) _ u))
+
+pub rule-refused :
+    (q : theory.Rule) (k : ℕ) → k ≡ refusalNumber (first-no (rule-questions document q)) → (k ≡ 0 → ⊥) → (f : Refusal)
+    → (0 < k → k ≤ 4 → numberOf f ≡ k) → first-no (rule-questions document q) ≡ some (numberOf f)
+rule-refused q k told n f number = by (first-no (rule-questions document q)) refl
+  where
+    by :
+        (o : Option ℕ) → first-no (rule-questions document q) ≡ o
+        → first-no (rule-questions document q) ≡ some (numberOf f)
+    by none e = absurd (n (told ∙ ap refusalNumber e))
+    by (some j) e =
+        let w = rule-number q j e in
+        let i : k ≡ j = told ∙ ap refusalNumber e in
+        e ∙ ap some (sym i ∙ sym (number (omega arith) (omega arith)))
+
+-- The slot r, made for the rule q, which passes questions 1 to 4, is put as slot s of the table t. No other slot holds
+-- that rule.
+module _
+    (t : Table) (S : Sound t) (q : theory.Rule) (pass : first-no (rule-questions document q) ≡ none) (s : ℕ)
+    (inside : s < document .slots) (alone : (k : ℕ) → (k ≡ s → ⊥) → Held (all (held t)) k (kept q) → ⊥) (r : Rule)
+    (R : SlotWith (kept q) r)
+  where
+    one : (p : theory.Rule) → slotOf r ≡ some p → kept q ≡ p
+    one p h = Option·some-injective (kept q) p (sym (ap rule-on (R .held)) ∙ h)
+
+    passes : (p : theory.Rule) → slotOf r ≡ some p → first-no (rule-questions document p) ≡ none
+    passes p h = subst (λ (z : theory.Rule). first-no (rule-questions document z) ≡ none) (one p h)
+        (kept-passes document q pass)
+
+    ascending : (p : theory.Rule) → slotOf r ≡ some p → Ascending p
+    ascending p h = subst Ascending (one p h) (kept-ascending document q pass)
+
+    fresh : (k : ℕ) (p : theory.Rule) → (k ≡ s → ⊥) → slotOf r ≡ some p → Held (all (held t)) k p → ⊥
+    fresh k p n h i = alone k n (subst (Held (all (held t)) k) (sym (one p h)) i)
+
+    module _ (slots : List Rule) (put : slots ≡ set (t .rules) s r) where
+      pub book-put : bookOf slots ≡ set (held t) s (some (new-page q))
+      book-put = ap bookOf put ∙ book-after t S s inside r ∙ ap (set (held t) s) (R .held)
+
+      pub program-put : programOf slots ≡ with-replaced (all (held t)) s q
+      program-put = ap all book-put ∙ all-set (held t) s (some (new-page q))
+
+      pub bounded-put : Bounded (programOf slots) (document .atoms)
+      bounded-put = rw put (bounded-after t S s inside r (R .clean) passes ascending fresh)
+
+      module _ (l : Labelling) (L : LabellingOf (bookOf slots) l) where
+        pub put-cyclic : l .acyclic ≡ false → stratified (with-replaced (all (held t)) s q) ≡ false
+        put-cyclic e = cycle-found _ (subst NegativeCycle program-put (L .cyclic e))
+
+        pub put-stratified : l .acyclic ≡ true → stratified (with-replaced (all (held t)) s q) ≡ true
+        put-stratified e = stratified-iff _ .1 (λ c. L .acyclic e .0 (subst NegativeCycle (sym program-put) c))
+
+        pub put-sound : l .acyclic ≡ true → Sound (record { rules = slots; labels = l .labels })
+        put-sound e =
+            let L′ : LabellingOf (bookOf (set (t .rules) s r)) l = rw put at L in
+            let w = L′ .acyclic e in
+            rw put
+            (sound-after t S s inside r (R .clean) passes ascending fresh (l .labels) (w .0) (w .1 .0) (w .1 .1))
+
+        pub put-sized :
+            Sized t → length (r .entries) ≡ document .entries → length (l .labels) ≡ document .atoms
+            → Sized (record { rules = slots; labels = l .labels })
+        put-sized Z n m = rw put (sized-after t S s inside r Z n (l .labels) m)

@@ -1,0 +1,149 @@
+// Are a table's rules those of a checklist, and of how many files? Only these leaves read its slots.
+use table::Atom;
+use table::Rule;
+use table::Table;
+ghost use mathlib.Core.Path.{_≡_};
+ghost use mathlib.Core.Bool.{true};
+ghost use mathlib.Core.Logic.{_↔_};
+ghost use Prim.Native.Nat.{_≤_};
+ghost use lib.ListN.{take};
+ghost use mathlib.Core.Option.{some};
+ghost use Rattle.theory.specs.Rules.{entries};
+ghost use Rattle.table.specs.Rules.{numbers, pageOf, activeIn, bookOf, activeOf};
+ghost use Rattle.checklist_frame.specs.Frame.{most-files, fact, frame, is-mark, files-of};
+ghost use Rattle.checklist_frame.specs.Parts.{FreeOrMark, FrameRun, MarksBehind, count-of};
+
+// The most files of a checklist.
+pub const MOST: usize = 60;
+
+// Does the slot hold this atom as a fact, unmuted?
+fn holds_fact(rule: Rule, atom: u16) -> bool
+    ensures { λ r. ⌜ (r ≡ true) ↔ (activeIn rule ≡ some (fact atom)) ⌝ }
+{
+    if rule.head.0 != atom {
+        return false;
+    }
+    if rule.positives != 0 {
+        return false;
+    }
+    if rule.negatives != 0 {
+        return false;
+    }
+    rule.state == 1
+}
+
+// Are these the entries of the frame's rule of file i, from 1?
+fn file_entries(atoms: [Atom; Table::ENTRIES], i: u16) -> bool
+    requires { ⌜ (1 ≤ i) × (i ≤ most-files) ⌝ }
+    ensures { λ r. ⌜ (r ≡ true) ↔ (numbers (take 3 atoms) ≡ entries (frame i)) ⌝ }
+{
+    if atoms[0].0 != 3 * i - 3 {
+        return false;
+    }
+    if atoms[1].0 != 3 * i - 2 {
+        return false;
+    }
+    if atoms[2].0 != 3 * i - 1 {
+        return false;
+    }
+    true
+}
+
+// Does the slot hold the frame's rule of file i, from 1, unmuted?
+fn holds_file(rule: Rule, i: u16) -> bool
+    requires { ⌜ (1 ≤ i) × (i ≤ most-files) ⌝ }
+    ensures { λ r. ⌜ (r ≡ true) ↔ (activeIn rule ≡ some (frame i)) ⌝ }
+{
+    if rule.state != 1 {
+        return false;
+    }
+    if rule.head.0 != 3 * i {
+        return false;
+    }
+    if rule.positives != 2 {
+        return false;
+    }
+    if rule.negatives != 1 {
+        return false;
+    }
+    let atoms = rule.entries;
+    file_entries(atoms, i)
+}
+
+// Is the atom a mark of one of n files?
+fn is_mark(atom: u16, n: u16) -> bool
+    requires { ⌜ n ≤ most-files ⌝ }
+    ensures { λ r. ⌜ r ≡ is-mark n atom ⌝ }
+{
+    if atom >= 3 * n {
+        return false;
+    }
+    if atom % 3 == 0 {
+        return false;
+    }
+    true
+}
+
+// Is the slot free, or does it hold the fact of a mark of one of n files, unmuted?
+fn free_or_mark(rule: Rule, n: u16) -> bool
+    requires { ⌜ n ≤ most-files ⌝ }
+    ensures { λ r. ⌜ (r ≡ true) ↔ FreeOrMark n (pageOf rule) ⌝ }
+{
+    if rule.state == 0 {
+        return true;
+    }
+    let atom = rule.head.0;
+    if !is_mark(atom, n) {
+        return false;
+    }
+    holds_fact(rule, atom)
+}
+
+// Of how many files, at most 60, the frame stands in slots 0, 1, 2, .. one after another, unmuted.
+fn frame_run(rules: [Rule; Table::SLOTS]) -> usize
+    ensures { λ r. ⌜ FrameRun (activeOf rules) r ⌝ }
+{
+    let start = rules[0];
+    if !holds_fact(start, 0) {
+        return 0;
+    }
+    let mut n: usize = 0;
+    while n < MOST {
+        let rule = rules[n + 1];
+        if !holds_file(rule, n as u16 + 1) {
+            return n;
+        }
+        n += 1;
+    }
+    n
+}
+
+// Does every slot behind the frame of n files hold nothing, or the fact of a mark, unmuted?
+fn marks_behind(rules: [Rule; Table::SLOTS], n: usize) -> bool
+    requires { ⌜ n ≤ most-files ⌝ }
+    ensures { λ r. ⌜ MarksBehind (bookOf rules) n r ⌝ }
+{
+    let mut s: usize = n + 1;
+    while s < Table::SLOTS {
+        let rule = rules[s];
+        if !free_or_mark(rule, n as u16) {
+            return false;
+        }
+        s += 1;
+    }
+    true
+}
+
+// How many files the checklist has that the rules are; 0 where they are none.
+pub fn file_count(rules: [Rule; Table::SLOTS]) -> usize
+    ensures { λ r. ⌜ r ≡ count-of (files-of (bookOf rules)) ⌝ }
+{
+    let n = frame_run(rules);
+    if n == 0 {
+        return 0;
+    }
+    if !marks_behind(rules, n) {
+        return 0;
+    }
+    n
+}

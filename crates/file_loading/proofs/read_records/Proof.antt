@@ -1,0 +1,133 @@
+-- `file_loading::read_records` meets its contract. The loop's invariant: the rules of the records passed, and what is left to
+-- ask of the others (`Going`). Assumes nothing.
+use Prim.Native.Nat.{_-_}
+use native.Mathlib.Omega.{arith}
+use mathlib.Core.Path.{_≡_, sym, _∙_}
+use lib.ListN.{length}
+use Rattle.theory.proofs.Lists.{not-true, not-false, clash}
+use Rattle.file_blocks.specs.Questions.{blocks, placesOf}
+use Rattle.file_blocks.proofs.Reading.{whole-parts, places-count, place-within}
+use Rattle.file_loading.proofs.Gathering.{Going, going-from, going-all, read-bad, read-next}
+use borrow.Author.Needs.{needs}
+use Rattle.file_loading.proofs.read_records.Statement.{statement}
+use Rattle.file_loading.proofs.read_records.Tie as tie
+
+abbrev Inv-loop : tie.InvT-loop
+Inv-loop bytes count rules₀ least₀ k₀ rules least k =
+    (count ≡ length (placesOf (blocks bytes))) × Going (placesOf (blocks bytes)) rules least k
+
+abbrev μ-loop : tie.MeasureT-loop
+μ-loop bytes count rules₀ least₀ k₀ rules least k = count - k
+
+record-count-requires : tie.Need-record-count-requires Inv-loop μ-loop
+record-count-requires c κs =
+    let w = whole-parts (c .before .args .bytes .now) (c .before .pre .0) in
+    (w .least, w .most)
+
+empty-requires : tie.Need-empty-requires Inv-loop μ-loop
+empty-requires c κs = tt
+
+loop-holds : tie.Need-loop-holds Inv-loop μ-loop
+loop-holds c =
+    let n = c .before .before in
+    let s = n .before .before in
+    let bs = s .args .bytes .now in (
+      n .record-count .ensures ∙ sym (places-count bs (s .pre .0) (s .pre .1) .0),
+      going-from (placesOf (blocks bs)) (c .before .empty .result) (c .before .empty .ensures),
+    )
+
+place-at-requires : tie.Need-place-at-requires Inv-loop μ-loop
+place-at-requires c κs =
+    let l = c .before in
+    let s = l .before .before .before .before .before in
+    let bs = s .args .bytes .now in
+    let w = whole-parts bs (s .pre .0) in
+    let n = places-count bs (s .pre .0) (s .pre .1) in
+    omega (arith, l .loop .inv .0, w .most, n .0, n .1)
+
+word-at-requires : tie.Need-word-at-requires Inv-loop μ-loop
+word-at-requires c κs =
+    let l = c .before .before in
+    let s = l .before .before .before .before .before in
+    let bs = s .args .bytes .now in
+    let within = place-within bs (s .pre .0) (s .pre .1) (l .loop .k) (omega (arith, l .loop .inv .0)) in
+    omega (arith, c .place-at .ensures, within)
+
+cast-slot : tie.Need-cast-slot Inv-loop μ-loop
+cast-slot c = search needs
+
+rule-at-requires : tie.Need-rule-at-requires Inv-loop μ-loop
+rule-at-requires c κs =
+    let l = c .before .before .before in
+    let s = l .before .before .before .before .before in
+    let bs = s .args .bytes .now in
+    let within = place-within bs (s .pre .0) (s .pre .1) (l .loop .k) (omega (arith, l .loop .inv .0)) in
+    omega (arith, c .before .place-at .ensures, within)
+
+stands-requires : tie.Need-stands-requires Inv-loop μ-loop
+stands-requires c κs = tt
+
+returns : tie.Need-returns Inv-loop μ-loop
+returns c =
+    let read = c .before .before in
+    let l = read .before .before .before .before in
+    let s = l .before .before .before .before .before in
+    read-bad (s .args .bytes .now) (s .pre .0) (s .pre .1) (l .loop .rules) (l .loop .least) (l .loop .k)
+    (l .loop .inv .1) (omega (arith, l .loop .inv .0)) _ _ _ (read .before .before .place-at .ensures)
+    (read .before .word-at .ensures) (read .rule-at .ensures)
+    (λ S. clash (c .before .stands .ensures .1 S) (not-true _ (c .if1 .taken)))
+
+mul-rules : tie.Need-mul-rules Inv-loop μ-loop
+mul-rules c = search needs
+
+array-set-from-rules : tie.Need-array-set-from-rules Inv-loop μ-loop
+array-set-from-rules c = (let S = c .before .stands .ensures .0 (not-false _ (c .if1 .left)) in S .below)
+
+add-least : tie.Need-add-least Inv-loop μ-loop
+add-least c = search needs
+
+add-k : tie.Need-add-k Inv-loop μ-loop
+add-k c = search needs
+
+loop-less : tie.Need-loop-less Inv-loop μ-loop
+loop-less c = search needs
+
+loop-again : tie.Need-loop-again Inv-loop μ-loop
+loop-again c =
+    let read = c .before .before in
+    let l = read .before .before .before .before in
+    let s = l .before .before .before .before .before in (
+      l .loop .inv .0,
+      read-next (s .args .bytes .now) (s .pre .0) (s .pre .1) (l .loop .rules) (l .loop .least) (l .loop .k)
+          (l .loop .inv .1) (omega (arith, l .loop .inv .0)) _ _ _ (read .before .before .place-at .ensures)
+          (read .before .word-at .ensures) (read .rule-at .ensures)
+          (c .before .stands .ensures .0 (not-false _ (c .if1 .left))),
+    )
+
+returns-2 : tie.Need-returns-2 Inv-loop μ-loop
+returns-2 c =
+    let l = c .before .loop in
+    going-all _ (l .rules) (l .least) (l .k) (l .inv .1) (omega (arith, l .inv .0))
+
+pub read-records-spec : {M : Type 1} → statement M
+read-records-spec =
+    tie.close
+    (tie.spec
+    Inv-loop
+    μ-loop
+    record-count-requires
+    empty-requires
+    loop-holds
+    place-at-requires
+    word-at-requires
+    cast-slot
+    rule-at-requires
+    stands-requires
+    returns
+    mul-rules
+    array-set-from-rules
+    add-least
+    add-k
+    loop-less
+    loop-again
+    returns-2)

@@ -1,0 +1,215 @@
+// The file of a table's rules and marks, written into a lent buffer.
+use file_blocks::BLOCK;
+use file_blocks::BODY;
+use file_blocks::HEADER;
+use file_blocks::MARK;
+use file_blocks::PLACE;
+use file_blocks::PLACES;
+use file_blocks::sums;
+use file_blocks::write_word;
+use table::Atom;
+use table::Rule;
+use table::Table;
+ghost use mathlib.Core.Path.{_≡_};
+ghost use Prim.Native.Nat.{min, _+_, _-_, _*_, _≤_, _<_};
+ghost use lib.Dec.{leb};
+ghost use lib.ListN.{length, take, drop, replicate};
+ghost use Rattle.theory.specs.Limits.{document};
+ghost use Rattle.table.specs.Rules.{numbers, bookOf};
+ghost use Rattle.table.specs.Clean.{CleanRule};
+ghost use Rattle.fields.specs.Written.{Wrote};
+ghost use Rattle.file_blocks.specs.Words.{words};
+ghost use Rattle.file_blocks.specs.Places.{countByte};
+ghost use Rattle.file_blocks.specs.Files as format;
+ghost use Rattle.file_saving.specs.Held.{HeldIn, CleanSlots};
+ghost use Rattle.file_saving.specs.Bytes.{recordBytes, recordsBytes, headerBytes, sumsBytes, blockBytes};
+
+// The slots that hold rules, muted or not, ascending: how many, and their numbers.
+pub struct HeldSlots {
+    pub count: usize,
+    pub slots: [u16; Table::SLOTS],
+}
+
+// 1 for a slot that holds a rule, 0 for a free one.
+fn one_if_held(state: u16) -> usize
+    ensures { λ r. ⌜ r ≡ min state 1 ⌝ }
+{
+    if state == 0 { 0 } else { 1 }
+}
+
+// The slots that hold rules. Each slot's number is noted behind the others; that of a free one is written over.
+pub fn held_slots(rules: [Rule; Table::SLOTS]) -> HeldSlots
+    ensures { λ r. ⌜ HeldIn (bookOf rules) r ⌝ }
+{
+    let mut slots: [u16; Table::SLOTS] = [0; Table::SLOTS];
+    let mut count: usize = 0;
+    let mut i: usize = 0;
+    while i < Table::SLOTS {
+        let rule = rules[i];
+        slots[count] = i as u16;
+        count += one_if_held(rule.state);
+        i += 1;
+    }
+    HeldSlots {
+        count: count,
+        slots: slots,
+    }
+}
+
+// How many blocks so many records take: none still take one.
+pub fn blocks_for(count: usize) -> usize
+    requires { ⌜ count ≤ document .slots ⌝ }
+    ensures { λ r. ⌜ r ≡ format.blocksFor count ⌝ }
+{
+    if count == 0 {
+        return 1;
+    }
+    (count + PLACES - 1) / PLACES
+}
+
+// Writes the entries of a rule. In a clean slot the unused ones are zero.
+fn write_entries(out: &mut [u8], at: usize, entries: [Atom; Table::ENTRIES])
+    requires { ⌜ at + 2 * document .entries ≤ length (now out) ⌝ }
+    ensures { λ _. ⌜ Wrote (words (numbers entries))
+        (now (out .entry)) at (now (out .exit)) (at + 2 * document .entries) ⌝ }
+{
+    let mut j: usize = 0;
+    while j < Table::ENTRIES {
+        let a = entries[j];
+        write_word(out, at + 2 * j, a.0);
+        j += 1;
+    }
+}
+
+// The byte of the positive count: a muted rule has the mark in it.
+fn count_byte(state: u16, positives: u8) -> u8
+    requires { ⌜ positives ≤ document .entries ⌝ }
+    ensures { λ r. ⌜ r ≡ countByte (leb 2 state) positives ⌝ }
+{
+    if state < 2 {
+        positives
+    } else {
+        MARK + positives
+    }
+}
+
+// Writes the record of a rule in a slot: slot, head, counts with the mark, entries.
+fn write_record(out: &mut [u8], at: usize, slot: u16, rule: Rule)
+    requires { ⌜ CleanRule rule ⌝ }
+    requires { ⌜ at + format.PLACE ≤ length (now out) ⌝ }
+    ensures { λ _. ⌜ Wrote (recordBytes slot rule)
+        (now (out .entry)) at (now (out .exit)) (at + format.PLACE) ⌝ }
+{
+    write_word(out, at, slot);
+    write_word(out, at + 2, rule.head.0);
+    out[at + 4] = count_byte(rule.state, rule.positives);
+    out[at + 5] = rule.negatives;
+    let entries = rule.entries;
+    write_entries(out, at + 6, entries);
+}
+
+// Writes so many records of the file, from one on.
+fn write_records(
+    out: &mut [u8],
+    at: usize,
+    rules: [Rule; Table::SLOTS],
+    held: HeldSlots,
+    from: usize,
+    count: usize,
+)
+    requires { ⌜ CleanSlots rules ⌝ }
+    requires { ⌜ HeldIn (bookOf rules) held ⌝ }
+    requires { ⌜ (from + count ≤ held .count) × (at + format.PLACE * count ≤ length (now out)) ⌝ }
+    ensures { λ _. ⌜ Wrote (recordsBytes rules from count)
+        (now (out .entry)) at (now (out .exit)) (at + format.PLACE * count) ⌝ }
+{
+    let mut k: usize = 0;
+    while k < count {
+        let slot = held.slots[from + k];
+        let s = slot as usize;
+        let rule = rules[s];
+        write_record(out, at + PLACE * k, slot, rule);
+        k += 1;
+    }
+}
+
+// Writes zeros from a place to below another.
+fn write_zeros(out: &mut [u8], at: usize, to: usize)
+    requires { ⌜ (at ≤ to) × (to ≤ length (now out)) ⌝ }
+    ensures { λ _. ⌜ Wrote (replicate (to - at) 0) (now (out .entry)) at (now (out .exit)) to ⌝ }
+{
+    let mut i = at;
+    while i < to {
+        out[i] = 0;
+        i += 1;
+    }
+}
+
+// The smaller of two numbers.
+fn smaller(x: usize, y: usize) -> usize
+    ensures { λ r. ⌜ r ≡ min x y ⌝ }
+{
+    if x < y { x } else { y }
+}
+
+// Writes the head of a block: its index, the number of blocks, the number of its records.
+fn write_header(out: &mut [u8], at: usize, index: u16, blocks: u16, count: u16)
+    requires { ⌜ at + format.HEADER ≤ length (now out) ⌝ }
+    ensures { λ _. ⌜ Wrote (headerBytes index blocks count)
+        (now (out .entry)) at (now (out .exit)) (at + format.HEADER) ⌝ }
+{
+    write_word(out, at, index);
+    write_word(out, at + 2, blocks);
+    write_word(out, at + 4, count);
+}
+
+// Writes the two sums of a block's first 508 bytes behind them.
+fn write_sums(out: &mut [u8], at: usize)
+    requires { ⌜ at + format.BLOCK ≤ length (now out) ⌝ }
+    ensures { λ _. ⌜ Wrote (sumsBytes (take format.BODY (drop at (now (out .entry)))))
+        (now (out .entry)) (at + format.BODY) (now (out .exit)) (at + format.BLOCK) ⌝ }
+{
+    let end = at + BODY;
+    let pair = sums(&out[at..end]);
+    write_word(out, end, pair.a);
+    write_word(out, end + 2, pair.b);
+}
+
+// Writes the block of an index. What the buffer had is written over: unused places are zero.
+fn write_block(
+    out: &mut [u8],
+    rules: [Rule; Table::SLOTS],
+    held: HeldSlots,
+    index: usize,
+    blocks: usize,
+)
+    requires { ⌜ CleanSlots rules ⌝ }
+    requires { ⌜ HeldIn (bookOf rules) held ⌝ }
+    requires { ⌜ (blocks ≡ format.blocksFor (held .count)) × (index < blocks)
+        × (format.BLOCK * blocks ≤ length (now out)) ⌝ }
+    ensures { λ _. ⌜ Wrote (blockBytes index blocks rules)
+        (now (out .entry)) (format.BLOCK * index) (now (out .exit)) (format.BLOCK * (index + 1)) ⌝ }
+{
+    let at = BLOCK * index;
+    let from = PLACES * index;
+    let count = smaller(PLACES, held.count - from);
+    write_header(out, at, index as u16, blocks as u16, count as u16);
+    write_records(out, at + HEADER, rules, held, from, count);
+    write_zeros(out, at + HEADER + PLACE * count, at + BODY);
+    write_sums(out, at);
+}
+
+// Writes the file of the rules and their marks from the start of the buffer, which has room for it.
+pub fn write_file(out: &mut [u8], rules: [Rule; Table::SLOTS], held: HeldSlots, blocks: usize)
+    requires { ⌜ CleanSlots rules ⌝ }
+    requires { ⌜ HeldIn (bookOf rules) held ⌝ }
+    requires { ⌜ (blocks ≡ format.blocksFor (held .count)) × (format.BLOCK * blocks ≤ length (now out)) ⌝ }
+    ensures { λ _. ⌜ Wrote (format.fileOf (bookOf rules))
+        (now (out .entry)) 0 (now (out .exit)) (format.BLOCK * blocks) ⌝ }
+{
+    let mut i: usize = 0;
+    while i < blocks {
+        write_block(out, rules, held, i, blocks);
+        i += 1;
+    }
+}
