@@ -68,10 +68,10 @@ pub fn add(
     }
     let slot = (0..SLOTS)
         .find(|&slot| program[slot].is_none())
-        .ok_or(Refusal::NoFreeSlot)?;
+        .ok_or(Refusal::TableFull)?;
     program[slot] = Some(Page::unmuted(rule));
     if has_loop_through_negation(&program) {
-        return Err(Refusal::LoopThroughNegation);
+        return Err(Refusal::NegativeCycle);
     }
     *table = RawTable::keeping(&Labelled::of(program));
     Ok(slot as u32)
@@ -105,7 +105,7 @@ pub fn replace(
     }
     program[slot as usize] = Some(Page::unmuted(rule));
     if has_loop_through_negation(&program) {
-        return Err(Refusal::LoopThroughNegation);
+        return Err(Refusal::NegativeCycle);
     }
     *table = RawTable::keeping(&Labelled::of(program));
     Ok(())

@@ -141,7 +141,7 @@ fn ask_file(table: &RawTable, file: u32) -> Result<(Labelled, Checklist), Refusa
 /// with the empty table.
 pub fn open(files: u32) -> (Result<(), Refusal>, RawTable) {
     if !(1..=FILES).contains(&files) {
-        return (Err(Refusal::FileCount), RawTable::empty());
+        return (Err(Refusal::WrongFileCount), RawTable::empty());
     }
     let frame = (0..=files).map(frame_rule);
     let mut program: Program = frame.map(|rule| Some(Page::unmuted(rule))).collect();

@@ -9,10 +9,10 @@ pub enum Refusal {
     HeadTooLarge,
     TooManyEntries,
     EntryTooLarge,
-    RepeatedAtom,
+    RepeatedEntry,
     SameRule,
-    NoFreeSlot,
-    LoopThroughNegation,
+    TableFull,
+    NegativeCycle,
     SlotTooLarge,
     SlotFree,
     AtomTooLarge,
@@ -22,12 +22,12 @@ pub enum Refusal {
     AtomNotIn,
     /// Not sound; or, of a call of a checklist, with rules that are none.
     TableUnsound,
-    FileLength,
-    FileSums,
-    FileCounts,
-    FileRecords,
+    WrongLength,
+    WrongChecksum,
+    WrongBlock,
+    WrongRecord,
     FileNotListed,
-    FileCount,
+    WrongFileCount,
     /// Sending or skipping what stands already, or withdrawing what does not stand.
     MarkUnchanged,
 }
@@ -39,22 +39,22 @@ impl Refusal {
             Refusal::HeadTooLarge => 1,
             Refusal::TooManyEntries => 2,
             Refusal::EntryTooLarge => 3,
-            Refusal::RepeatedAtom => 4,
+            Refusal::RepeatedEntry => 4,
             Refusal::SameRule => 5,
-            Refusal::NoFreeSlot => 6,
-            Refusal::LoopThroughNegation => 7,
+            Refusal::TableFull => 6,
+            Refusal::NegativeCycle => 7,
             Refusal::SlotTooLarge => 8,
             Refusal::SlotFree => 9,
             Refusal::AtomTooLarge => 10,
             Refusal::BufferTooShort { .. } => 11,
             Refusal::AtomNotIn => 12,
             Refusal::TableUnsound => 15,
-            Refusal::FileLength => 16,
-            Refusal::FileSums => 17,
-            Refusal::FileCounts => 18,
-            Refusal::FileRecords => 19,
+            Refusal::WrongLength => 16,
+            Refusal::WrongChecksum => 17,
+            Refusal::WrongBlock => 18,
+            Refusal::WrongRecord => 19,
             Refusal::FileNotListed => 20,
-            Refusal::FileCount => 21,
+            Refusal::WrongFileCount => 21,
             Refusal::MarkUnchanged => 22,
         }
     }
@@ -62,10 +62,10 @@ impl Refusal {
     /// The refusal of a file, by its number.
     pub fn of_file(number: u32) -> Refusal {
         match number {
-            16 => Refusal::FileLength,
-            17 => Refusal::FileSums,
-            18 => Refusal::FileCounts,
-            19 => Refusal::FileRecords,
+            16 => Refusal::WrongLength,
+            17 => Refusal::WrongChecksum,
+            18 => Refusal::WrongBlock,
+            19 => Refusal::WrongRecord,
             _ => unreachable!("a file meets 16 to 19, not {number}"),
         }
     }
@@ -89,7 +89,7 @@ pub fn rule_from(head: u32, positives: &[u32], negatives: &[u32]) -> Result<Rule
         return Err(Refusal::EntryTooLarge);
     }
     if has_repeat(positives) || has_repeat(negatives) {
-        return Err(Refusal::RepeatedAtom);
+        return Err(Refusal::RepeatedEntry);
     }
     Ok(Rule::of(head, positives, negatives))
 }

@@ -20,11 +20,11 @@ use Rattle.table.specs.declared.Table.{Table}
 use Rattle.table.specs.Rules.{bookOf, programOf}
 use Rattle.table.specs.Questions.{refusalNumber}
 use Rattle.table.specs.Sound.{Sound}
-use Rattle.calls.specs.declared.Refusal.{Refusal}
-use Rattle.calls.specs.declared.Refusal.the-variants as refusal
+use Rattle.refusals.specs.declared.Refusal.{Refusal}
+use Rattle.refusals.specs.declared.Refusal.the-variants as refusal
 use Rattle.calls.specs.declared.AddAnswer.the-variants as added
 use Rattle.calls.specs.declared.Added.{Added}
-use Rattle.calls.specs.Answers.{numberOf}
+use Rattle.refusals.specs.Refusals.{numberOf}
 use Rattle.calls.specs.Contracts as contract
 use Rattle.calls.specs.Contracts.{held, Sized, AddEnds}
 use Rattle.labels.specs.declared.Labelling.{Labelling}
@@ -56,8 +56,8 @@ module _ (t : Table) (S : Sound t) (q : theory.Rule) where
         ∷ [])
     four = first-no-take 4 (add-questions document (all (held t)) q) pass
 
-    pub refused-same : any-rule (same q) (all (held t)) ≡ true → AddEnds t q (added.Refused refusal.Same) t
-    refused-same u = contract.refused refusal.Same S (four ∙ first-no-here _ _ (ap not u))
+    pub refused-same : any-rule (same q) (all (held t)) ≡ true → AddEnds t q (added.Refused refusal.SameRule) t
+    refused-same u = contract.refused refusal.SameRule S (four ∙ first-no-here _ _ (ap not u))
 
     module _ (other : any-rule (same q) (all (held t)) ≡ false) where
       five : first-no (add-questions document (all (held t)) q)
@@ -67,8 +67,8 @@ module _ (t : Table) (S : Sound t) (q : theory.Rule) where
           ∷ [])
       five = four ∙ first-no-yes _ _ (ap not other)
 
-      pub refused-full : lowest-free (all (held t)) ≡ none → AddEnds t q (added.Refused refusal.Full) t
-      refused-full e = contract.refused refusal.Full S (five ∙ first-no-here _ _ (ap is-some e))
+      pub refused-full : lowest-free (all (held t)) ≡ none → AddEnds t q (added.Refused refusal.TableFull) t
+      refused-full e = contract.refused refusal.TableFull S (five ∙ first-no-here _ _ (ap is-some e))
 
       alone : (k : ℕ) → Held (all (held t)) k (kept q) → ⊥
       alone k h = clash (any-rule-of (same q) (all (held t)) k (kept q) h (same-kept q)) other

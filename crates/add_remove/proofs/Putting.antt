@@ -26,8 +26,8 @@ use Rattle.table.specs.Rules.{bookOf, programOf, ruleOf, slotOf}
 use Rattle.table.specs.Questions.{refusalNumber}
 use Rattle.table.specs.Sound.{Sound}
 use Rattle.table.proofs.Programs.{slot-rule}
-use Rattle.calls.specs.declared.Refusal.{Refusal}
-use Rattle.calls.specs.Answers.{numberOf}
+use Rattle.refusals.specs.declared.Refusal.{Refusal}
+use Rattle.refusals.specs.Refusals.{numberOf}
 use Rattle.calls.specs.Contracts.{held, Sized}
 use Rattle.labels.specs.declared.Labelling.{Labelling}
 use Rattle.labels.specs.Labelling.{LabellingOf}

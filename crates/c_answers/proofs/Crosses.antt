@@ -7,8 +7,8 @@ use denote.Enum.Declared.{tagOf}
 use types.Run.{OneOf, miss}
 use Rattle.table.specs.declared.Slot.{Slot}
 use Rattle.table.specs.declared.Table.{Table}
-use Rattle.calls.specs.declared.Refusal.{Refusal}
-use Rattle.calls.specs.declared.Refusal.the-variants.{Buffer}
+use Rattle.refusals.specs.declared.Refusal.{Refusal}
+use Rattle.refusals.specs.declared.Refusal.the-variants.{BufferTooShort}
 use Rattle.calls.specs.declared.AddAnswer.{AddAnswer}
 use Rattle.calls.specs.declared.AddAnswer.the-variants as added
 use Rattle.calls.specs.declared.ChangeAnswer.{ChangeAnswer}
@@ -19,10 +19,10 @@ use Rattle.calls.specs.declared.SpoilerAnswer.{SpoilerAnswer}
 use Rattle.calls.specs.declared.SpoilerAnswer.the-variants as spoilt
 use Rattle.calls.specs.declared.ListAnswer.{ListAnswer}
 use Rattle.calls.specs.declared.ListAnswer.the-variants as listed
-use Rattle.calls.specs.Answers.{numberOf, neededBy}
+use Rattle.refusals.specs.Refusals.{numberOf, neededBy}
 use Rattle.checklist.specs.declared.CompleteAnswer.{CompleteAnswer}
 use Rattle.checklist.specs.declared.CompleteAnswer.the-variants as complete
-use Rattle.calls.proofs.Refusals.{Plain, plain-or-11}
+use Rattle.refusals.proofs.Refusals.{Plain, plain-or-11}
 use Rattle.calls.proofs.Refusal.{the-type}
 use Rattle.c_answers.specs.declared.Change.{Change}
 use Rattle.c_answers.specs.declared.AtomLabel.{AtomLabel}
@@ -118,7 +118,7 @@ pub list-refused :
 list-refused x f n m e d b =
     ap₂ (λ (j k : ℕ). record { refused = j; count = k }) d b ∙ list-told x (listed.Refused f) e
 
-pub buffer-needed : (f : Refusal) (n : ℕ) → f ≡ Buffer n → n ≡ neededBy f
+pub buffer-needed : (f : Refusal) (n : ℕ) → f ≡ BufferTooShort n → n ≡ neededBy f
 buffer-needed f n e = ap neededBy (sym e)
 
 -- Every refusal but 11, whose place in the enum is 10, needs no entries.
@@ -129,6 +129,6 @@ others = 0 ∷ 1 ∷ 2 ∷ 3 ∷ 4 ∷ 5 ∷ 6 ∷ 7 ∷ 8 ∷ 9 ∷ 11 ∷ 12 �
 pub none-needed : (f : Refusal) → OneOf others (tagOf the-type f) → 0 ≡ neededBy f
 none-needed f h = ⊎-elim
     (λ (p : Plain f). sym (p .none))
-    (λ (b : (m : ℕ) × (f ≡ Buffer m)).
+    (λ (b : (m : ℕ) × (f ≡ BufferTooShort m)).
     absurd (miss others 10 tt (subst (λ (g : Refusal). OneOf others (tagOf the-type g)) (b .1) h)))
     (plain-or-11 f)

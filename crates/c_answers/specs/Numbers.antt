@@ -11,7 +11,7 @@ use Rattle.calls.specs.declared.SpoilerAnswer.{SpoilerAnswer}
 use Rattle.calls.specs.declared.SpoilerAnswer.the-variants as spoilt
 use Rattle.calls.specs.declared.ListAnswer.{ListAnswer}
 use Rattle.calls.specs.declared.ListAnswer.the-variants as listed
-use Rattle.calls.specs.Answers.{numberOf, neededBy}
+use Rattle.refusals.specs.Refusals.{numberOf, neededBy}
 use Rattle.checklist.specs.declared.CompleteAnswer.{CompleteAnswer}
 use Rattle.checklist.specs.declared.CompleteAnswer.the-variants as complete
 use Rattle.c_answers.specs.declared.Change.{Change}

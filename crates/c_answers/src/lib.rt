@@ -3,14 +3,14 @@ use calls::AddAnswer;
 use calls::ChangeAnswer;
 use calls::LabelAnswer;
 use calls::ListAnswer;
-use calls::Refusal;
 use calls::SpoilerAnswer;
-use calls::refusal_number;
 use checklist::CompleteAnswer;
+use refusals::Refusal;
+use refusals::refusal_number;
 use table::Table;
 ghost use mathlib.Core.Path.{_≡_};
 ghost use Rattle.c_answers.specs.Numbers.{crossedAdd, crossedRemove, crossedLabel, crossedSpoiler, crossedList};
-ghost use Rattle.calls.specs.Answers.{neededBy};
+ghost use Rattle.refusals.specs.Refusals.{neededBy};
 ghost use Rattle.c_answers.specs.Numbers.{crossedChange, crossedComplete};
 
 // What a call that changes a table answers: the slot that an addition took, and the table handed back.
@@ -67,7 +67,11 @@ pub struct Completeness {
 fn needed(f: Refusal) -> usize
     ensures { λ r. ⌜ r ≡ neededBy f ⌝ }
 {
-    if let Refusal::Buffer(n) = f { n } else { 0 }
+    if let Refusal::BufferTooShort(n) = f {
+        n
+    } else {
+        0
+    }
 }
 
 pub fn crossed_list(answer: ListAnswer) -> Written

@@ -24,7 +24,7 @@ use Rattle.table.specs.Rules.{ruleOf, pageOf, slotOf}
 use Rattle.table.specs.Clean.{freeRule}
 use Rattle.table.specs.Sound.{Sound}
 use Rattle.table.proofs.Programs.{slot-free, slot-held}
-use Rattle.calls.specs.declared.Refusal.{Refusal}
+use Rattle.refusals.specs.declared.Refusal.{Refusal}
 use Rattle.calls.specs.declared.Asked.{Asked}
 use Rattle.calls.specs.declared.Asked.the-variants.{Passed, Refused}
 use Rattle.calls.specs.declared.AskedSlot.{AskedSlot}

@@ -20,8 +20,8 @@ use Rattle.theory.proofs.Explanations.{lists-unique, reason-unique}
 use Rattle.table.specs.declared.Table.{Table}
 use Rattle.table.specs.Labels.{labelAt}
 use Rattle.table.specs.Sound.{Sound}
-use Rattle.calls.specs.declared.Refusal.{Refusal}
-use Rattle.calls.specs.declared.Refusal.the-variants.{Buffer}
+use Rattle.refusals.specs.declared.Refusal.{Refusal}
+use Rattle.refusals.specs.declared.Refusal.the-variants.{BufferTooShort}
 use Rattle.calls.specs.declared.AddAnswer.{AddAnswer}
 use Rattle.calls.specs.declared.AddAnswer.the-variants as added
 use Rattle.calls.specs.declared.ChangeAnswer.{ChangeAnswer}
@@ -33,14 +33,15 @@ use Rattle.calls.specs.declared.SpoilerAnswer.the-variants as spoilt
 use Rattle.calls.specs.declared.ListAnswer.{ListAnswer}
 use Rattle.calls.specs.declared.ListAnswer.the-variants as listed
 use Rattle.file_blocks.specs.Questions.{file-questions}
-use Rattle.calls.specs.Answers.{numberOf, tellLabel, tellPage}
+use Rattle.refusals.specs.Refusals.{numberOf}
+use Rattle.calls.specs.Answers.{tellLabel, tellPage}
 use Rattle.calls.specs.Contracts as contract
 use Rattle.calls.specs.Contracts.{held, AddEnds, ChangeEnds, RemoveEnds, ReplaceEnds, MuteEnds, LabelEnds}
 use Rattle.calls.specs.Contracts.{SpoilerEnds, ListEnds}
 use Rattle.calls.specs.Contracts.{JustificationsEnd, ConsequencesEnd, RepercussionsEnd, ReasonEnds}
 use Rattle.calls.specs.Contracts.{SaveEnds, LoadEnds}
 use Rattle.calls.proofs.OneTable.{one-model, table-unique, same-label}
-use Rattle.calls.proofs.Refusals.{refusalOf, refusal-number}
+use Rattle.refusals.proofs.Refusals.{refusalOf, refusal-number}
 
 -- A refusal by questions that do not ask 11 is determined by its number.
 pub refusal-unique :
@@ -169,7 +170,7 @@ module _ (qs : List Question) (other : every (λ k. not (eqb k 11)) (map (λ q. 
   list-determined t b x y c d (contract.short M xs S e A X k) (contract.unsound n) = absurd (n S)
   list-determined t b x y c d (contract.short M xs S e A X k) (contract.refused g T h) = absurd (both _ _ h e)
   list-determined t b x y c d (contract.short M xs S e A X k) (contract.short N ys T h B Y j) =
-      (ap (λ (zs : List ℕ). listed.Refused (Buffer (length zs))) (same-list t M N xs ys S A B X Y), refl)
+      (ap (λ (zs : List ℕ). listed.Refused (BufferTooShort (length zs))) (same-list t M N xs ys S A B X Y), refl)
   list-determined t b x y c d (contract.short M xs S e A X k) (contract.accepted N ys T h B Y j) =
       absurd (omega (arith, ap length (same-list t M N xs ys S A B X Y)))
   list-determined t b x y c d (contract.accepted M xs S e A X k) (contract.unsound n) = absurd (n S)

@@ -1,6 +1,5 @@
 -- Laws about the contracts. Nothing here needs to be believed.
 pub mod OneTable
-pub mod Refusals
 pub mod Asking
 pub mod Determined
 pub mod Sizes

@@ -1,4 +1,4 @@
--- Refusals by their numbers, and answers in the words of the theory. Assumes nothing.
+-- Answers in the words of the theory. Assumes nothing.
 use Prim.Native.Nat.{ℕ}
 use mathlib.Core.Bool.{true, false}
 use mathlib.Core.Option.{Option, none, some}
@@ -7,11 +7,7 @@ use Rattle.theory.specs.Models.{AtomSet}
 use Rattle.theory.specs.Labels.{absent, out, in-at, Side, positive, negative, spoiler}
 use Rattle.theory.specs.Labels as theory
 use Rattle.theory.specs.Book as book
-use Rattle.calls.specs.declared.Refusal.{Refusal}
-use Rattle.calls.specs.declared.Refusal.the-variants.{Head, Entries, Entry, Repeated, Same, Full, NegativeCycle}
-use Rattle.calls.specs.declared.Refusal.the-variants.{SlotNumber, Free, AtomNumber, Buffer, NotIn, Unsound}
-use Rattle.calls.specs.declared.Refusal.the-variants.{FileLength, Sums, BlockNumbers, Record, FileNumber}
-use Rattle.calls.specs.declared.Refusal.the-variants.{FileCount, Mark}
+use Rattle.refusals.specs.Refusals.{numberOf}
 use Rattle.calls.specs.declared.AddAnswer.{AddAnswer}
 use Rattle.calls.specs.declared.AddAnswer.the-variants as added
 use Rattle.calls.specs.declared.ChangeAnswer.{ChangeAnswer}
@@ -20,36 +16,6 @@ use Rattle.calls.specs.declared.LabelAnswer.{LabelAnswer}
 use Rattle.calls.specs.declared.LabelAnswer.the-variants as labelled
 use Rattle.calls.specs.declared.SpoilerAnswer.{SpoilerAnswer}
 use Rattle.calls.specs.declared.SpoilerAnswer.the-variants as spoilt
-
--- What a refusal tells: its number (specification 3.2), and the length needed, which 11 carries.
-abbrev pub told : Refusal → ℕ × ℕ
-told Head = (1, 0)
-told Entries = (2, 0)
-told Entry = (3, 0)
-told Repeated = (4, 0)
-told Same = (5, 0)
-told Full = (6, 0)
-told NegativeCycle = (7, 0)
-told SlotNumber = (8, 0)
-told Free = (9, 0)
-told AtomNumber = (10, 0)
-told (Buffer needed) = (11, needed)
-told NotIn = (12, 0)
-told Unsound = (15, 0)
-told FileLength = (16, 0)
-told Sums = (17, 0)
-told BlockNumbers = (18, 0)
-told Record = (19, 0)
-told FileNumber = (20, 0)
-told FileCount = (21, 0)
-told Mark = (22, 0)
-
-abbrev pub numberOf : Refusal → ℕ
-numberOf f = told f .0
-
--- How many entries are needed: 11 says it, every other refusal 0.
-abbrev pub neededBy : Refusal → ℕ
-neededBy f = told f .1
 
 -- The plain book's word for an answer.
 abbrev pub bookAdd : AddAnswer → book.Answer

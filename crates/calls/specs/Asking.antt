@@ -8,17 +8,17 @@ use Rattle.theory.specs.Limits.{document}
 use Rattle.table.specs.declared.Table.{Table}
 use Rattle.table.specs.Rules.{programOf}
 use Rattle.table.specs.Sound.{Sound}
-use Rattle.calls.specs.declared.Refusal.{Refusal}
-use Rattle.calls.specs.declared.Refusal.the-variants.{Unsound}
+use Rattle.refusals.specs.declared.Refusal.{Refusal}
+use Rattle.refusals.specs.declared.Refusal.the-variants.{TableUnsound}
 use Rattle.calls.specs.declared.Asked.{Asked}
 use Rattle.calls.specs.declared.Asked.the-variants as asked
 use Rattle.calls.specs.declared.AskedSlot.{AskedSlot}
 use Rattle.calls.specs.declared.AskedSlot.the-variants as asked-slot
-use Rattle.calls.specs.Answers.{numberOf}
+use Rattle.refusals.specs.Refusals.{numberOf}
 
 -- The table is not sound (15), the first question of the atom is answered no, or that atom passes.
 pub data AskEnds (t : Table) (a : ℕ) : Asked → Type 0 where
-  unsound : (Sound t → ⊥) → AskEnds t a (asked.Refused Unsound)
+  unsound : (Sound t → ⊥) → AskEnds t a (asked.Refused TableUnsound)
   refused :
       (f : Refusal) → Sound t → first-no (atom-questions document a) ≡ some (numberOf f)
       → AskEnds t a (asked.Refused f)
@@ -27,7 +27,7 @@ pub data AskEnds (t : Table) (a : ℕ) : Asked → Type 0 where
 
 -- The same of a slot: the slot that passes holds a rule.
 pub data AskSlotEnds (t : Table) (s : ℕ) : AskedSlot → Type 0 where
-  unsound : (Sound t → ⊥) → AskSlotEnds t s (asked-slot.Refused Unsound)
+  unsound : (Sound t → ⊥) → AskSlotEnds t s (asked-slot.Refused TableUnsound)
   refused :
       (f : Refusal) → Sound t → first-no (slot-questions document (programOf (t .rules)) s) ≡ some (numberOf f)
       → AskSlotEnds t s (asked-slot.Refused f)

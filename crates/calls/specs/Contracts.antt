@@ -24,8 +24,8 @@ use Rattle.table.specs.Clean.{emptyTable}
 use Rattle.table.specs.Sound.{Sound}
 use Rattle.file_blocks.specs.Files.{fileOf}
 use Rattle.file_blocks.specs.Questions.{file-questions, pagesOf}
-use Rattle.calls.specs.declared.Refusal.{Refusal}
-use Rattle.calls.specs.declared.Refusal.the-variants.{Buffer, Unsound}
+use Rattle.refusals.specs.declared.Refusal.{Refusal}
+use Rattle.refusals.specs.declared.Refusal.the-variants.{BufferTooShort, TableUnsound}
 use Rattle.calls.specs.declared.AddAnswer.{AddAnswer}
 use Rattle.calls.specs.declared.AddAnswer.the-variants as added
 use Rattle.calls.specs.declared.ChangeAnswer.{ChangeAnswer}
@@ -36,7 +36,8 @@ use Rattle.calls.specs.declared.SpoilerAnswer.{SpoilerAnswer}
 use Rattle.calls.specs.declared.SpoilerAnswer.the-variants as spoilt
 use Rattle.calls.specs.declared.ListAnswer.{ListAnswer}
 use Rattle.calls.specs.declared.ListAnswer.the-variants as listed
-use Rattle.calls.specs.Answers.{numberOf, tellLabel, tellPage}
+use Rattle.refusals.specs.Refusals.{numberOf}
+use Rattle.calls.specs.Answers.{tellLabel, tellPage}
 
 -- What a table holds: its rules, each with its mark.
 abbrev pub held : Table → Pages
@@ -51,7 +52,7 @@ pub record Sized (t : Table) : Type 0 where
 -- Add: 15, 1, 2, 3, 4, 5, 6, 7. Takes the lowest free slot, where the rule is kept with ascending lists, unmuted;
 -- every other slot keeps its rule and its mark.
 pub data AddEnds (t : Table) (r : theory.Rule) : AddAnswer → Table → Type 0 where
-  unsound : (Sound t → ⊥) → AddEnds t r (added.Refused Unsound) t
+  unsound : (Sound t → ⊥) → AddEnds t r (added.Refused TableUnsound) t
   refused :
       (f : Refusal) → Sound t → first-no (add-questions document (all (held t)) r) ≡ some (numberOf f)
       → AddEnds t r (added.Refused f) t
@@ -63,7 +64,7 @@ pub data AddEnds (t : Table) (r : theory.Rule) : AddAnswer → Table → Type 0 
 -- A call that changes a table and answers that it was accepted: 15, then its questions. Accepted, the slots hold
 -- what is said after them.
 pub data ChangeEnds (questions : List Question) (after : Pages) (t : Table) : ChangeAnswer → Table → Type 0 where
-  unsound : (Sound t → ⊥) → ChangeEnds questions after t (changed.Refused Unsound) t
+  unsound : (Sound t → ⊥) → ChangeEnds questions after t (changed.Refused TableUnsound) t
   refused :
       (f : Refusal) → Sound t → first-no questions ≡ some (numberOf f)
       → ChangeEnds questions after t (changed.Refused f) t
@@ -86,7 +87,7 @@ MuteEnds t s m = ChangeEnds (slot-questions document (all (held t)) s) (with-mar
 
 -- Label: 15, 10. Answers absent, out, or in with depth and supporting slot.
 pub data LabelEnds (t : Table) (a : ℕ) : LabelAnswer → Type 0 where
-  unsound : (Sound t → ⊥) → LabelEnds t a (label.Refused Unsound)
+  unsound : (Sound t → ⊥) → LabelEnds t a (label.Refused TableUnsound)
   refused :
       (f : Refusal) → Sound t → first-no (atom-questions document a) ≡ some (numberOf f)
       → LabelEnds t a (label.Refused f)
@@ -97,7 +98,7 @@ pub data LabelEnds (t : Table) (a : ℕ) : LabelAnswer → Type 0 where
 -- Spoiler: 15, 8, 9. Answers muted for a muted rule, whatever its entries; of any other valid, or the entry that
 -- spoils: its list, its place there and the atom.
 pub data SpoilerEnds (t : Table) (s : ℕ) : SpoilerAnswer → Type 0 where
-  unsound : (Sound t → ⊥) → SpoilerEnds t s (spoilt.Refused Unsound)
+  unsound : (Sound t → ⊥) → SpoilerEnds t s (spoilt.Refused TableUnsound)
   refused :
       (f : Refusal) → Sound t → first-no (slot-questions document (all (held t)) s) ≡ some (numberOf f)
       → SpoilerEnds t s (spoilt.Refused f)
@@ -109,13 +110,13 @@ pub data SpoilerEnds (t : Table) (s : ℕ) : SpoilerAnswer → Type 0 where
 -- and later entries stay. `Is M xs` says that xs is the list, in the model M.
 pub data ListEnds (questions : List Question) (Is : AtomSet → List ℕ → Type 0) (t : Table) (before : List ℕ) :
     ListAnswer → List ℕ → Type 0 where
-  unsound : (Sound t → ⊥) → ListEnds questions Is t before (listed.Refused Unsound) before
+  unsound : (Sound t → ⊥) → ListEnds questions Is t before (listed.Refused TableUnsound) before
   refused :
       (f : Refusal) → Sound t → first-no questions ≡ some (numberOf f)
       → ListEnds questions Is t before (listed.Refused f) before
   short :
       (M : AtomSet) (xs : List ℕ) → Sound t → first-no questions ≡ none → Admissible (active (held t)) M → Is M xs
-      → length before < length xs → ListEnds questions Is t before (listed.Refused (Buffer (length xs))) before
+      → length before < length xs → ListEnds questions Is t before (listed.Refused (BufferTooShort (length xs))) before
   accepted :
       (M : AtomSet) (xs : List ℕ) → Sound t → first-no questions ≡ none → Admissible (active (held t)) M → Is M xs
       → length xs ≤ length before

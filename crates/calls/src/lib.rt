@@ -1,40 +1,14 @@
 // The calls on a table: what they answer, what they hand back, and the questions that a call on an atom, or on a slot,
 // asks first. Arguments are bare numbers; no call asks anything of its caller.
 use questions::head_fits;
+use refusals::Refusal;
 use sound::sound;
 use table::Atom;
 use table::Slot;
 use table::Table;
-ghost use mathlib.Core.Path.{_≡_};
-ghost use Rattle.calls.specs.Answers.{numberOf};
 ghost use Rattle.calls.specs.Asking.{AskEnds};
 
 pub mod slots; // slots.rt: the questions that a call on a slot asks first
-
-// A refusal: a case for each question that a call can answer no. Its number is that of specification 3.2
-// (specs/Answers).
-pub enum Refusal {
-    Head,
-    Entries,
-    Entry,
-    Repeated,
-    Same,
-    Full,
-    NegativeCycle,
-    SlotNumber,
-    Free,
-    AtomNumber,
-    Buffer(usize),
-    NotIn,
-    Unsound,
-    FileLength,
-    Sums,
-    BlockNumbers,
-    Record,
-    FileNumber,
-    FileCount,
-    Mark,
-}
 
 // The slot that an addition took.
 pub enum AddAnswer {
@@ -99,39 +73,11 @@ pub fn ask(table: Table, atom: u32) -> Asked
     ensures { λ r. ⌜ AskEnds table atom r ⌝ }
 {
     if !sound(table) {
-        return Asked::Refused(Refusal::Unsound);
+        return Asked::Refused(Refusal::TableUnsound);
     }
     if !head_fits(atom) {
-        return Asked::Refused(Refusal::AtomNumber);
+        return Asked::Refused(Refusal::AtomTooLarge);
     }
     let a = atom as u16;
     Asked::Passed(Atom(a))
-}
-
-// The number of a refusal.
-pub fn refusal_number(f: Refusal) -> u32
-    ensures { λ r. ⌜ r ≡ numberOf f ⌝ }
-{
-    match f {
-        Refusal::Head => 1,
-        Refusal::Entries => 2,
-        Refusal::Entry => 3,
-        Refusal::Repeated => 4,
-        Refusal::Same => 5,
-        Refusal::Full => 6,
-        Refusal::NegativeCycle => 7,
-        Refusal::SlotNumber => 8,
-        Refusal::Free => 9,
-        Refusal::AtomNumber => 10,
-        Refusal::Buffer(needed) => 11,
-        Refusal::NotIn => 12,
-        Refusal::Unsound => 15,
-        Refusal::FileLength => 16,
-        Refusal::Sums => 17,
-        Refusal::BlockNumbers => 18,
-        Refusal::Record => 19,
-        Refusal::FileNumber => 20,
-        Refusal::FileCount => 21,
-        Refusal::Mark => 22,
-    }
 }

@@ -12,16 +12,16 @@ pub fn ask_slot(table: Table, slot: u32) -> AskedSlot
     ensures { λ r. ⌜ AskSlotEnds table slot r ⌝ }
 {
     if !sound(table) {
-        return AskedSlot::Refused(Refusal::Unsound);
+        return AskedSlot::Refused(Refusal::TableUnsound);
     }
     if slot as usize >= Table::SLOTS {
-        return AskedSlot::Refused(Refusal::SlotNumber);
+        return AskedSlot::Refused(Refusal::SlotTooLarge);
     }
     let s = slot as u16;
     let rules = table.rules;
     let held = rule_in(rules, Slot(s));
     if held.state == 0 {
-        return AskedSlot::Refused(Refusal::Free);
+        return AskedSlot::Refused(Refusal::SlotFree);
     }
     AskedSlot::Passed(Slot(s))
 }

@@ -23,7 +23,7 @@ use Rattle.table.specs.Kept.{KeptOf}
 use Rattle.table.specs.Sound.{Sound}
 use Rattle.table.proofs.KeptFields.{flags-are}
 use Rattle.table.proofs.Members.{all-alike}
-use Rattle.calls.specs.declared.Refusal.{Refusal}
+use Rattle.refusals.specs.declared.Refusal.{Refusal}
 use Rattle.calls.specs.declared.LabelAnswer.{LabelAnswer}
 use Rattle.calls.specs.declared.LabelAnswer.the-variants as label
 use Rattle.calls.specs.declared.ListAnswer.{ListAnswer}

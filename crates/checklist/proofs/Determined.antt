@@ -9,12 +9,12 @@ use Rattle.theory.specs.Questions.{first-no}
 use Rattle.theory.proofs.Explanations.{lists-unique}
 use Rattle.table.specs.declared.Table.{Table}
 use Rattle.table.specs.Sound.{Sound}
-use Rattle.calls.specs.declared.Refusal.{Refusal}
-use Rattle.calls.specs.declared.Refusal.the-variants.{Unsound}
+use Rattle.refusals.specs.declared.Refusal.{Refusal}
+use Rattle.refusals.specs.declared.Refusal.the-variants.{TableUnsound}
 use Rattle.calls.specs.declared.ChangeAnswer.{ChangeAnswer}
 use Rattle.calls.specs.declared.ChangeAnswer.the-variants as change
 use Rattle.calls.specs.declared.ListAnswer.{ListAnswer}
-use Rattle.calls.specs.Answers.{numberOf}
+use Rattle.refusals.specs.Refusals.{numberOf}
 use Rattle.calls.specs.Contracts.{held}
 use Rattle.calls.proofs.Determined.{refusal-unique, both, same-model, list-determined}
 use Rattle.calls.proofs.OneTable.{table-unique}
@@ -36,9 +36,9 @@ open-determined n x y u v (accepted w d Z h U) (accepted z e Y i W) = (refl, tab
 
 -- Where a sound table is no checklist, 15 is the refusal.
 module _ (t : Table) (c : FileCall) (n : Sound t → files-of (held t) ≡ none) (S : Sound t) where
-  is-15 : (f : Refusal) → first-no (mark-questions (held t) c) ≡ some (numberOf f) → Unsound ≡ f
+  is-15 : (f : Refusal) → first-no (mark-questions (held t) c) ≡ some (numberOf f) → TableUnsound ≡ f
   unfolding every
-  is-15 f e = refusal-unique (mark-questions (held t) c) refl Unsound f (no-list (held t) c (n S)) e
+  is-15 f e = refusal-unique (mark-questions (held t) c) refl TableUnsound f (no-list (held t) c (n S)) e
 
   not-yes : first-no (mark-questions (held t) c) ≡ none → ⊥
   not-yes e = both _ _ (no-list (held t) c (n S)) e

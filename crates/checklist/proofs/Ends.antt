@@ -20,8 +20,8 @@ use Rattle.theory.proofs.Questions.{first-no-yes, first-no-here, held-below}
 use Rattle.table.specs.declared.Slot.{Slot}
 use Rattle.table.specs.declared.Table.{Table}
 use Rattle.table.specs.Sound.{Sound}
-use Rattle.calls.specs.declared.Refusal.{Refusal}
-use Rattle.calls.specs.declared.Refusal.the-variants.{Unsound, FileNumber, Mark}
+use Rattle.refusals.specs.declared.Refusal.{Refusal}
+use Rattle.refusals.specs.declared.Refusal.the-variants.{TableUnsound, FileNotListed, MarkUnchanged}
 use Rattle.calls.specs.declared.AddAnswer.{AddAnswer}
 use Rattle.calls.specs.declared.AddAnswer.the-variants as added
 use Rattle.calls.specs.declared.ChangeAnswer.{ChangeAnswer}
@@ -29,7 +29,7 @@ use Rattle.calls.specs.declared.ChangeAnswer.the-variants as change
 use Rattle.calls.specs.declared.Changed.{Changed}
 use Rattle.calls.specs.declared.LabelAnswer.{LabelAnswer}
 use Rattle.calls.specs.declared.LabelAnswer.the-variants as label
-use Rattle.calls.specs.Answers.{numberOf}
+use Rattle.refusals.specs.Refusals.{numberOf}
 use Rattle.calls.specs.Contracts as contract
 use Rattle.calls.specs.Contracts.{held, AddEnds, RemoveEnds, LabelEnds}
 use Rattle.checklist.specs.declared.AskedFile.{AskedFile}
@@ -107,7 +107,7 @@ module _ (t : Table) (a : ℕ) {x : AddAnswer} {u : Table} (E : AddEnds t (fact 
   mark-taken e = taken (subst (λ (y : AddAnswer). AddEnds t (fact a) y u) e E)
 
   module _ {f : Refusal} (e : x ≡ added.Refused f) (k : ℕ) (number : k ≡ numberOf f) where
-    pub mark-stands : k ≡ 5 → MarkAdded t a (change.Refused Mark) u
+    pub mark-stands : k ≡ 5 → MarkAdded t a (change.Refused MarkUnchanged) u
     mark-stands five = stands (subst (λ (y : AddAnswer). AddEnds t (fact a) y u) e E) (sym number ∙ five)
 
     pub mark-other : (k ≡ 5 → ⊥) → MarkAdded t a (change.Refused f) u
@@ -123,10 +123,10 @@ module _ (t : Table) (a : ℕ) {x : LabelAnswer} (E : LabelEnds t a x) where
       → MarkRemoved t a y u
   mark-freed e R = parts.removed (ends-as e) R
 
-  pub mark-out : x ≡ label.Out → MarkRemoved t a (change.Refused Mark) t
+  pub mark-out : x ≡ label.Out → MarkRemoved t a (change.Refused MarkUnchanged) t
   mark-out e = parts.out (ends-as e)
 
-  pub mark-absent : x ≡ label.Absent → MarkRemoved t a (change.Refused Mark) t
+  pub mark-absent : x ≡ label.Absent → MarkRemoved t a (change.Refused MarkUnchanged) t
   mark-absent e = parts.absent (ends-as e)
 
   pub mark-unsound : {f : Refusal} → x ≡ label.Refused f → MarkRemoved t a (change.Refused f) t
@@ -137,7 +137,7 @@ passed? asked.Passed = true
 passed? (asked.Refused f) = false
 
 abbrev why-asked : AskedFile → Refusal
-why-asked asked.Passed = Unsound
+why-asked asked.Passed = TableUnsound
 why-asked (asked.Refused f) = f
 
 -- What the questions of a file say of the call.
@@ -149,7 +149,7 @@ module _ (t : Table) (c : FileCall) where
       subst (λ (g : Refusal). FileEnds t c (change.Refused g) t) (ap why-asked q) (ends.unsound un)
   asked-refused (parts.off-list n S e l) q =
       subst (λ (g : Refusal). FileEnds t c (change.Refused g) t) (ap why-asked q)
-      (ends.refused FileNumber S (off-list (held t) c n e l))
+      (ends.refused FileNotListed S (off-list (held t) c n e l))
   asked-refused (parts.passed n e l) q = absurd (true≢false (ap passed? q))
 
 pub record Listed (t : Table) (i : ℕ) : Type 0 where
@@ -258,7 +258,7 @@ module _
     mark-added adds (stands (contract.unsound un) five) = absurd (omega (arith, five))
     mark-added adds (stands (contract.refused f S q) five) =
         let there : marked (held t) a ≡ true = not-unmarked S q in
-        ends.refused Mark S (not-allowed (held t) c n e l (asks-mark ∙ ap not there))
+        ends.refused MarkUnchanged S (not-allowed (held t) c n e l (asks-mark ∙ ap not there))
     mark-added adds (other (contract.unsound un) not-five) = ends.unsound (λ S. absurd (un S))
     mark-added adds (other (contract.refused f S q) not-five) =
         absurd (not-five (Option·some-injective _ _ (sym q ∙ add-stands t S n a C m (not-unmarked S q))))
@@ -266,9 +266,9 @@ module _
   -- Skip withdrawn: a call on a file of the list that removes it.
   module _ (asks-mark : allowed (held t) c ≡ marked (held t) a) where
     withdrawn-out :
-        {x : LabelAnswer} → Told t a x → in? x ≡ false → FileEnds t c (change.Refused Mark) t
+        {x : LabelAnswer} → Told t a x → in? x ≡ false → FileEnds t c (change.Refused MarkUnchanged) t
     withdrawn-out T f =
-        ends.refused Mark (T .sound) (not-allowed (held t) c n e l
+        ends.refused MarkUnchanged (T .sound) (not-allowed (held t) c n e l
         (asks-mark ∙ sym (mark-in (held t) n C (T .model) (T .admissible) a m) ∙ model-in t a T ∙ f))
 
     -- its fact stands in the slot that supports it, and a slot that holds a rule passes 8 and 9

@@ -15,8 +15,8 @@ use Rattle.theory.proofs.Questions.{first-no-yes}
 use Rattle.table.specs.declared.Slot.{Slot}
 use Rattle.table.specs.declared.Table.{Table}
 use Rattle.table.specs.Sound.{Sound}
-use Rattle.calls.specs.declared.Refusal.{Refusal}
-use Rattle.calls.specs.declared.Refusal.the-variants.{Unsound}
+use Rattle.refusals.specs.declared.Refusal.{Refusal}
+use Rattle.refusals.specs.declared.Refusal.the-variants.{TableUnsound}
 use Rattle.calls.specs.declared.LabelAnswer.{LabelAnswer}
 use Rattle.calls.specs.declared.LabelAnswer.the-variants as label
 use Rattle.calls.specs.Answers.{tellLabel}
@@ -46,9 +46,9 @@ slot? (label.In d s) = s .0
 slot? (label.Refused f) = 0
 
 abbrev why : LabelAnswer → Refusal
-why label.Absent = Unsound
-why label.Out = Unsound
-why (label.In d s) = Unsound
+why label.Absent = TableUnsound
+why label.Out = TableUnsound
+why (label.In d s) = TableUnsound
 why (label.Refused f) = f
 
 label-told : (l : Label) → in? (tellLabel l) ≡ is-in-label l
@@ -90,7 +90,7 @@ module _ (t : Table) (a : ℕ) where
   -- A refusal of an atom that passes 10: the table is not sound.
   pub told-refused :
       a < document .atoms → {x : LabelAnswer} → LabelEnds t a x → {f : Refusal} → x ≡ label.Refused f
-      → (f ≡ Unsound) × (Sound t → ⊥)
+      → (f ≡ TableUnsound) × (Sound t → ⊥)
   told-refused l (contract.unsound n) e = (sym (ap why e), n)
   told-refused l (contract.refused f S q) e = absurd (Option·none-ne-some _ (sym (atom-passes a l) ∙ q))
   told-refused l (contract.accepted M k S q A L) e =

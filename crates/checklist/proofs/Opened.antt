@@ -31,7 +31,7 @@ use Rattle.table.proofs.Empty.{empty-sound, free-book}
 use Rattle.calls.specs.declared.AddAnswer.{AddAnswer}
 use Rattle.calls.specs.declared.Changed.{Changed}
 use Rattle.calls.specs.declared.ChangeAnswer.the-variants as change
-use Rattle.calls.specs.declared.Refusal.the-variants.{FileCount}
+use Rattle.refusals.specs.declared.Refusal.the-variants.{WrongFileCount}
 use Rattle.calls.specs.Contracts.{held, Sized, AddEnds, unsound, refused, accepted}
 use Rattle.checklist_frame.specs.Frame.{Checklist, most-files, sent, skipped, good, fact, frame, files, is-mark, marked}
 use Rattle.checklist_frame.specs.Frame.{unmuted-on}
@@ -302,11 +302,11 @@ file-added t u i x n E =
 
 pub open-refused :
     (n : ℕ) (t : Table) (r : Changed) → (1 ≤ n → n ≤ most-files → ⊥) → t ≡ emptyTable
-    → r ≡ record { answer = change.Refused FileCount; table = t } → OpenEnds n (r .answer) (r .table)
+    → r ≡ record { answer = change.Refused WrongFileCount; table = t } → OpenEnds n (r .answer) (r .table)
 open-refused n t r f e d =
     subst (λ (z : Changed). OpenEnds n (z .answer) (z .table)) (sym d)
-    (subst (OpenEnds n (change.Refused FileCount)) (sym e)
-    (contract.refused FileCount (first-no-here _ _ (unless _ (λ b. f
+    (subst (OpenEnds n (change.Refused WrongFileCount)) (sym e)
+    (contract.refused WrongFileCount (first-no-here _ _ (unless _ (λ b. f
     (leb-le 1 n (and-l (leb 1 n) _ b)) (leb-le n most-files (and-r (leb 1 n) _ b)))))))
 
 pub open-accepted : (n : ℕ) (u : Table) → 1 ≤ n → n ≤ most-files → Framed n u → OpenEnds n change.Accepted u

@@ -19,7 +19,7 @@ use Rattle.theory.proofs.Questions.{first-no-yes, first-no-here, first-no-none}
 use Rattle.table.specs.declared.Table.{Table}
 use Rattle.table.specs.Sound.{Sound}
 use Rattle.table.proofs.Members.{all-alike}
-use Rattle.calls.specs.declared.Refusal.the-variants.{Unsound}
+use Rattle.refusals.specs.declared.Refusal.the-variants.{TableUnsound}
 use Rattle.calls.specs.declared.ChangeAnswer.{ChangeAnswer}
 use Rattle.calls.specs.declared.ChangeAnswer.the-variants as change
 use Rattle.calls.specs.declared.ListAnswer.{ListAnswer}
@@ -158,19 +158,19 @@ empty-iff-complete t before x after y E F = (
 -- nothing, complete is not answered.
 module _ (t : Table) (none-there : Sound t → files-of (held t) ≡ none) where
   pub no-checklist-file :
-      (c : FileCall) (x : ChangeAnswer) (u : Table) → FileEnds t c x u → (x ≡ change.Refused Unsound) × (u ≡ t)
-  no-checklist-file c x u E = file-determined t c x (change.Refused Unsound) u t E (list.unsound none-there)
+      (c : FileCall) (x : ChangeAnswer) (u : Table) → FileEnds t c x u → (x ≡ change.Refused TableUnsound) × (u ≡ t)
+  no-checklist-file c x u E = file-determined t c x (change.Refused TableUnsound) u t E (list.unsound none-there)
 
-  pub no-checklist-complete : (x : CompleteAnswer) → CompleteEnds t x → x ≡ told.Refused Unsound
-  no-checklist-complete x E = complete-determined t x (told.Refused Unsound) E (list.unsound none-there)
+  pub no-checklist-complete : (x : CompleteAnswer) → CompleteEnds t x → x ≡ told.Refused TableUnsound
+  no-checklist-complete x E = complete-determined t x (told.Refused TableUnsound) E (list.unsound none-there)
 
   pub no-checklist-list :
       (before : List ℕ) (x : ListAnswer) (after : List ℕ) → MissingEnds t before x after
-      → (x ≡ listed.Refused Unsound) × (after ≡ before)
+      → (x ≡ listed.Refused TableUnsound) × (after ≡ before)
   no-checklist-list before x after (contract.unsound n) = (refl, refl)
   no-checklist-list before x after (contract.refused f S e) =
-      missing-determined t before x (listed.Refused Unsound) after before (contract.refused f S e)
-      (contract.refused Unsound S (first-no-here (asks 15 _) [] (ap is-some (none-there S))))
+      missing-determined t before x (listed.Refused TableUnsound) after before (contract.refused f S e)
+      (contract.refused TableUnsound S (first-no-here (asks 15 _) [] (ap is-some (none-there S))))
   no-checklist-list before x after (contract.short M is S a A L l) =
       absurd (Option·none-ne-some 15 (sym a ∙ first-no-here (asks 15 _) [] (ap is-some (none-there S))))
   no-checklist-list before x after (contract.accepted M is S a A L l) =
@@ -179,11 +179,11 @@ module _ (t : Table) (none-there : Sound t → files-of (held t) ≡ none) where
 -- So each call of a checklist meets 15.
 pub record Meets15 (t : Table) : Type 0 where
   pub file :
-      (c : FileCall) (x : ChangeAnswer) (u : Table) → FileEnds t c x u → (x ≡ change.Refused Unsound) × (u ≡ t)
-  pub complete : (x : CompleteAnswer) → CompleteEnds t x → x ≡ told.Refused Unsound
+      (c : FileCall) (x : ChangeAnswer) (u : Table) → FileEnds t c x u → (x ≡ change.Refused TableUnsound) × (u ≡ t)
+  pub complete : (x : CompleteAnswer) → CompleteEnds t x → x ≡ told.Refused TableUnsound
   pub list :
       (before : List ℕ) (x : ListAnswer) (after : List ℕ) → MissingEnds t before x after
-      → (x ≡ listed.Refused Unsound) × (after ≡ before)
+      → (x ≡ listed.Refused TableUnsound) × (after ≡ before)
 
 -- A checklist with a muted rule is none (request #108): where a rule of the table is muted, each call meets 15.
 pub muted-no-checklist :

@@ -13,12 +13,12 @@ use Rattle.theory.specs.Limits.{document}
 use Rattle.table.specs.declared.Table.{Table}
 use Rattle.table.specs.Clean.{emptyTable}
 use Rattle.table.specs.Sound.{Sound}
-use Rattle.calls.specs.declared.Refusal.{Refusal}
-use Rattle.calls.specs.declared.Refusal.the-variants.{Unsound}
+use Rattle.refusals.specs.declared.Refusal.{Refusal}
+use Rattle.refusals.specs.declared.Refusal.the-variants.{TableUnsound}
 use Rattle.calls.specs.declared.ChangeAnswer.{ChangeAnswer}
 use Rattle.calls.specs.declared.ChangeAnswer.the-variants as change
 use Rattle.calls.specs.declared.ListAnswer.{ListAnswer}
-use Rattle.calls.specs.Answers.{numberOf}
+use Rattle.refusals.specs.Refusals.{numberOf}
 use Rattle.calls.specs.Contracts.{held, Sized, ListEnds}
 use Rattle.checklist.specs.declared.CompleteAnswer.{CompleteAnswer}
 use Rattle.checklist.specs.declared.CompleteAnswer.the-variants as told
@@ -38,7 +38,7 @@ pub data OpenEnds (n : ℕ) : ChangeAnswer → Table → Type 0 where
 -- File sent, file skipped, skip withdrawn: 15, 20, 22. A table that is not sound, or else is no checklist, as where a
 -- rule is muted, is refused by 15 alike.
 pub data FileEnds (t : Table) (c : FileCall) : ChangeAnswer → Table → Type 0 where
-  unsound : (Sound t → files-of (held t) ≡ none) → FileEnds t c (change.Refused Unsound) t
+  unsound : (Sound t → files-of (held t) ≡ none) → FileEnds t c (change.Refused TableUnsound) t
   refused :
       (f : Refusal) → Sound t → first-no (mark-questions (held t) c) ≡ some (numberOf f)
       → FileEnds t c (change.Refused f) t
@@ -58,7 +58,7 @@ tellComplete true = told.Complete
 tellComplete false = told.Incomplete
 
 pub data CompleteEnds (t : Table) : CompleteAnswer → Type 0 where
-  unsound : (Sound t → files-of (held t) ≡ none) → CompleteEnds t (told.Refused Unsound)
+  unsound : (Sound t → files-of (held t) ≡ none) → CompleteEnds t (told.Refused TableUnsound)
   accepted :
       (M : AtomSet) (n : ℕ) → Sound t → files-of (held t) ≡ some n → Admissible (active (held t)) M
       → CompleteEnds t (tellComplete (M (good n)))

@@ -11,14 +11,14 @@ use Rattle.table.specs.declared.Slot.{Slot}
 use Rattle.table.specs.declared.Table.{Table}
 use Rattle.table.specs.Sets.{member}
 use Rattle.table.specs.Sound.{Sound}
-use Rattle.calls.specs.declared.Refusal.{Refusal}
-use Rattle.calls.specs.declared.Refusal.the-variants.{Unsound, FileNumber, Mark}
+use Rattle.refusals.specs.declared.Refusal.{Refusal}
+use Rattle.refusals.specs.declared.Refusal.the-variants.{TableUnsound, FileNotListed, MarkUnchanged}
 use Rattle.calls.specs.declared.AddAnswer.{AddAnswer}
 use Rattle.calls.specs.declared.AddAnswer.the-variants as added
 use Rattle.calls.specs.declared.ChangeAnswer.{ChangeAnswer}
 use Rattle.calls.specs.declared.ChangeAnswer.the-variants as change
 use Rattle.calls.specs.declared.LabelAnswer.the-variants as label
-use Rattle.calls.specs.Answers.{numberOf}
+use Rattle.refusals.specs.Refusals.{numberOf}
 use Rattle.calls.specs.Contracts.{held, Sized, AddEnds, RemoveEnds, LabelEnds}
 use Rattle.checklist.specs.declared.AskedFile.{AskedFile}
 use Rattle.checklist.specs.declared.AskedFile.the-variants as asked
@@ -39,10 +39,10 @@ pub record Framed (n : ℕ) (u : Table) : Type 0 where
 
 -- A file that passes is on the list of a table's rules; whether the table is sound is not asked of it yet.
 pub data FileAsked (t : Table) (i : ℕ) : AskedFile → Type 0 where
-  unsound : (Sound t → files-of (held t) ≡ none) → FileAsked t i (asked.Refused Unsound)
+  unsound : (Sound t → files-of (held t) ≡ none) → FileAsked t i (asked.Refused TableUnsound)
   off-list :
       (n : ℕ) → Sound t → files-of (held t) ≡ some n → on-list (some n) i ≡ false
-      → FileAsked t i (asked.Refused FileNumber)
+      → FileAsked t i (asked.Refused FileNotListed)
   passed : (n : ℕ) → files-of (held t) ≡ some n → on-list (some n) i ≡ true → FileAsked t i asked.Passed
 
 -- A mark's fact was added: it was accepted, or refused, where 5 is told as 22.
@@ -50,7 +50,7 @@ pub data MarkAdded (t : Table) (a : ℕ) : ChangeAnswer → Table → Type 0 whe
   taken : {s : Slot} {u : Table} → AddEnds t (fact a) (added.Taken s) u → MarkAdded t a change.Accepted u
   stands :
       {f : Refusal} {u : Table} → AddEnds t (fact a) (added.Refused f) u → numberOf f ≡ 5
-      → MarkAdded t a (change.Refused Mark) u
+      → MarkAdded t a (change.Refused MarkUnchanged) u
   other :
       {f : Refusal} {u : Table} → AddEnds t (fact a) (added.Refused f) u → (numberOf f ≡ 5 → ⊥)
       → MarkAdded t a (change.Refused f) u
@@ -60,8 +60,8 @@ pub data MarkRemoved (t : Table) (a : ℕ) : ChangeAnswer → Table → Type 0 w
   removed :
       {d : ℕ} {s : Slot} {x : ChangeAnswer} {u : Table} → LabelEnds t a (label.In d s) → RemoveEnds t (s .0) x u
       → MarkRemoved t a x u
-  out : LabelEnds t a label.Out → MarkRemoved t a (change.Refused Mark) t
-  absent : LabelEnds t a label.Absent → MarkRemoved t a (change.Refused Mark) t
+  out : LabelEnds t a label.Out → MarkRemoved t a (change.Refused MarkUnchanged) t
+  absent : LabelEnds t a label.Absent → MarkRemoved t a (change.Refused MarkUnchanged) t
   refused : {f : Refusal} → LabelEnds t a (label.Refused f) → MarkRemoved t a (change.Refused f) t
 
 -- Of each number, whether it is one of n files, and unsent or with a skip standing by the atoms that are in.

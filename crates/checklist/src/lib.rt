@@ -8,11 +8,11 @@ use calls::ChangeAnswer;
 use calls::Changed;
 use calls::LabelAnswer;
 use calls::ListAnswer;
-use calls::Refusal;
-use calls::refusal_number;
 use checklist_frame::MOST;
 use checklist_frame::file_count;
 use queries::label;
+use refusals::Refusal;
+use refusals::refusal_number;
 use table::Table;
 use table::kept::keep;
 use written_lists::write_marked;
@@ -88,15 +88,15 @@ fn ask_file(table: Table, file: u32) -> AskedFile
     let rules = table.rules;
     let n = file_count(rules);
     if n == 0 {
-        return AskedFile::Refused(Refusal::Unsound);
+        return AskedFile::Refused(Refusal::TableUnsound);
     }
     if listed(file, n) {
         return AskedFile::Passed;
     }
     if !is_sound(table) {
-        return AskedFile::Refused(Refusal::Unsound);
+        return AskedFile::Refused(Refusal::TableUnsound);
     }
-    AskedFile::Refused(Refusal::FileNumber)
+    AskedFile::Refused(Refusal::FileNotListed)
 }
 
 // Adds a mark's fact. That the table has it already (5) is told as 22.
@@ -114,7 +114,7 @@ fn add_mark(table: Table, atom: u32) -> Changed
         },
         AddAnswer::Refused(why) => {
             if refusal_number(why) == 5 {
-                return refuse(after, Refusal::Mark);
+                return refuse(after, Refusal::MarkUnchanged);
             }
             refuse(after, why)
         }
@@ -127,7 +127,7 @@ pub fn open(files: u32) -> Changed
 {
     if !listed(files, MOST) {
         let nothing = Table::empty();
-        return refuse(nothing, Refusal::FileCount);
+        return refuse(nothing, Refusal::WrongFileCount);
     }
     let table = opening::framed(files);
     Changed {
@@ -167,8 +167,8 @@ fn remove_mark(table: Table, atom: u32) -> Changed
     match told {
         LabelAnswer::In(d, s) => remove(table, s.0 as u32),
         LabelAnswer::Refused(why) => refuse(table, why),
-        LabelAnswer::Absent => refuse(table, Refusal::Mark),
-        LabelAnswer::Out => refuse(table, Refusal::Mark),
+        LabelAnswer::Absent => refuse(table, Refusal::MarkUnchanged),
+        LabelAnswer::Out => refuse(table, Refusal::MarkUnchanged),
     }
 }
 
@@ -203,12 +203,12 @@ pub fn missing(table: Table, buffer: &mut [u32]) -> ListAnswer
     ensures { λ r. ⌜ MissingEnds table (now (buffer .entry)) r (now (buffer .exit)) ⌝ }
 {
     if !is_sound(table) {
-        return ListAnswer::Refused(Refusal::Unsound);
+        return ListAnswer::Refused(Refusal::TableUnsound);
     }
     let rules = table.rules;
     let files = file_count(rules);
     if files == 0 {
-        return ListAnswer::Refused(Refusal::Unsound);
+        return ListAnswer::Refused(Refusal::TableUnsound);
     }
     let labels = table.labels;
     let kept = keep(labels);
@@ -224,7 +224,7 @@ pub fn complete(table: Table) -> CompleteAnswer
     let rules = table.rules;
     let n = file_count(rules);
     if n == 0 {
-        return CompleteAnswer::Refused(Refusal::Unsound);
+        return CompleteAnswer::Refused(Refusal::TableUnsound);
     }
     let told = label(table, 3 * n as u32);
     match told {

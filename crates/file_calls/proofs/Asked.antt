@@ -28,7 +28,7 @@ use Rattle.file_blocks.proofs.Records.{distinct-rules}
 use Rattle.file_loading.specs.Reading.{allRight}
 use Rattle.calls.specs.declared.ChangeAnswer.{ChangeAnswer}
 use Rattle.calls.specs.declared.ChangeAnswer.the-variants.{Accepted, Refused}
-use Rattle.calls.specs.declared.Refusal.the-variants.{FileLength, Sums, BlockNumbers, Record}
+use Rattle.refusals.specs.declared.Refusal.the-variants.{WrongLength, WrongChecksum, WrongBlock, WrongRecord}
 use Rattle.calls.specs.Contracts as contract
 use Rattle.calls.specs.Contracts.{LoadEnds}
 use Rattle.file_calls.specs.Rules.{WellFormedSlots, RulesLoad, twice, cyclic, loads}
@@ -36,28 +36,28 @@ use Rattle.file_calls.proofs.Tables.{rules-single}
 use Rattle.file_calls.proofs.Recorded.{split, join, same-rules, once}
 
 module _ (bs : List ℕ) where
-  pub not-whole : whole bs ≡ false → LoadEnds bs (Refused FileLength) emptyTable
-  not-whole e = contract.refused FileLength (first-no-here _ _ e)
+  pub not-whole : whole bs ≡ false → LoadEnds bs (Refused WrongLength) emptyTable
+  not-whole e = contract.refused WrongLength (first-no-here _ _ e)
 
   module _ (w : whole bs ≡ true) where
-    pub not-summed : every summed (blocks bs) ≡ false → LoadEnds bs (Refused Sums) emptyTable
-    not-summed e = contract.refused Sums (first-no-yes _ _ w ∙ first-no-here _ _ e)
+    pub not-summed : every summed (blocks bs) ≡ false → LoadEnds bs (Refused WrongChecksum) emptyTable
+    not-summed e = contract.refused WrongChecksum (first-no-yes _ _ w ∙ first-no-here _ _ e)
 
     module _ (s : every summed (blocks bs) ≡ true) where
       pub not-numbered :
-          numbered (blockCount bs) 0 (blocks bs) ≡ false → LoadEnds bs (Refused BlockNumbers) emptyTable
+          numbered (blockCount bs) 0 (blocks bs) ≡ false → LoadEnds bs (Refused WrongBlock) emptyTable
       not-numbered e =
-          contract.refused BlockNumbers (first-no-yes _ _ w ∙ first-no-yes _ _ s ∙ first-no-here _ _ e)
+          contract.refused WrongBlock (first-no-yes _ _ w ∙ first-no-yes _ _ s ∙ first-no-here _ _ e)
 
       module _ (m : numbered (blockCount bs) 0 (blocks bs) ≡ true) where
         not-right :
             (every filled (blocks bs) && recordsRight document (placesOf (blocks bs))) ≡ false
-            → LoadEnds bs (Refused Record) emptyTable
+            → LoadEnds bs (Refused WrongRecord) emptyTable
         not-right e =
-            contract.refused Record
+            contract.refused WrongRecord
             (first-no-yes _ _ w ∙ first-no-yes _ _ s ∙ first-no-yes _ _ m ∙ first-no-here _ _ e)
 
-        pub not-filled : every filled (blocks bs) ≡ false → LoadEnds bs (Refused Record) emptyTable
+        pub not-filled : every filled (blocks bs) ≡ false → LoadEnds bs (Refused WrongRecord) emptyTable
         not-filled e = not-right (both-no _ _ e)
 
         module _ (f : every filled (blocks bs) ≡ true) where
@@ -67,10 +67,10 @@ module _ (bs : List ℕ) where
           abbrev pages : Pages
           pages = pagesOf document bs
 
-          not-records : recordsRight document ps ≡ false → LoadEnds bs (Refused Record) emptyTable
+          not-records : recordsRight document ps ≡ false → LoadEnds bs (Refused WrongRecord) emptyTable
           not-records e = not-right (both-no-2 _ _ f e)
 
-          pub not-all-right : allRight 0 ps ≡ false → LoadEnds bs (Refused Record) emptyTable
+          pub not-all-right : allRight 0 ps ≡ false → LoadEnds bs (Refused WrongRecord) emptyTable
           not-all-right e = not-records (unless _ (λ t. clash (split ps t .0) e))
 
           module _ (a : allRight 0 ps ≡ true) where

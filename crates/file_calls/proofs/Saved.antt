@@ -15,7 +15,7 @@ use Rattle.fields.specs.Written.{put, Wrote}
 use Rattle.file_blocks.specs.Places.{records}
 use Rattle.file_blocks.specs.Files.{blocksFor, fileOf}
 use Rattle.file_blocks.proofs.RoundTrips.{file-length}
-use Rattle.calls.specs.declared.Refusal.the-variants.{Buffer, Unsound}
+use Rattle.refusals.specs.declared.Refusal.the-variants.{BufferTooShort, TableUnsound}
 use Rattle.calls.specs.declared.ListAnswer.the-variants.{Count, Refused}
 use Rattle.calls.specs.Contracts as contract
 use Rattle.calls.specs.Contracts.{held, SaveEnds}
@@ -24,7 +24,7 @@ use Rattle.file_saving.specs.Held.{HeldIn}
 
 pub save-unsound :
     (t : Table) (before : List ℕ) (b : Bool) → (b ≡ true) ↔ Sound t → not b ≡ true
-    → SaveEnds t before (Refused Unsound) before
+    → SaveEnds t before (Refused TableUnsound) before
 save-unsound t before b told u = contract.unsound (λ S. clash (told .1 S) (not-true b u))
 
 -- No question is asked but 15 and 11.
@@ -39,9 +39,9 @@ module _ (t : Table) (S : Sound t) (before : List ℕ) (h : HeldSlots) (H : Held
       file-length (held t) (S .labels .passes)
       ∙ ap (λ (k : ℕ). 512 * k) (ap blocksFor (sym (H .count)) ∙ sym many)
 
-  pub save-short : length before < 512 * n → SaveEnds t before (Refused (Buffer (512 * n))) before
+  pub save-short : length before < 512 * n → SaveEnds t before (Refused (BufferTooShort (512 * n))) before
   save-short l =
-      subst (λ (k : ℕ). SaveEnds t before (Refused (Buffer k)) before) long
+      subst (λ (k : ℕ). SaveEnds t before (Refused (BufferTooShort k)) before) long
       (contract.short (S .labels .model) (fileOf (held t)) S no-question (S .labels .admissible) refl
       (omega (arith, long)))
 

@@ -19,7 +19,7 @@ use Rattle.file_blocks.specs.Files.{fileOf}
 use Rattle.file_blocks.specs.Questions.{file-questions}
 use Rattle.file_blocks.proofs.RoundTrips.{file-accepted, file-pages, pages-file}
 use Rattle.file_blocks.proofs.Damage.{one-byte-17}
-use Rattle.calls.specs.declared.Refusal.the-variants.{Sums}
+use Rattle.refusals.specs.declared.Refusal.the-variants.{WrongChecksum}
 use Rattle.calls.specs.declared.ListAnswer.{ListAnswer}
 use Rattle.calls.specs.declared.ListAnswer.the-variants.{Count}
 use Rattle.calls.specs.declared.ChangeAnswer.{ChangeAnswer}
@@ -83,7 +83,7 @@ accepted-file bs b = (
 pub changed-byte :
     (t : Table) → Sound t → (i b : ℕ) → i < length (fileOf (held t)) → b < 256 → (b ≡ getD (fileOf (held t)) i 0 → ⊥)
     → (x : ChangeAnswer) (u : Table) → LoadEnds (set (fileOf (held t)) i b) x u
-    → (x ≡ Refused Sums) × (u ≡ emptyTable)
+    → (x ≡ Refused WrongChecksum) × (u ≡ emptyTable)
 changed-byte t S i b l k n x u E =
-    load-determined (set (fileOf (held t)) i b) x (Refused Sums) u emptyTable E
-    (contract.refused Sums (one-byte-17 (held t) _ (S .labels) i b l k n))
+    load-determined (set (fileOf (held t)) i b) x (Refused WrongChecksum) u emptyTable E
+    (contract.refused WrongChecksum (one-byte-17 (held t) _ (S .labels) i b l k n))

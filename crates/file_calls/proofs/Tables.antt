@@ -18,8 +18,8 @@ use Rattle.well_formed.specs.Slots.{Single}
 use Rattle.labels.specs.declared.Labelling.{Labelling}
 use Rattle.labels.specs.Labelling.{LabellingOf}
 use Rattle.sound.proofs.Soundness.{well-formed-bounded, well-formed-single, sound-labelled}
-use Rattle.calls.specs.declared.Refusal.{Refusal}
-use Rattle.calls.specs.declared.Refusal.the-variants.{Record}
+use Rattle.refusals.specs.declared.Refusal.{Refusal}
+use Rattle.refusals.specs.declared.Refusal.the-variants.{WrongRecord}
 use Rattle.calls.specs.declared.ChangeAnswer.the-variants.{Accepted, Refused}
 use Rattle.calls.specs.declared.Changed.{Changed}
 use Rattle.calls.specs.Contracts.{Sized, LoadEnds}
@@ -52,11 +52,11 @@ module _ (rules : List Rule) (well : WellFormedSlots rules) (long : length rules
       well-formed-single (record { rules = rules; labels = emptyTable .labels }) long any-labels well U
 
   module _ (b : Bool) (told : (b ≡ true) ↔ Single (programOf rules)) where
-    pub rules-twice : not b ≡ true → RulesLoad rules (Refused Record) emptyTable
+    pub rules-twice : not b ≡ true → RulesLoad rules (Refused WrongRecord) emptyTable
     rules-twice u = rules-load.twice (λ U. clash (told .1 U) (not-true b u))
 
     module _ (once : not b ≡ false) (l : Labelling) (L : LabellingOf (bookOf rules) l) where
-      pub rules-cyclic : not (l .acyclic) ≡ true → RulesLoad rules (Refused Record) emptyTable
+      pub rules-cyclic : not (l .acyclic) ≡ true → RulesLoad rules (Refused WrongRecord) emptyTable
       rules-cyclic u = rules-load.cyclic (told .0 (not-false b once)) (L .cyclic (not-true (l .acyclic) u))
 
       pub rules-loaded :

@@ -11,7 +11,7 @@ use Rattle.table.specs.Rules.{bookOf, programOf, pastRule}
 use Rattle.table.specs.Clean.{emptyTable, WellFormed}
 use Rattle.table.specs.Sound.{Sound}
 use Rattle.well_formed.specs.Slots.{Single}
-use Rattle.calls.specs.declared.Refusal.the-variants.{Record}
+use Rattle.refusals.specs.declared.Refusal.the-variants.{WrongRecord}
 use Rattle.calls.specs.declared.ChangeAnswer.{ChangeAnswer}
 use Rattle.calls.specs.declared.ChangeAnswer.the-variants.{Accepted, Refused}
 use Rattle.calls.specs.Contracts.{held, Sized}
@@ -22,9 +22,9 @@ WellFormedSlots rules = (s : ℕ) → s < document .slots → WellFormed (getD r
 
 -- The table of such rules; there is none if a rule stands in two slots or if there is a negative cycle.
 pub data RulesLoad (rules : List Rule) : ChangeAnswer → Table → Type 0 where
-  twice : (Single (programOf rules) → ⊥) → RulesLoad rules (Refused Record) emptyTable
+  twice : (Single (programOf rules) → ⊥) → RulesLoad rules (Refused WrongRecord) emptyTable
   cyclic :
-      Single (programOf rules) → NegativeCycle (programOf rules) → RulesLoad rules (Refused Record) emptyTable
+      Single (programOf rules) → NegativeCycle (programOf rules) → RulesLoad rules (Refused WrongRecord) emptyTable
   loads :
       (u : Table) → Single (programOf rules) → (NegativeCycle (programOf rules) → ⊥) → Sized u
       → held u ≡ bookOf rules → Sound u → RulesLoad rules Accepted u

@@ -2,7 +2,6 @@
 use calls::ChangeAnswer;
 use calls::Changed;
 use calls::ListAnswer;
-use calls::Refusal;
 use file_blocks::BLOCK;
 use file_loading::check_blocks;
 use file_loading::read_records;
@@ -11,6 +10,7 @@ use file_saving::blocks_for;
 use file_saving::held_slots;
 use file_saving::write_file;
 use labels::labels_of;
+use refusals::Refusal;
 use sound::sound;
 use table::Rule;
 use table::Table;
@@ -27,14 +27,14 @@ pub fn save(table: Table, buffer: &mut [u8]) -> ListAnswer
     ensures { λ r. ⌜ SaveEnds table (now (buffer .entry)) r (now (buffer .exit)) ⌝ }
 {
     if !sound(table) {
-        return ListAnswer::Refused(Refusal::Unsound);
+        return ListAnswer::Refused(Refusal::TableUnsound);
     }
     let rules = table.rules;
     let held = held_slots(rules);
     let n = blocks_for(held.count);
     let needed = BLOCK * n;
     if buffer.len() < needed {
-        return ListAnswer::Refused(Refusal::Buffer(needed));
+        return ListAnswer::Refused(Refusal::BufferTooShort(needed));
     }
     write_file(buffer, rules, held, n);
     ListAnswer::Count(needed)
@@ -64,7 +64,7 @@ fn load_rules(rules: [Rule; Table::SLOTS]) -> Changed
     ensures { λ r. ⌜ RulesLoad rules (r .answer) (r .table) ⌝ }
 {
     if !no_two_equal(rules) {
-        return refuse(Refusal::Record);
+        return refuse(Refusal::WrongRecord);
     }
     let nothing = Table::empty();
     let found = labels_of(rules);
@@ -74,7 +74,7 @@ fn load_rules(rules: [Rule; Table::SLOTS]) -> Changed
         labels: labels,
     };
     if !found.acyclic {
-        return hand_back(ChangeAnswer::Refused(Refusal::Record), nothing);
+        return hand_back(ChangeAnswer::Refused(Refusal::WrongRecord), nothing);
     }
     hand_back(ChangeAnswer::Accepted, table)
 }
@@ -84,21 +84,21 @@ pub fn load(bytes: &[u8]) -> Changed
     ensures { λ r. ⌜ LoadEnds (now (bytes .entry)) (r .answer) (r .table) ⌝ }
 {
     if !whole(bytes) {
-        return refuse(Refusal::FileLength);
+        return refuse(Refusal::WrongLength);
     }
     let checked = check_blocks(bytes);
     if !checked.summed {
-        return refuse(Refusal::Sums);
+        return refuse(Refusal::WrongChecksum);
     }
     if !checked.numbered {
-        return refuse(Refusal::BlockNumbers);
+        return refuse(Refusal::WrongBlock);
     }
     if !checked.filled {
-        return refuse(Refusal::Record);
+        return refuse(Refusal::WrongRecord);
     }
     let read = read_records(bytes);
     if !read.right {
-        return refuse(Refusal::Record);
+        return refuse(Refusal::WrongRecord);
     }
     let rules = read.rules;
     load_rules(rules)

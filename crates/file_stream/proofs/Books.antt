@@ -28,8 +28,8 @@ use Rattle.file_blocks.proofs.RoundTrips.{file-accepted, file-pages}
 use Rattle.calls.specs.declared.ListAnswer.{ListAnswer}
 use Rattle.calls.specs.declared.ChangeAnswer.{ChangeAnswer}
 use Rattle.calls.specs.declared.ChangeAnswer.the-variants as changed
-use Rattle.calls.specs.declared.Refusal.the-variants.{FileLength}
-use Rattle.calls.specs.Answers.{numberOf}
+use Rattle.refusals.specs.declared.Refusal.the-variants.{WrongLength}
+use Rattle.refusals.specs.Refusals.{numberOf}
 use Rattle.calls.specs.Contracts as contract
 use Rattle.calls.specs.Contracts.{held, SaveEnds, LoadEnds}
 use Rattle.calls.proofs.Determined.{load-determined}
@@ -87,9 +87,9 @@ longer-16 file l = first-no-here _ _ (unless (whole file) (λ t. omega (arith, l
 longer-prints : (file : List ℕ) → LONGEST < length file → LoadPrints file (refusedLine 16)
 longer-prints file l =
     record {
-      answer = changed.Refused FileLength;
+      answer = changed.Refused WrongLength;
       table = emptyTable;
-      ends = contract.refused FileLength (longer-16 file l);
+      ends = contract.refused WrongLength (longer-16 file l);
       told = refl;
     }
 

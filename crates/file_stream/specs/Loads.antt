@@ -12,7 +12,7 @@ use Rattle.table.specs.Labels.{labelAt}
 use Rattle.file_blocks.specs.Questions.{file-questions, pagesOf}
 use Rattle.calls.specs.declared.ChangeAnswer.{ChangeAnswer}
 use Rattle.calls.specs.declared.ChangeAnswer.the-variants as changed
-use Rattle.calls.specs.Answers.{numberOf}
+use Rattle.refusals.specs.Refusals.{numberOf}
 use Rattle.calls.specs.Contracts.{LoadEnds}
 use Rattle.fields.specs.Texts.{bytes}
 use Rattle.fields.specs.Written.{Wrote}

@@ -2,10 +2,10 @@
 // leaves; the other reads a file and writes the labels of its table as `L` does, or `refused` and the number.
 use calls::ChangeAnswer;
 use calls::ListAnswer;
-use calls::refusal_number;
 use file_blocks::LONGEST;
 use file_calls::load;
 use file_calls::save;
+use refusals::refusal_number;
 use sheet_label_lines::write_labels;
 use sheet_printing::write_named;
 use stream::Last;

@@ -34,12 +34,12 @@ use Rattle.calls.specs.declared.AddAnswer.{AddAnswer}
 use Rattle.calls.specs.declared.AddAnswer.the-variants as added
 use Rattle.calls.specs.declared.ChangeAnswer.{ChangeAnswer}
 use Rattle.calls.specs.declared.ChangeAnswer.the-variants as changed
-use Rattle.calls.specs.declared.Refusal.{Refusal}
-use Rattle.calls.specs.declared.Refusal.the-variants as refusal
-use Rattle.calls.specs.Answers.{numberOf}
+use Rattle.refusals.specs.declared.Refusal.{Refusal}
+use Rattle.refusals.specs.declared.Refusal.the-variants as refusal
+use Rattle.refusals.specs.Refusals.{numberOf}
 use Rattle.calls.specs.Contracts as contract
 use Rattle.calls.specs.Contracts.{held, AddEnds, ChangeEnds, RemoveEnds, ReplaceEnds, MuteEnds, LoadEnds}
-use Rattle.calls.proofs.Refusals.{refusalOf, refusal-number}
+use Rattle.refusals.proofs.Refusals.{refusalOf, refusal-number}
 use Rattle.checklist.specs.Questions.{FileCall}
 use Rattle.checklist.specs.Contracts as list
 use Rattle.checklist.specs.Contracts.{OpenEnds, FileEnds}
@@ -198,7 +198,7 @@ replace-cycle-refused-7 t u s r x E S seven c =
 pub same-refused-5 :
     (t u : Table) (r : Rule) (x : AddAnswer) → AddEnds t r x u → Sound t
     → first-no (take 4 (add-questions document (all (held t)) r)) ≡ none → (s : ℕ) (q : Rule) → Held (all (held t)) s q
-    → same r q ≡ true → x ≡ added.Refused refusal.Same
+    → same r q ≡ true → x ≡ added.Refused refusal.SameRule
 same-refused-5 t u r x E S four s q h y =
     add-refused t u r x E S 5 (λ e. omega arith)
     (first-no-take 4 (add-questions document (all (held t)) r) four

@@ -11,13 +11,14 @@ use Rattle.theory.specs.Rules.{Rule}
 use Rattle.theory.specs.Book as book
 use Rattle.theory.specs.Book.{Answer}
 use Rattle.theory.proofs.Lists.{unless, leb-le, le-leb, and-l, and-r, and-of}
-use Rattle.calls.specs.declared.Refusal.{Refusal}
+use Rattle.refusals.specs.declared.Refusal.{Refusal}
 use Rattle.calls.specs.declared.AddAnswer.{AddAnswer}
 use Rattle.calls.specs.declared.AddAnswer.the-variants as added
 use Rattle.calls.specs.declared.ChangeAnswer.{ChangeAnswer}
 use Rattle.calls.specs.declared.ChangeAnswer.the-variants as changed
-use Rattle.calls.specs.Answers.{numberOf, bookAdd, bookChange}
-use Rattle.calls.proofs.Refusals.{number-small}
+use Rattle.refusals.specs.Refusals.{numberOf}
+use Rattle.calls.specs.Answers.{bookAdd, bookChange}
+use Rattle.refusals.proofs.Refusals.{number-small}
 use Rattle.history.specs.declared.Next.{Next}
 use Rattle.history.specs.declared.Next.the-variants as next
 use Rattle.history.specs.declared.RuleFound.{RuleFound}

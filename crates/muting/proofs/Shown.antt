@@ -28,7 +28,7 @@ use Rattle.theory.proofs.Replacing.{old-rule}
 use Rattle.table.specs.declared.Table.{Table}
 use Rattle.table.specs.Labels.{labelAt}
 use Rattle.table.specs.Sound.{Sound}
-use Rattle.calls.specs.declared.Refusal.the-variants as refusal
+use Rattle.refusals.specs.declared.Refusal.the-variants as refusal
 use Rattle.calls.specs.declared.ChangeAnswer.{ChangeAnswer}
 use Rattle.calls.specs.declared.ChangeAnswer.the-variants as changed
 use Rattle.calls.specs.Contracts as contract

@@ -31,7 +31,7 @@ use Rattle.table.proofs.KeptFields.{flags-are, slots-are}
 use Rattle.theory.proofs.Pages.{active-bounded, page-held}
 use Rattle.theory.proofs.Questions.{passed-bounded}
 use Rattle.sound.proofs.Soundness.{kept-certified, sound-kept, sound-occurrence}
-use Rattle.calls.specs.declared.Refusal.{Refusal}
+use Rattle.refusals.specs.declared.Refusal.{Refusal}
 use Rattle.calls.specs.declared.Asked.{Asked}
 use Rattle.calls.specs.declared.Asked.the-variants.{Passed, Refused}
 use Rattle.calls.specs.declared.ListAnswer.{ListAnswer}

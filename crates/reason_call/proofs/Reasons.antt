@@ -38,7 +38,7 @@ use Rattle.table.proofs.Members.{all-alike}
 use Rattle.table.proofs.Programs.{active-length, book-length, unmuted-rule, label-kept}
 use Rattle.calls.specs.declared.ListAnswer.{ListAnswer}
 use Rattle.calls.specs.declared.ListAnswer.the-variants as listed
-use Rattle.calls.specs.declared.Refusal.the-variants.{Buffer}
+use Rattle.refusals.specs.declared.Refusal.the-variants.{BufferTooShort}
 use Rattle.calls.specs.Contracts.{ReasonEnds, short, accepted}
 use Rattle.calls.proofs.Asking.{Passes, passes-low}
 use Rattle.reason_atoms.specs.Kept.{KeptIn, slotAt, positivesAt, EntriesOf, Slotted, KeptEntry}
@@ -354,7 +354,7 @@ module _ (t : Table) (long : length (t .labels) ≡ document .atoms) (sound : So
                 ∙ sym (length-map atoms (number slots)
                 ∙ by-depth-count (member seen) (number depths) (document .atoms) depth (λ x l. seen-depth x))
 
-            pub ends-short : length buffer < n → ReasonEnds t a buffer (listed.Refused (Buffer n)) buffer
+            pub ends-short : length buffer < n → ReasonEnds t a buffer (listed.Refused (BufferTooShort n)) buffer
             ends-short l =
                 rw count-is
                 (short M written sound (all-yes (t .labels) a (in-below a u) q) (sound .labels .admissible) is-reason

@@ -25,11 +25,11 @@ use Rattle.table.specs.Questions.{refusalNumber}
 use Rattle.table.specs.Clean.{freeRule}
 use Rattle.table.specs.Sound.{Sound}
 use Rattle.table.proofs.Programs.{program-set}
-use Rattle.calls.specs.declared.Refusal.{Refusal}
-use Rattle.calls.specs.declared.Refusal.the-variants as refusal
+use Rattle.refusals.specs.declared.Refusal.{Refusal}
+use Rattle.refusals.specs.declared.Refusal.the-variants as refusal
 use Rattle.calls.specs.declared.ChangeAnswer.the-variants as changed
 use Rattle.calls.specs.declared.Changed.{Changed}
-use Rattle.calls.specs.Answers.{numberOf}
+use Rattle.refusals.specs.Refusals.{numberOf}
 use Rattle.calls.specs.Contracts as contract
 use Rattle.calls.specs.Contracts.{held, Sized, ReplaceEnds}
 use Rattle.calls.proofs.Asking.{slot-low}
@@ -95,8 +95,8 @@ module _
         put-behind r slots put = put ∙ ap (λ (rs : List Rule). set rs s r) left ∙ set-set (t .rules) s f r
 
       pub refused-same :
-          any-rule (same q) (set (all (held t)) s none) ≡ true → ReplaceEnds t s q (changed.Refused refusal.Same) t
-      refused-same u = contract.refused refusal.Same S (four ∙ first-no-here _ _ (ap not u))
+          any-rule (same q) (set (all (held t)) s none) ≡ true → ReplaceEnds t s q (changed.Refused refusal.SameRule) t
+      refused-same u = contract.refused refusal.SameRule S (four ∙ first-no-here _ _ (ap not u))
 
       -- the rule is put into the slot
       module _

@@ -19,20 +19,20 @@ use Rattle.table.specs.declared.Slot.{Slot}
 use Rattle.table.specs.declared.Table.{Table}
 use Rattle.table.specs.Labels.{labelAt}
 use Rattle.table.specs.Sound.{Sound}
-use Rattle.calls.specs.declared.Refusal.{Refusal}
-use Rattle.calls.specs.declared.Refusal.the-variants as refusal
+use Rattle.refusals.specs.declared.Refusal.{Refusal}
+use Rattle.refusals.specs.declared.Refusal.the-variants as refusal
 use Rattle.calls.specs.declared.AddAnswer.{AddAnswer}
 use Rattle.calls.specs.declared.AddAnswer.the-variants as added
 use Rattle.calls.specs.declared.ChangeAnswer.{ChangeAnswer}
 use Rattle.calls.specs.declared.ChangeAnswer.the-variants as changed
-use Rattle.calls.specs.Answers.{numberOf}
+use Rattle.refusals.specs.Refusals.{numberOf}
 use Rattle.calls.specs.Contracts as contract
 use Rattle.calls.specs.Contracts.{held, Sized, AddEnds, RemoveEnds, ReplaceEnds, MuteEnds}
 use Rattle.calls.proofs.OneTable.{table-unique}
 use Rattle.calls.proofs.Determined.{refusal-unique, both}
 
 -- No replacement is refused by 6.
-pub not-full : (t u : Table) (s : ℕ) (r : Rule) → ReplaceEnds t s r (changed.Refused refusal.Full) u → ⊥
+pub not-full : (t u : Table) (s : ℕ) (r : Rule) → ReplaceEnds t s r (changed.Refused refusal.TableFull) u → ⊥
 unfolding every
 not-full t u s r (contract.refused f S e) = never-refused 6 (replace-questions document (all (held t)) s r) refl e
 

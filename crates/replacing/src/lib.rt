@@ -2,13 +2,13 @@
 use calls::AskedSlot;
 use calls::ChangeAnswer;
 use calls::Changed;
-use calls::Refusal;
 use calls::slots::ask_slot;
 use labels::labels_of;
 use new_rule::holds_rule;
 use new_rule::make_rule;
 use new_rule::refusal_of;
 use questions::first_no;
+use refusals::Refusal;
 use table::Rule;
 use table::Slot;
 use table::Table;
@@ -56,7 +56,7 @@ fn replace_held(
     let free = Rule::free();
     let rest = with_rule(rules, slot, free);
     if holds_rule(rest, rule) {
-        return keep(table, Refusal::Same);
+        return keep(table, Refusal::SameRule);
     }
     let changed = with_rule(rest, slot, rule);
     let found = labels_of(changed);

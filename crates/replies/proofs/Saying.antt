@@ -7,7 +7,7 @@ use lib.ListN.{length, take, drop, length-append, length-drop, length-take}
 use Rattle.theory.specs.Models.{AtomSet}
 use Rattle.theory.specs.Questions.{Question}
 use Rattle.table.specs.declared.Table.{Table}
-use Rattle.calls.specs.declared.Refusal.{Refusal}
+use Rattle.refusals.specs.declared.Refusal.{Refusal}
 use Rattle.calls.specs.declared.ListAnswer.{ListAnswer}
 use Rattle.calls.specs.declared.ListAnswer.the-variants as listed
 use Rattle.calls.specs.Contracts as contract

@@ -6,13 +6,13 @@ use calls::Added;
 use calls::ChangeAnswer;
 use calls::Changed;
 use calls::ListAnswer;
-use calls::Refusal;
-use calls::refusal_number;
 use judging::Judged;
 use judging::has_room;
 use judging::judge;
 use places::Place;
 use reason_call::reason;
+use refusals::Refusal;
+use refusals::refusal_number;
 use replacing::replace;
 use sheet_label_lines::write_labels;
 use sheet_lines::Command;
@@ -205,7 +205,7 @@ fn listed(table: Table, place: Place, out: &mut [u8], at: usize) -> Reply
     ensures { λ r. ⌜ Obeys table place sheet.labels (now (out .entry)) at (now (out .exit)) r ⌝ }
 {
     if !sound(table) {
-        return refused(table, place, refusal_number(Refusal::Unsound), out, at);
+        return refused(table, place, refusal_number(Refusal::TableUnsound), out, at);
     }
     let labels = table.labels;
     let next = write_labels(out, at, labels);

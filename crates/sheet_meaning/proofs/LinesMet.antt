@@ -28,7 +28,8 @@ use Rattle.calls.specs.declared.AddAnswer.the-variants as added
 use Rattle.calls.specs.declared.ChangeAnswer.{ChangeAnswer}
 use Rattle.calls.specs.declared.ChangeAnswer.the-variants as changed
 use Rattle.calls.specs.declared.ListAnswer.{ListAnswer}
-use Rattle.calls.specs.Answers.{numberOf, bookAdd, bookChange}
+use Rattle.refusals.specs.Refusals.{numberOf}
+use Rattle.calls.specs.Answers.{bookAdd, bookChange}
 use Rattle.calls.specs.Contracts as contract
 use Rattle.calls.specs.Contracts.{held, ReasonEnds}
 use Rattle.calls.proofs.Determined.{same-model}

@@ -15,8 +15,8 @@ use Rattle.table.specs.Sound.{Sound}
 use Rattle.calls.specs.declared.AddAnswer.{AddAnswer}
 use Rattle.calls.specs.declared.ChangeAnswer.{ChangeAnswer}
 use Rattle.calls.specs.declared.ListAnswer.{ListAnswer}
-use Rattle.calls.specs.declared.Refusal.the-variants.{Unsound}
-use Rattle.calls.specs.Answers.{numberOf}
+use Rattle.refusals.specs.declared.Refusal.the-variants.{TableUnsound}
+use Rattle.refusals.specs.Refusals.{numberOf}
 use Rattle.calls.specs.Contracts.{held, AddEnds, RemoveEnds, ReplaceEnds, ReasonEnds}
 use Rattle.calls.proofs.OneTable.{same-label}
 use Rattle.calls.proofs.Determined.{add-determined, remove-determined, replace-determined, reason-determined}
@@ -54,7 +54,7 @@ Ends t n (is (sheet.why atom)) bs u =
     (answer : ListAnswer) × (buffer : List ℕ) × ReasonEnds t atom lent answer buffer
     × (bs ≡ tellReason n answer buffer) × (u ≡ t)
 Ends t n (is sheet.labels) bs u =
-    (((Sound t → ⊥) × (bs ≡ refusalLine n (numberOf Unsound))) ⊎ LabelsListed t bs) × (u ≡ t)
+    (((Sound t → ⊥) × (bs ≡ refusalLine n (numberOf TableUnsound))) ⊎ LabelsListed t bs) × (u ≡ t)
 
 module _ (t : Table) (n : ℕ) (line : List ℕ) where
   on : {l : Line} (bs : List ℕ) (u : Table) → reading line ≡ l → Ends t n l bs u → Ends t n (reading line) bs u

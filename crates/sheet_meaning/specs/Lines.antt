@@ -17,8 +17,8 @@ use Rattle.calls.specs.declared.ChangeAnswer.{ChangeAnswer}
 use Rattle.calls.specs.declared.ChangeAnswer.the-variants as changed
 use Rattle.calls.specs.declared.ListAnswer.{ListAnswer}
 use Rattle.calls.specs.declared.ListAnswer.the-variants as listed
-use Rattle.calls.specs.declared.Refusal.the-variants.{Unsound}
-use Rattle.calls.specs.Answers.{numberOf}
+use Rattle.refusals.specs.declared.Refusal.the-variants.{TableUnsound}
+use Rattle.refusals.specs.Refusals.{numberOf}
 use Rattle.calls.specs.Contracts.{held, AddEnds, RemoveEnds, ReplaceEnds, ReasonEnds}
 use Rattle.sheet_lines.specs.Commands as sheet
 use Rattle.sheet_lines.specs.Readings.{is-blank, too-long, no-command, is, reading}
@@ -64,7 +64,7 @@ pub data Prints (t : Table) (n : ℕ) (line : List ℕ) : List ℕ → Table →
   why :
       (atom : ℕ) (answer : ListAnswer) (buffer : List ℕ) → reading line ≡ is (sheet.why atom)
       → ReasonEnds t atom lent answer buffer → Prints t n line (tellReason n answer buffer) t
-  unsound : reading line ≡ is sheet.labels → (Sound t → ⊥) → Prints t n line (refusalLine n (numberOf Unsound)) t
+  unsound : reading line ≡ is sheet.labels → (Sound t → ⊥) → Prints t n line (refusalLine n (numberOf TableUnsound)) t
   labels :
       (M : AtomSet) (label : ℕ → Label) → reading line ≡ is sheet.labels → Sound t → Admissible (active (held t)) M
       → ((a : ℕ) → a < document .atoms → Labelled (held t) M a (label a))

@@ -6,7 +6,7 @@ use mathlib.Core.Bool.{Bool, true, false}
 use mathlib.Core.List.{List, [], _∷_, _++_, append-assoc, append-nil}
 use lib.ListN.{length, drop, set, length-append}
 use Rattle.calls.specs.declared.ListAnswer.the-variants.{Count, Refused}
-use Rattle.calls.specs.declared.Refusal.the-variants.{Buffer}
+use Rattle.refusals.specs.declared.Refusal.the-variants.{BufferTooShort}
 use Rattle.written_lists.specs.Lists.{listed-if, below}
 use Rattle.written_lists.specs.Written.{overwrite, Appends, Written, short, fits}
 use Rattle.written_lists.proofs.Lists.{below-next, below-length}
@@ -83,7 +83,7 @@ module _ (n x : ℕ) (b : Bool) (before after : List ℕ) where
 
 -- All of a list was written, or it did not fit.
 module _ (xs before : List ℕ) (n : ℕ) (counted : n ≡ length xs) where
-  pub written-short : length before < n → Written xs before (Refused (Buffer n)) before
+  pub written-short : length before < n → Written xs before (Refused (BufferTooShort n)) before
   written-short l = rw counted (short (omega arith))
 
   pub written-all :

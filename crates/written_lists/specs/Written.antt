@@ -3,7 +3,7 @@ use Prim.Native.Nat.{ℕ, _+_, _≤_, _<_}
 use mathlib.Core.Path.{_≡_}
 use mathlib.Core.List.{List, [], _∷_, _++_}
 use lib.ListN.{length, drop}
-use Rattle.calls.specs.declared.Refusal.the-variants.{Buffer}
+use Rattle.refusals.specs.declared.Refusal.the-variants.{BufferTooShort}
 use Rattle.calls.specs.declared.ListAnswer.{ListAnswer}
 use Rattle.calls.specs.declared.ListAnswer.the-variants.{Count, Refused}
 
@@ -22,5 +22,5 @@ pub record Appends (xs : List ℕ) (n r : ℕ) (before after : List ℕ) : Type 
 -- A list is written from the start of a buffer, and later entries stay; where the buffer is too short nothing is
 -- written and the answer carries the length needed.
 pub data Written (xs before : List ℕ) : ListAnswer → List ℕ → Type 0 where
-  short : length before < length xs → Written xs before (Refused (Buffer (length xs))) before
+  short : length before < length xs → Written xs before (Refused (BufferTooShort (length xs))) before
   fits : length xs ≤ length before → Written xs before (Count (length xs)) (xs ++ drop (length xs) before)

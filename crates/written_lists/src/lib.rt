@@ -1,6 +1,6 @@
 // A list written from the start of a lent buffer: numbers one after another, and a whole set that is given by flags.
 use calls::ListAnswer;
-use calls::Refusal;
+use refusals::Refusal;
 ghost use mathlib.Core.Path.{_≡_};
 ghost use Prim.Native.Nat.{_≤_};
 ghost use lib.ListN.{length, set};
@@ -59,7 +59,7 @@ pub fn write_marked(flags: &[bool], buffer: &mut [u32]) -> ListAnswer
 {
     let needed = count_marked(flags);
     if needed > buffer.len() {
-        return ListAnswer::Refused(Refusal::Buffer(needed));
+        return ListAnswer::Refused(Refusal::BufferTooShort(needed));
     }
     let mut n: usize = 0;
     let mut i: usize = 0;

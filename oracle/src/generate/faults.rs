@@ -17,7 +17,7 @@ pub enum Fault {
     /// A rule stands in two slots.
     SameRule,
     /// An atom stands twice in a list, once beside the other.
-    RepeatedAtom,
+    RepeatedEntry,
     /// Two entries of a list stand in each other's place.
     Swapped,
     /// A rule stands in two slots, in one of them with two entries swapped.
@@ -53,7 +53,7 @@ pub enum Fault {
 
 pub const FAULTS: [Fault; 16] = [
     Fault::SameRule,
-    Fault::RepeatedAtom,
+    Fault::RepeatedEntry,
     Fault::Swapped,
     Fault::SameSwapped,
     Fault::MovedEnd,
@@ -92,7 +92,7 @@ pub fn faulty(random: &mut Random, fault: Fault) -> RawTable {
     let labelled = Labelled::of(program);
     let faulty = match fault {
         Fault::SameRule => same_rule(random, &labelled),
-        Fault::RepeatedAtom => repeated_atom(random, &labelled),
+        Fault::RepeatedEntry => repeated_atom(random, &labelled),
         Fault::Swapped => swapped(random, &labelled),
         Fault::SameSwapped => same_swapped(random, &labelled),
         Fault::MovedEnd => moved_end(random, &labelled),

@@ -84,7 +84,10 @@ fn the_frame_of_sixty_files_ends_at_atom_180() {
 #[test]
 fn an_opening_for_none_or_more_than_sixty_files_hands_back_the_empty_table() {
     for files in [0, 61, 62, 256, 316, 65_537, u32::MAX] {
-        assert_eq!(open(files), (Err(Refusal::FileCount), RawTable::empty()));
+        assert_eq!(
+            open(files),
+            (Err(Refusal::WrongFileCount), RawTable::empty())
+        );
     }
     let mut table = table(&["1 <"]);
     let answer = Call::Open { files: 61 }.make(&mut table, &mut Lent::default());

@@ -246,8 +246,8 @@ fn saving_asks_for_a_sound_table_and_then_for_room_and_writes_nothing_if_refused
 fn a_refused_load_hands_back_the_empty_table() {
     let file = write(&program(&["1 <"]));
     for (bytes, refusal) in [
-        (&file[..511], Refusal::FileLength),
-        (&[0; 512][..], Refusal::FileSums),
+        (&file[..511], Refusal::WrongLength),
+        (&[0; 512][..], Refusal::WrongChecksum),
     ] {
         assert_eq!(calls::load(bytes), (Err(refusal), RawTable::empty()));
     }

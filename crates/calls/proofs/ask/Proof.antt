@@ -1,7 +1,7 @@
 -- `calls::ask` meets its contract: the refusal is that of the first question answered no. Assumes nothing.
 use Rattle.table.specs.Sound.{Sound}
 use Rattle.questions.proofs.Passes as sound
-use Rattle.calls.specs.declared.Refusal.the-variants.{AtomNumber}
+use Rattle.refusals.specs.declared.Refusal.the-variants.{AtomTooLarge}
 use Rattle.calls.specs.Asking.{unsound, refused, passed}
 use Rattle.calls.proofs.Asking.{atom-yes, atom-no, atom-low}
 use borrow.Author.Needs.{needs}
@@ -24,7 +24,7 @@ head-fits-requires c κs = tt
 returns-2 : tie.Need-returns-2
 returns-2 c =
     let s = c .before .before .before .before in
-    refused AtomNumber (is-sound (c .before .before))
+    refused AtomTooLarge (is-sound (c .before .before))
     (atom-no (s .args .atom) _ (c .before .head-fits .ensures) (c .if2 .taken))
 
 cast-a : tie.Need-cast-a

@@ -4,7 +4,7 @@ use mathlib.Core.List.{[]}
 use Rattle.theory.specs.Questions.{asks, is-some}
 use Rattle.theory.proofs.Lists.{clash, not-true, not-false}
 use Rattle.theory.proofs.Questions.{first-no-here}
-use Rattle.calls.specs.declared.Refusal.the-variants.{Unsound}
+use Rattle.refusals.specs.declared.Refusal.the-variants.{TableUnsound}
 use Rattle.calls.specs.Contracts as contract
 use Rattle.calls.specs.Contracts.{held}
 use Rattle.checklist_frame.proofs.Frames.{checklist-of}
@@ -31,7 +31,7 @@ returns-2 c =
     let i = f .before .before in
     let s = i .before in
     let t = s .before .before .args .table in
-    contract.refused Unsound (s .is-sound .ensures .0 (not-false _ (i .if1 .left)))
+    contract.refused TableUnsound (s .is-sound .ensures .0 (not-false _ (i .if1 .left)))
     (first-no-here (asks 15 _) [] (ap is-some (counted-none (held t) _ (f .file-count .ensures) (c .if2 .taken))))
 
 keep-requires : tie.Need-keep-requires

@@ -2,7 +2,7 @@
 use mathlib.Core.Path.{_∙_, ap}
 use Rattle.table.specs.declared.Table.{Table}
 use Rattle.calls.specs.declared.Changed.{Changed}
-use Rattle.calls.specs.declared.Refusal.the-variants.{Record}
+use Rattle.refusals.specs.declared.Refusal.the-variants.{WrongRecord}
 use Rattle.calls.specs.declared.ChangeAnswer.the-variants.{Refused}
 use Rattle.file_calls.proofs.Tables.{rules-handed, rules-bounded, rules-twice, rules-cyclic, rules-loaded}
 use borrow.Author.Needs.{needs}
@@ -39,7 +39,7 @@ returns-2 c =
     let one = found .before .before in
     let s = one .before .before in
     rules-handed _ _ _ (c .hand-back .ensures .0
-    ∙ ap (λ (t : Table). let r : Changed = record { answer = Refused Record; table = t } in r)
+    ∙ ap (λ (t : Table). let r : Changed = record { answer = Refused WrongRecord; table = t } in r)
     (found .before .empty .ensures))
     (rules-cyclic (s .args .rules) (s .pre) (search needs) _ (one .before .no-two-equal .ensures) (one .if1 .left)
     (found .labels-of .result) (found .labels-of .ensures) (c .before .if2 .taken))

@@ -1,5 +1,5 @@
 -- `reason_call::reason` meets its contract: each refusal is that of the first question answered no. Assumes nothing.
-use Rattle.calls.specs.declared.Refusal.the-variants.{NotIn}
+use Rattle.refusals.specs.declared.Refusal.the-variants.{AtomNotIn}
 use Rattle.calls.specs.Contracts.{refused}
 use Rattle.calls.proofs.Asking.{asked-first, ask-passed, list-refused}
 use Rattle.reason_call.proofs.Reasons.{refused-12, is-kept-in, ends-asked}
@@ -26,7 +26,7 @@ returns c =
     let ask = asked .before .before in
     let s = ask .before .before in
     let passes = ask-passed (s .args .table) (s .args .atom) _ (ask .ask .ensures) _ (asked .asked2 .given .1) in
-    refused NotIn (passes .sound)
+    refused AtomNotIn (passes .sound)
     (refused-12 (s .args .table) (s .args .atom) _ passes _ (read .label-of .ensures) (c .if1 .taken))
 
 listed-requires : tie.Need-listed-requires

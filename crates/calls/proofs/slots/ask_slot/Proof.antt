@@ -1,7 +1,7 @@
 -- `calls::slots::ask_slot` meets its contract: the refusal is that of the first question answered no. Assumes nothing.
 use Rattle.table.specs.Sound.{Sound}
 use Rattle.questions.proofs.Passes as sound
-use Rattle.calls.specs.declared.Refusal.the-variants.{SlotNumber, Free}
+use Rattle.refusals.specs.declared.Refusal.the-variants.{SlotTooLarge, SlotFree}
 use Rattle.calls.specs.Asking.{unsound, refused, passed}
 use Rattle.calls.proofs.Asking.{slot-past, slot-empty, slot-yes}
 use borrow.Author.Needs.{needs}
@@ -21,7 +21,7 @@ returns c = unsound (sound.refused _ (c .before .sound .ensures) (c .if1 .taken)
 returns-2 : tie.Need-returns-2
 returns-2 c =
     let s = c .before .before .before in
-    refused SlotNumber (is-sound (c .before)) (slot-past (s .args .table) (s .args .slot) (c .if2 .taken))
+    refused SlotTooLarge (is-sound (c .before)) (slot-past (s .args .table) (s .args .slot) (c .if2 .taken))
 
 cast-s : tie.Need-cast-s
 cast-s c = search needs
@@ -34,7 +34,7 @@ returns-3 c =
     let read = c .before .before in
     let low = read .before .before in
     let s = low .before .before .before in
-    refused Free (is-sound (low .before))
+    refused SlotFree (is-sound (low .before))
     (slot-empty (s .args .table) (s .args .slot) _ (read .rule-in .ensures) (low .if2 .left) (c .if3 .taken))
 
 returns-4 : tie.Need-returns-4

@@ -1,11 +1,11 @@
--- `calls::refusal_number` meets its contract: what each of the 20 cases is told, and then that it answers its number.
+-- `refusals::refusal_number` meets its contract: what each of the 20 cases is told, and then that it answers its number.
 -- Assumes nothing.
 use mathlib.Core.Path.{_≡_, sym, ap}
 use borrow.Author.Needs.{needs}
-use Rattle.calls.specs.declared.Refusal.{Refusal}
-use Rattle.calls.specs.Answers.{numberOf}
-use Rattle.calls.proofs.refusal_number.Statement.{statement}
-use Rattle.calls.proofs.refusal_number.Tie as tie
+use Rattle.refusals.specs.declared.Refusal.{Refusal}
+use Rattle.refusals.specs.Refusals.{numberOf}
+use Rattle.refusals.proofs.refusal_number.Statement.{statement}
+use Rattle.refusals.proofs.refusal_number.Tie as tie
 
 told : (f g : Refusal) → f ≡ g → numberOf g ≡ numberOf f
 told f g e = ap numberOf (sym e)

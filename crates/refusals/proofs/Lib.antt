@@ -1,0 +1,2 @@
+-- Laws about refusals and their numbers. Nothing here needs to be believed.
+pub mod Refusals
