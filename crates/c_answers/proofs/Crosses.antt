@@ -23,7 +23,7 @@ use Rattle.refusals.specs.Refusals.{numberOf, neededBy}
 use Rattle.checklist.specs.declared.CompleteAnswer.{CompleteAnswer}
 use Rattle.checklist.specs.declared.CompleteAnswer.the-variants as complete
 use Rattle.refusals.proofs.Refusals.{Plain, plain-or-11}
-use Rattle.calls.proofs.Refusal.{the-type}
+use Rattle.refusals.proofs.Refusal.{the-type}
 use Rattle.c_answers.specs.declared.Change.{Change}
 use Rattle.c_answers.specs.declared.AtomLabel.{AtomLabel}
 use Rattle.c_answers.specs.declared.RuleSpoiler.{RuleSpoiler}
