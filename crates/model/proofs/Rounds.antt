@@ -21,7 +21,7 @@ use Rattle.theory.proofs.Strata.{exact-strata, few-negatives, Strata, strata-ac
 use Rattle.theory.proofs.Pages.{active-bounded, strata-active}
 use Rattle.theory.proofs.Fill.{Filled}
 use Rattle.theory.proofs.Rounds.{adds-none, sweep-stays}
-use Rattle.theory.proofs.Found.{heads-in, grows}
+use Rattle.theory.proofs.Found.{heads-in, adds-more-heads}
 use Rattle.theory.proofs.Models.{found-model}
 use Rattle.table.specs.declared.Rule.{Rule}
 use Rattle.table.specs.Rules.{activeIn, activeOf, bookOf, pastRule}
@@ -62,7 +62,7 @@ module _ (P : Program) (ℓ : ℕ → ℕ) (k : ℕ) (M₀ : AtomSet) where
     -- A round that adds leaves the rest to do.
     pub going-next : Strata P ℓ → adds ℓ k M P ≡ true → Going P ℓ k M₀ (sweep ℓ k M P) (made + 1)
     going-next L h = record {
-      few = omega (arith, G .few, grows P ℓ L k M (G .filled) h);
+      few = omega (arith, G .few, adds-more-heads P ℓ L k M (G .filled) h);
       filled = sweep-stays P ℓ L k M (G .filled);
       whole = λ n N R. (let e : (made + 1) + n ≡ made + suc n = omega arith in rw e (G .whole (suc n) N (again h R)));
     }

@@ -16,7 +16,7 @@ use Rattle.theory.specs.Rules.{active-on, passes}
 use Rattle.theory.specs.Rules as theory
 use Rattle.theory.specs.Models.{AtomSet, valid}
 use Rattle.theory.proofs.Lists.{clash, eqb-of, eqb-not, le-or-lt}
-use Rattle.theory.specs.Rounds.{fires, put, visit, sweep, adds}
+use Rattle.theory.specs.Rounds.{fires, head-added, visit, sweep, adds}
 use Rattle.table.specs.declared.Rule.{Rule}
 use Rattle.table.specs.Rules.{activeIn, activeOf, page-in, pastRule, ruleOf}
 use Rattle.table.specs.Sets.{member}
@@ -121,14 +121,14 @@ module _ (ℓ : ℕ → ℕ) (k : ℕ) (rules : List Rule) where
       good = passes (valid (member found)) (activeIn here)
 
       step : (after : List Bool) (t : Bool) → (new && good) ≡ t
-          → member after ≡ put t (activeIn here) (member found) → length after ≡ length found
+          → member after ≡ head-added t (activeIn here) (member found) → length after ≡ length found
           → Left ℓ k rules before (i + 1) after (u || t)
       unfolding visit
       step after t e is same =
           let told : t ≡ fires ℓ k (member found) (activeIn here) =
           sym (fires-is ℓ k (member found) (here .state) (ruleOf here) ∙ e) in
           let go : member after ≡ visit ℓ k (member found) (activeIn here) =
-          is ∙ ap (λ b. put b (activeIn here) (member found)) told in
+          is ∙ ap (λ b. head-added b (activeIn here) (member found)) told in
           record {
             place = omega arith;
             whole = ap (λ (M : AtomSet). sweep ℓ k M (activeOf (drop (i + 1) rules))) go
@@ -167,7 +167,7 @@ module _ (ℓ : ℕ → ℕ) (k : ℕ) (rules : List Rule) where
           active-some here (active-state here (w .0) (w .1)) in
           rw (sym (or-true u)) (step after true (ap₂ (λ b t. b && t) e v)
           (ap member is ∙ (fun-ext (mark-is found (here .head .0) (low (ruleOf here) held))
-          ∙ sym (ap (λ (o : Option theory.Rule). put true o (member found)) held)))
+          ∙ sym (ap (λ (o : Option theory.Rule). head-added true o (member found)) held)))
           (ap length is ∙ length-set found (here .head .0) true))
         where
           passing : (o : Option theory.Rule) → passes (valid (member found)) o ≡ true → (q : theory.Rule) × (o ≡ some q)

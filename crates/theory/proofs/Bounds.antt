@@ -16,8 +16,9 @@ use Rattle.theory.specs.Rounds.{no-stratum, of-stratum, RoundsOf, Rounds
 use Rattle.theory.proofs.Lists.{clash, eqb-eq, eqb-of, le-or-lt, test, unless}
 use Rattle.theory.proofs.Pages.{strata-active}
 use Rattle.theory.proofs.Strata.{exact-strata, Strata, stratum-unique}
-use Rattle.theory.proofs.Fill.{Filled, inside, meets}
-use Rattle.theory.proofs.Rounds.{Added, adds-some, ends, next-reached, none-reached, Reached, sweep-keeps}
+use Rattle.theory.proofs.Fill.{Filled, filled-within, filled-agrees}
+use Rattle.theory.proofs.Rounds.{Added, adds-none-filled, adds-some, levels-suc, levels-zero, LevelsIn}
+use Rattle.theory.proofs.Rounds.{sweep-keeps}
 use Rattle.theory.proofs.Rounds.{sweep-stays}
 use Rattle.theory.proofs.Found.{found-filled, found-low, rounds-stay, rounds-unique}
 use Rattle.theory.proofs.Depths.{depth-unique, in-depth}
@@ -42,14 +43,14 @@ module _ (P : Program) (ℓ : ℕ → ℕ) (k : ℕ) where
   module _ (L : Strata P ℓ) (N : AtomSet) (A : Admissible P N) where
     -- what is not reached by j levels has more
     above :
-        (j : ℕ) (M O : AtomSet) → Reached P ℓ k N j M → (a : Added ℓ k M O) (h : ℕ) → Derivation P N (a .atom) h
+        (j : ℕ) (M O : AtomSet) → LevelsIn P ℓ k N j M → (a : Added ℓ k M O) (h : ℕ) → Derivation P N (a .atom) h
         → j < h
     above j M O T a h d = ⊎-elim
         (λ (l : h ≤ j). absurd (clash (T (a .atom) h (a .stratum) d l) (a .was)))
         (λ (l : j < h). l) (le-or-lt h j)
 
     -- After j rounds all atoms of the layer of at most j levels are in: a round that adds then finds a deeper one.
-    late : {M O : AtomSet} {n : ℕ} (j : ℕ) → Rounds P ℓ k M n O → Filled P ℓ k M → Reached P ℓ k N j M
+    late : {M O : AtomSet} {n : ℕ} (j : ℕ) → Rounds P ℓ k M n O → Filled P ℓ k M → LevelsIn P ℓ k N j M
         → (n ≡ 1) ⊎ Late N j n O
     late j (final h) F T = inl refl
     late j (again {M = M} {N = O} {n = n} h R) F T =
@@ -68,14 +69,14 @@ module _ (P : Program) (ℓ : ℕ → ℕ) (k : ℕ) where
           found = w .found;
           high = λ i d. omega (arith, w .high i d);
         })
-        (late (suc j) R (sweep-stays P ℓ L k M F) (next-reached P ℓ L k N A j M F T)))
+        (late (suc j) R (sweep-stays P ℓ L k M F) (levels-suc P ℓ L k N A j M F T)))
 
     -- One round does not do where an atom of the layer is in: nothing of the layer was found before it.
     least-two : {M O : AtomSet} {n : ℕ} → FoundBelow P ℓ k M → Rounds P ℓ k M n O → (a : ℕ) → ℓ a ≡ k → N a ≡ true
         → 2 ≤ n
     least-two B (final {M = M} h) a e t =
-        let F = ends P ℓ L k M (found-filled P ℓ L B) h in
-        absurd (omega (arith, found-low P ℓ L B a (meets P ℓ L (suc k) M N F A a (omega arith) ∙ t)))
+        let F = adds-none-filled P ℓ L k M (found-filled P ℓ L B) h in
+        absurd (omega (arith, found-low P ℓ L B a (filled-agrees P ℓ L (suc k) M N F A a (omega arith) ∙ t)))
     least-two B (again h R) a e t = omega (arith, least-one R)
 
 -- The greatest depth of a layer's in atoms.
@@ -171,7 +172,10 @@ module _ (B : Pages) (M : AtomSet) (A : Admissible (active B) M) where
       here : (a : ℕ) → Stratum (all B) a k → ℓ a ≡ k
       here a S = stratum-unique (all B) a (ℓ a) k (exact a) S
 
-  -- The bounds of request #104.
+  -- The bounds of request #104. Idea: after j rounds every atom of the layer that has a derivation of at most j levels
+  -- is in (`levels-suc`). So a later round that adds finds an atom deeper than j (`late`): the rounds that add are at most
+  -- as many as the greatest depth, and one more adds none. Where an atom of the layer is in, the first round adds,
+  -- since nothing of the layer was found before it (`least-two`).
   pub rounds-within : (k n : ℕ) → RoundsOf B k n → RoundsWithin B M k n
   rounds-within k n R =
       let ℓ = R .stratum in
@@ -187,11 +191,11 @@ module _ (B : Pages) (M : AtomSet) (A : Admissible (active B) M) where
         most = ⊎-elim
             (λ (e : n ≡ 1). omega arith)
             (λ (w : Late P ℓ k M 0 n (R .after)).
-            let t = inside P ℓ L k (R .after) M (rounds-stay P ℓ L k (R .rounds) F) A (w .atom) (w .found) in
+            let t = filled-within P ℓ L k (R .after) M (rounds-stay P ℓ L k (R .rounds) F) A (w .atom) (w .found) in
             let D = in-depth P M (A .founded) (w .atom) t in
             let S = subst (Stratum (all B) (w .atom)) (w .stratum) (R .exact (w .atom)) in
             omega (arith, w .high (D .0) (D .1 .reached), none-deeper (g .1) (w .atom) (D .0) S t (D .1)))
-            (late P ℓ k L M A 0 (R .rounds) F (none-reached P ℓ L k M (R .before)));
+            (late P ℓ k L M A 0 (R .rounds) F (levels-zero P ℓ L k M (R .before)));
       }
 
   -- The same of what is told of a layer.

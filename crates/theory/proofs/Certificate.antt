@@ -281,6 +281,9 @@ module _ (B : Pages) (label : ℕ → Label) where
             (λ (i : 0 < e). (let j = greatest-le d (e - 1) xs (λ x m. omega (arith, f x m)) in omega arith))
             (le-or-lt e 0)
 
+    -- Labels that meet the conditions are the defined ones. Idea: the conditions on depths are the equation above,
+    -- whose only solution are the depths; with these known, a kept slot that is the first of its level is the first
+    -- whose rule has positive entries of smaller depth, which is the supporting one.
     pub certified-labels : (a : ℕ) → Labelled B M a (label a)
     certified-labels a = go (label a) refl
       where

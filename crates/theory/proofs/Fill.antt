@@ -1,4 +1,5 @@
--- Finding the model stratum by stratum: one mark, the end of a stratum, the end of all. Assumes nothing.
+-- Finding the model stratum by stratum: what holds of the set before (`filled-none`), after each atom added
+-- (`filled-with`), after each stratum (`filled-suc`), and at the end (`filled-admissible`). Assumes nothing.
 use Prim.Native.Nat.{ℕ, zero, suc, _≤_, _<_}
 use native.Mathlib.Omega.{arith}
 use native.Mathlib.Nat.{eq-or-lt-of-le}
@@ -35,8 +36,8 @@ pub with-other : (a : ℕ) (M : AtomSet) (x : ℕ) → (x ≡ a → ⊥) → wit
 with-other a M x ne = rw (unless (eqb x a) (λ t. ne (eqb-eq x a t)))
 
 module _ (P : Program) (ℓ : ℕ → ℕ) (L : Strata P ℓ) where
-  pub begin : Filled P ℓ zero (λ a. false)
-  begin = record {
+  pub filled-none : Filled P ℓ zero (λ a. false)
+  filled-none = record {
     founded = record {
       order = [];
       ordered = start;
@@ -48,31 +49,33 @@ module _ (P : Program) (ℓ : ℕ → ℕ) (L : Strata P ℓ) where
   }
 
   -- a rule stays valid when an atom is added that is not below its head
-  stays : (M : AtomSet) (a s : ℕ) (r : Rule) → Held P s r → ℓ (r .head) ≤ ℓ a → valid M r ≡ true
+  valid-with : (M : AtomSet) (a s : ℕ) (r : Rule) → Held P s r → ℓ (r .head) ≤ ℓ a → valid M r ≡ true
       → valid (with a M) r ≡ true
-  stays M a s r h l v = valid-of (with a M) r
+  valid-with M a s r h l v = valid-of (with a M) r
       (λ p m. with-keep a M p (valid-positive M r v p m))
       (λ n m. with-other a M n (λ e. omega (arith, ap ℓ e, L .over s r h n m)) ∙ valid-negative M r v n m)
 
-  restays : (M : AtomSet) (a : ℕ) (xs : List ℕ) → ((x : ℕ) → x ∈ xs → ℓ x ≤ ℓ a) → Ordered P M xs
+  ordered-with : (M : AtomSet) (a : ℕ) (xs : List ℕ) → ((x : ℕ) → x ∈ xs → ℓ x ≤ ℓ a) → Ordered P M xs
       → Ordered P (with a M) xs
-  restays M a [] f start = start
-  restays M a (y ∷ xs) f (next o fresh s r held e v earlier) = next
-      (restays M a xs (λ x m. f x (List·Memᴰ·tail m)) o) fresh s r held e
-      (stays M a s r held (omega (arith, ap ℓ e, f y (List·Memᴰ·head refl))) v) earlier
+  ordered-with M a [] f start = start
+  ordered-with M a (y ∷ xs) f (next o fresh s r held e v earlier) = next
+      (ordered-with M a xs (λ x m. f x (List·Memᴰ·tail m)) o) fresh s r held e
+      (valid-with M a s r held (omega (arith, ap ℓ e, f y (List·Memᴰ·head refl))) v) earlier
 
-  pub mark : (k : ℕ) (M : AtomSet) → Filled P ℓ k M → (s : ℕ) (r : Rule) → Held P s r → ℓ (r .head) ≡ k
+  -- One more atom of stratum k, the head of a valid rule. Its rule and the rules of the atoms before it stay valid,
+  -- since no negative entry of theirs lies in stratum k; so the order, with this atom behind, is one of the new set.
+  pub filled-with : (k : ℕ) (M : AtomSet) → Filled P ℓ k M → (s : ℕ) (r : Rule) → Held P s r → ℓ (r .head) ≡ k
       → valid M r ≡ true → M (r .head) ≡ false → Filled P ℓ k (with (r .head) M)
-  mark k M F s r h e v fresh =
+  filled-with k M F s r h e v fresh =
       let a = r .head in
       record {
         founded = record {
           order = a ∷ F .founded .order;
           ordered = next
-              (restays M a (F .founded .order)
+              (ordered-with M a (F .founded .order)
               (λ x m. omega (arith, F .low x (F .founded .exactly x .1 m))) (F .founded .ordered))
               (λ m. clash (F .founded .exactly a .1 m) fresh)
-              s r h refl (stays M a s r h (omega arith) v)
+              s r h refl (valid-with M a s r h (omega arith) v)
               (λ p m. F .founded .exactly p .0 (valid-positive M r v p m));
           exactly = λ x. (
             (λ t. ⊎-elim (λ (q : x ≡ a). List·Memᴰ·head q)
@@ -91,25 +94,27 @@ module _ (P : Program) (ℓ : ℕ → ℕ) (L : Strata P ℓ) where
             ∙ valid-negative (with a M) r′ v′ n m)));
       }
 
-  pub rise : (k : ℕ) (M : AtomSet) → Filled P ℓ k M
+  -- Where also the valid rules of stratum k have their heads in, the strata below k + 1 are done.
+  pub filled-suc : (k : ℕ) (M : AtomSet) → Filled P ℓ k M
       → ((s : ℕ) (r : Rule) → Held P s r → ℓ (r .head) ≡ k → valid M r ≡ true → M (r .head) ≡ true)
       → Filled P ℓ (suc k) M
-  rise k M F c = record {
+  filled-suc k M F c = record {
     founded = F .founded;
     low = λ a t. omega (arith, F .low a t);
     shut = λ s r h l v. ⊎-elim (λ (e : suc (ℓ (r .head)) ≡ suc k). c s r h (omega arith) v)
         (λ (i : suc (ℓ (r .head)) < suc k). F .shut s r h (omega arith) v) (eq-or-lt-of-le l);
   }
 
-  pub done : (k : ℕ) (M : AtomSet) → Filled P ℓ k M → ((s : ℕ) (r : Rule) → Held P s r → ℓ (r .head) < k)
-      → Admissible P M
-  done k M F top = record { founded = F .founded; closed = λ s r h v. F .shut s r h (top s r h) v }
+  -- With every head below k, what is closed below k is closed: so M is admissible.
+  pub filled-admissible :
+      (k : ℕ) (M : AtomSet) → Filled P ℓ k M → ((s : ℕ) (r : Rule) → Held P s r → ℓ (r .head) < k) → Admissible P M
+  filled-admissible k M F top = record { founded = F .founded; closed = λ s r h v. F .shut s r h (top s r h) v }
 
   -- What is found lies in the model, and below the stratum it is all of it.
-  pub meets : (k : ℕ) (M N : AtomSet) → Filled P ℓ k M → Admissible P N → (x : ℕ) → ℓ x < k → M x ≡ N x
-  meets k M N F A = agree-below P ℓ L M N (F .founded) (A .founded) k (F .shut) (λ s r h l. A .closed s r h)
+  pub filled-agrees : (k : ℕ) (M N : AtomSet) → Filled P ℓ k M → Admissible P N → (x : ℕ) → ℓ x < k → M x ≡ N x
+  filled-agrees k M N F A = agree-below P ℓ L M N (F .founded) (A .founded) k (F .shut) (λ s r h l. A .closed s r h)
 
-  pub inside : (k : ℕ) (M N : AtomSet) → Filled P ℓ k M → Admissible P N → (x : ℕ) → M x ≡ true → N x ≡ true
-  inside k M N F A x t = order-within P ℓ L M N k
-      (λ s r h l. A .closed s r h) (meets k M N F A) (F .founded .order) (F .founded .ordered) x
+  pub filled-within : (k : ℕ) (M N : AtomSet) → Filled P ℓ k M → Admissible P N → (x : ℕ) → M x ≡ true → N x ≡ true
+  filled-within k M N F A x t = order-within P ℓ L M N k
+      (λ s r h l. A .closed s r h) (filled-agrees k M N F A) (F .founded .order) (F .founded .ordered) x
       (F .founded .exactly x .0 t) (F .low x t)

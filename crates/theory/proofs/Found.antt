@@ -17,8 +17,8 @@ use Rattle.theory.proofs.Lists.{clash, count, count-length, count-lt, t
 use Rattle.theory.proofs.Rules.{rules-of}
 use Rattle.theory.proofs.Strata.{exact-strata, Strata, stratum-exists, stratum-unique}
 use Rattle.theory.proofs.Pages.{strata-active}
-use Rattle.theory.proofs.Fill.{begin, Filled}
-use Rattle.theory.proofs.Rounds.{adds-some, ends, sweep-keeps, sweep-stays}
+use Rattle.theory.proofs.Fill.{filled-none, Filled}
+use Rattle.theory.proofs.Rounds.{adds-some, adds-none-filled, sweep-keeps, sweep-stays}
 
 -- The rules whose head is in.
 abbrev pub heads-in : Program → AtomSet → ℕ
@@ -35,8 +35,9 @@ ordered-rule P M (a ∷ xs) (next o fresh s r held e v earlier) x m = ⊎-elim
 module _ (P : Program) (ℓ : ℕ → ℕ) (L : Strata P ℓ) where
   module _ (k : ℕ) where
     -- after a round that adds, more rules have their head in
-    pub grows : (M : AtomSet) → Filled P ℓ k M → adds ℓ k M P ≡ true → heads-in P M < heads-in P (sweep ℓ k M P)
-    grows M F h =
+    pub adds-more-heads :
+        (M : AtomSet) → Filled P ℓ k M → adds ℓ k M P ≡ true → heads-in P M < heads-in P (sweep ℓ k M P)
+    adds-more-heads M F h =
         let a = adds-some ℓ k P M h in
         let G = sweep-stays P ℓ L k M F .founded in
         let w = ordered-rule P (sweep ℓ k M P) (G .order) (G .ordered) (a .atom) (G .exactly (a .atom) .0 (a .now)) in
@@ -44,13 +45,14 @@ module _ (P : Program) (ℓ : ℕ → ℕ) (L : Strata P ℓ) where
         (λ r m t. sweep-keeps ℓ k P M (r .head) t) (w .0) (w .1) (ap M (w .2) ∙ a .was)
         (ap (sweep ℓ k M P) (w .2) ∙ a .now)
 
-    -- so that the rounds of a layer end: at most f of them, if f leaves room for all rules
+    -- So the rounds of a layer end: each that adds brings one more rule's head in, and there are only so many rules
+    -- (f leaves room for all).
     rounds-from : (f : ℕ) (M : AtomSet) → length (rules P) < f + heads-in P M → Filled P ℓ k M
         → (n : ℕ) × (N : AtomSet) × Rounds P ℓ k M n N
     rounds-from zero M room F = absurd (omega (arith, count-length (λ r. M (r .head)) (rules P)))
     rounds-from (suc f) M room F = ⊎-elim
         (λ (h : adds ℓ k M P ≡ true).
-        (let w = rounds-from f (sweep ℓ k M P) (omega (arith, grows M F h)) (sweep-stays P ℓ L k M F) in
+        (let w = rounds-from f (sweep ℓ k M P) (omega (arith, adds-more-heads M F h)) (sweep-stays P ℓ L k M F) in
         (suc (w .0), w .1, again h (w .2))))
         (λ (h : adds ℓ k M P ≡ false). (1, M, final h))
         (test (adds ℓ k M P))
@@ -64,12 +66,12 @@ module _ (P : Program) (ℓ : ℕ → ℕ) (L : Strata P ℓ) where
     rounds-stay (again {M = M} h R) F = rounds-stay R (sweep-stays P ℓ L k M F)
 
     pub rounds-done : {M N : AtomSet} {n : ℕ} → Rounds P ℓ k M n N → Filled P ℓ k M → Filled P ℓ (suc k) N
-    rounds-done (final {M = M} h) F = ends P ℓ L k M F h
+    rounds-done (final {M = M} h) F = adds-none-filled P ℓ L k M F h
     rounds-done (again {M = M} h R) F = rounds-done R (sweep-stays P ℓ L k M F)
 
   -- When the layers below k have ended they are done, and nothing else is found.
   pub found-filled : {k : ℕ} {M : AtomSet} → FoundBelow P ℓ k M → Filled P ℓ k M
-  found-filled nothing = begin P ℓ L
+  found-filled nothing = filled-none P ℓ L
   found-filled (next-stratum {k = k} B R) = rounds-done k R (found-filled B)
 
   pub found-low : {k : ℕ} {M : AtomSet} → FoundBelow P ℓ k M → (a : ℕ) → M a ≡ true → ℓ a < k

@@ -4,7 +4,7 @@ use Prim.Native.Nat.{ℕ, zero, suc, _≤_, _<_}
 use native.Mathlib.Omega.{arith}
 use mathlib.Core.Path.{_≡_, refl, sym, _∙_, ap, ap₂, subst, fun-ext}
 use mathlib.Core.Logic.{⊎-elim}
-use mathlib.Core.Bool.{Bool, true, false, not, _&&_, true≢false}
+use mathlib.Core.Bool.{Bool, true, false, not, _&&_}
 use mathlib.Core.List.{List, List·Memᴰ·head, Memᴰ·append-left, Memᴰ·append-right}
 use lib.Dec.{eqb}
 use lib.ListN.{getD}
@@ -20,7 +20,7 @@ use Rattle.theory.specs.Labels.{Spoils, needs, blocked}
 use Rattle.theory.proofs.Lists.{and-l, and-of, and-r, clash, eqb-eq, eqb-of, every-at, every-of, le-or-lt}
 use Rattle.theory.proofs.Lists.{first-exists, first-in, first-none, first-of, first-of-none, first-place, least}
 use Rattle.theory.proofs.Lists.{not-false, not-true, test, unless}
-use Rattle.theory.proofs.Rules.{occurs-at, occurs-of, occurs-test, rules-at, valid-negative, valid-of}
+use Rattle.theory.proofs.Rules.{occurs-at, occurs-of, occurs-test, passes-at, rules-at, valid-negative, valid-of}
 use Rattle.theory.proofs.Rules.{valid-positive}
 use Rattle.theory.proofs.Pages.{active-occurs}
 use Rattle.theory.proofs.Derivations.{entry, last}
@@ -32,15 +32,11 @@ unfoldable pub support-test : Program → AtomSet → ℕ → ℕ → ℕ → Bo
 support-test P M k a s = passes
     (λ r. eqb (r .head) a && (valid M r && every (within P M k) (r .positives))) (getD P s none)
 
-slot-at : (f : Rule → Bool) (o : Option Rule) → passes f o ≡ true → (r : Rule) × (o ≡ some r) × (f r ≡ true)
-slot-at f none t = absurd (true≢false (sym t))
-slot-at f (some r) t = (r, refl, t)
-
 module _ (P : Program) (M : AtomSet) (k a : ℕ) (D : Depth P M a (suc k)) where
   pub support-at : (s : ℕ) → support-test P M k a s ≡ true → Supports P M a s
   unfolding support-test
   support-at s t =
-      let w = slot-at (λ r. eqb (r .head) a && (valid M r && every (within P M k) (r .positives)))
+      let w = passes-at (λ r. eqb (r .head) a && (valid M r && every (within P M k) (r .positives)))
       (getD P s none) t in
       let r = w .0 in
       let u = and-r (eqb (r .head) a) (valid M r && every (within P M k) (r .positives)) (w .2) in

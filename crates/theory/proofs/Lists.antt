@@ -220,10 +220,19 @@ module _ (f : ℕ → Bool) where
       first-miss y ys t ∙ first-past ys k))
       (test (f y))
 
+-- An entry stands in its list.
 pub entry-in : (xs : List ℕ) (i : ℕ) → i < length xs → getD xs i 0 ∈ xs
 entry-in [] i l = absurd (omega arith)
 entry-in (y ∷ ys) zero l = List·Memᴰ·head refl
 entry-in (y ∷ ys) (suc i) l = List·Memᴰ·tail (entry-in ys i (omega arith))
+
+-- What stands in a list stands at a place of it.
+pub in-entry : (xs : List ℕ) (x : ℕ) → x ∈ xs → (i : ℕ) × (i < length xs) × (getD xs i 0 ≡ x)
+in-entry [] x m = absurd (List·Memᴰ·not-nil m)
+in-entry (y ∷ ys) x m = ⊎-elim
+    (λ (e : x ≡ y). (0, omega arith, sym e))
+    (λ (m′ : x ∈ ys). (let w = in-entry ys x m′ in (suc (w .0), omega (arith, w .1), w .2)))
+    (List·Memᴰ·cases-cons m)
 
 pub first-in : (f : ℕ → Bool) (xs : List ℕ) (i x : ℕ) → FirstAt f xs i x → x ∈ xs
 first-in f xs i x w = subst (λ (y : ℕ). y ∈ xs) (w .there) (entry-in xs i (w .low))

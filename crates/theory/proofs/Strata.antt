@@ -59,6 +59,9 @@ module _ (P : Program) (ℓ : ℕ → ℕ) (L : Strata P ℓ) where
       (λ t. order-within N M k c
       (λ y hy. sym (below y hy)) (B .order) (B .ordered) x (B .exactly x .0 t) (omega arith))
 
+  -- Two admissible models agree. Idea: where they agree below a stratum, the negative entries of its rules are the same
+  -- in both. So, along the founded order of the one, each atom's rule is valid in the other, which is closed and has the
+  -- atom too.
   pub model-unique : (M N : AtomSet) → Admissible P M → Admissible P N → (x : ℕ) → M x ≡ N x
   model-unique M N A B x =
       agree-below M N (A .founded) (B .founded) (suc (ℓ x)) (λ s r h l. A .closed s r h)
@@ -120,7 +123,9 @@ module _ (P : Program) where
         (path-reach P (here refl));
   }
 
-  -- A program has strata if and only if it has no negative cycle.
+  -- A program has strata if and only if it has no negative cycle. Idea: by strata a negative step goes down and no step
+  -- goes up, so no cycle has a negative step. Without such a cycle, count for each atom the rules on paths from it: an
+  -- entry has no more than its head, and a negative entry has fewer, since no path from it leads back to its own rule.
   pub strata-iff : ((ℓ : ℕ → ℕ) × Strata P ℓ) ↔ (NegativeCycle P → ⊥)
   strata-iff = ((λ w. strata-acyclic P (w .0) (w .1)), (λ free. (rules-below, acyclic-strata free)))
 
@@ -165,7 +170,8 @@ module _ (P : Program) where
       (path-reach P (subst (λ (z : ℕ). DependencyPath P a z zero) (sym (s .heads)) (f .before)))
       (any-of (descends k) (s .rule .negatives) (f .entry) (s .entry) (path-descends k (f .entry) c (f .rest))))
 
-  -- Without a negative cycle each atom has its exact stratum, and only one.
+  -- Without a negative cycle each atom has its exact stratum, and only one. Idea: no path has more negative steps than
+  -- there are rules; so the greatest number of steps that a path has is found by trying from there downwards.
 
   search-down : (a n : ℕ) → ((k : ℕ) → descends k a ≡ true → k ≤ n) → (k : ℕ) × Stratum P a k
   search-down a zero high =

@@ -20,7 +20,7 @@ use Rattle.theory.specs.Limits.{document}
 use Rattle.theory.specs.Tables.{Example, left, Row, Shows, tables}
 use Rattle.theory.proofs.Lists.{and-l, and-of, and-r, clash, eqb-eq, eqb-of, every-at, le-or-lt, leb-le, mem}
 use Rattle.theory.proofs.Lists.{mem-in, not-true, or-cases, test}
-use Rattle.theory.proofs.Rules.{any-rule-of, occurs-at, occurs-test}
+use Rattle.theory.proofs.Rules.{any-rule-of, occurs-at, occurs-test, passes-at}
 use Rattle.theory.specs.Certificate.{greatest, kept-depth, kept-in, level}
 use Rattle.theory.proofs.Certificate.{Certified, certified-admissible, certified-labels}
 
@@ -111,10 +111,6 @@ module _ (B : Pages) (ls : List Row) where
       (λ (i : t < s). none-before-at s f (and-r (not (f s)) _ u) t i)
       (le-or-lt s t)
 
-  slot-at : (f : Rule → Bool) (o : Option Rule) → passes f o ≡ true → (r : Rule) × (o ≡ some r) × (f r ≡ true)
-  slot-at f none t = absurd (true≢false (sym t))
-  slot-at f (some r) t = (r, refl, t)
-
   module _ (T : certified-test ≡ true) where
     rules-pass : (s : ℕ) (r : Rule) → Held (active B) s r → rule-test r ≡ true
     unfolding certified-test
@@ -174,7 +170,7 @@ module _ (B : Pages) (ls : List Row) where
       closed = λ s r h v. and-l (M (r .head)) _ (valid-head s r h v);
       least = λ s r h v. leb-le _ _ (and-r (M (r .head)) _ (valid-head s r h v));
       supported = λ a k s e. (
-          let w = slot-at (support-rule a k) (getD (active B) s none) (in-parts a k s e .0) in
+          let w = passes-at (support-rule a k) (getD (active B) s none) (in-parts a k s e .0) in
           let z = support-parts a k (w .0) (w .2) in
           (w .0, w .1, z .0, z .1, z .2));
       lowest = λ a k s e t l r h q v i. clash

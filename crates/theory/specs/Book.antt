@@ -31,6 +31,15 @@ empty limits = replicate (limits .slots) none
 abbrev pub with-page : Pages → Rule → Pages
 with-page B r = put-in B (lowest-free (all B)) (new-page r)
 
+-- What a list of calls answers and leaves, by the step of one call: what it answers and leaves of the pages it finds.
+abbrev pub step-answers : {C : Type 0} → (Pages → C → Answer) → (Pages → C → Pages) → Pages → List C → List Answer
+step-answers answer after B [] = []
+step-answers answer after B (c ∷ cs) = answer B c ∷ step-answers answer after (after B c) cs
+
+abbrev pub step-pages : {C : Type 0} → (Pages → C → Pages) → Pages → List C → Pages
+step-pages after B [] = B
+step-pages after B (c ∷ cs) = step-pages after (after B c) cs
+
 module _ (limits : Limits) where
   -- The first question that is answered no. They are asked of all rules held, muted or not.
   abbrev pub refusal : Pages → Call → Option ℕ
@@ -62,9 +71,7 @@ module _ (limits : Limits) where
 
   -- What a list of calls answers and leaves.
   unfoldable pub answers : Pages → List Call → List Answer
-  answers B [] = []
-  answers B (c ∷ cs) = answer B c ∷ answers (after B c) cs
+  answers = step-answers answer after
 
   unfoldable pub after-all : Pages → List Call → Pages
-  after-all B [] = B
-  after-all B (c ∷ cs) = after-all (after B c) cs
+  after-all = step-pages after

@@ -22,13 +22,13 @@ fires ℓ k M none = false
 fires ℓ k M (some r) = eqb (ℓ (r .head)) k && (not (M (r .head)) && valid M r)
 
 -- A slot that fires puts its head into the set; any other leaves it.
-abbrev pub put : Bool → Option Rule → AtomSet → AtomSet
-put false o M = M
-put true none M = M
-put true (some r) M = with (r .head) M
+abbrev pub head-added : Bool → Option Rule → AtomSet → AtomSet
+head-added false o M = M
+head-added true none M = M
+head-added true (some r) M = with (r .head) M
 
 unfoldable pub visit : (ℕ → ℕ) → ℕ → AtomSet → Option Rule → AtomSet
-visit ℓ k M o = put (fires ℓ k M o) o M
+visit ℓ k M o = head-added (fires ℓ k M o) o M
 
 -- A round visits the slots from the lowest on; an atom that it adds is seen by the slots after. This is the set after
 -- it, and whether it added any.

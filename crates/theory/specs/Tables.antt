@@ -84,8 +84,9 @@ tables =
     (1 is in-at 2 1 ∷ 2 is in-at 1 0 ∷ 3 is in-at 3 2 ∷ [])
     ∷ shows (fact 2 ∷ from 1 2 ∷ from 3 1 ∷ fact 3 ∷ []) (slots-from 0 4)
     (1 is in-at 2 1 ∷ 2 is in-at 1 0 ∷ 3 is in-at 1 3 ∷ [])
-    -- T9: a rule that needs its own head is accepted, one that denies it is refused
+    -- T9: a rule that needs its own head is accepted; one that denies it is refused, beside that rule and alone
     ∷ shows (from 1 1 ∷ []) (slots-from 0 1) (1 is out ∷ [])
+    ∷ shows (from 1 1 ∷ unless 1 1 ∷ []) (slots-from 0 1 ++ (refused 7 ∷ [])) (1 is out ∷ [])
     ∷ shows (unless 1 1 ∷ []) (refused 7 ∷ []) []
     -- T10: the third rule would close a loop through a negation
     ∷ shows (from 1 2 ∷ unless 2 3 ∷ unless 3 1 ∷ []) (slots-from 0 2 ++ (refused 7 ∷ []))
