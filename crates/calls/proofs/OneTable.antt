@@ -13,7 +13,7 @@ use Rattle.theory.specs.Rules.{Page, Pages, all, active, rule-on}
 use Rattle.theory.specs.Rules as theory
 use Rattle.theory.specs.Models.{AtomSet, Admissible}
 use Rattle.theory.specs.Dependencies.{NegativeCycle}
-use Rattle.theory.specs.Labels.{absent, out, in-at, Labelled}
+use Rattle.theory.specs.Labels.{Labelled}
 use Rattle.theory.specs.Labels as theory-labels
 use Rattle.theory.specs.Limits.{document}
 use Rattle.theory.proofs.Lists.{le-or-lt}
@@ -22,13 +22,13 @@ use Rattle.theory.proofs.Strata.{acyclic-strata, rules-below, model-unique}
 use Rattle.theory.proofs.Labels.{label-unique, label-moves}
 use Rattle.table.specs.declared.Atom.{Atom}
 use Rattle.table.specs.declared.Rule.{Rule}
-use Rattle.table.specs.declared.Label.{Label}
 use Rattle.table.specs.declared.Table.{Table}
 use Rattle.table.specs.Rules.{numbers, ruleOf, page-in, pageOf, stateOf, noAtom, pastRule}
-use Rattle.table.specs.Labels.{labelOf, labelAt, absentLabel}
-use Rattle.table.specs.Clean.{CleanRule, CleanLabel}
+use Rattle.table.specs.Labels.{labelAt, absentLabel}
+use Rattle.table.specs.Clean.{CleanRule}
 use Rattle.table.specs.Sound.{Sound}
-use Rattle.table.proofs.Programs.{book-at, slot-held, label-absent, label-out, label-kept}
+use Rattle.table.proofs.Programs.{book-at, slot-held}
+use Rattle.table.proofs.CleanLabels.{label-equal}
 use Rattle.calls.specs.Contracts.{held, Sized}
 
 -- Atoms of equal numbers are equal.
@@ -40,9 +40,6 @@ rule-path :
     → q .negatives ≡ r .negatives → q .entries ≡ r .entries → q ≡ r
 rule-path q r s h p n e =
     λ i. record { state = s i; head = record { 0 = h i }; positives = p i; negatives = n i; entries = e i }
-
-label-path : (k l : Label) → k .state ≡ l .state → k .depth ≡ l .depth → k .slot .0 ≡ l .slot .0 → k ≡ l
-label-path k l s d t = λ i. record { state = s i; depth = d i; slot = record { 0 = t i } }
 
 -- The numbers of a list of atoms, by places.
 numbers-at : (es : List Atom) (i : ℕ) → getD (numbers es) i 0 ≡ getD es i noAtom .0
@@ -130,40 +127,6 @@ module _ (q r : Rule) (C : CleanRule q) (D : CleanRule r) (L : length (q .entrie
         sym (page-state (q .state) (ruleOf q)) ∙ ap state-of e ∙ page-state (r .state) (ruleOf r),
       )
 
--- Two clean labels that mean the same are equal.
-label-equal : (k l : Label) → CleanLabel k → CleanLabel l → labelOf k ≡ labelOf l → k ≡ l
-label-equal k l C D e = go (k .state) refl (l .state) refl
-  where
-    go : (m : ℕ) → k .state ≡ m → (n : ℕ) → l .state ≡ n → k ≡ l
-    go zero s zero t =
-        label-path k l (s ∙ sym t) (C .depth (omega arith) ∙ sym (D .depth (omega arith)))
-        (C .slot (omega arith) ∙ sym (D .slot (omega arith)))
-    go zero s (suc zero) t =
-        let u : absent ≡ out = sym (label-absent k s) ∙ e ∙ label-out l t in
-        absurd (let z : _≡_ {A = ℕ} 0 1 = cc in omega arith)
-    go zero s (suc (suc n)) t =
-        let u : absent ≡ in-at (l .depth) (l .slot .0) = sym (label-absent k s) ∙ e ∙ label-kept l (omega arith) in
-        absurd (let z : _≡_ {A = ℕ} 0 1 = cc in omega arith)
-    go (suc zero) s zero t =
-        let u : out ≡ absent = sym (label-out k s) ∙ e ∙ label-absent l t in
-        absurd (let z : _≡_ {A = ℕ} 0 1 = cc in omega arith)
-    go (suc zero) s (suc zero) t =
-        label-path k l (s ∙ sym t) (C .depth (omega arith) ∙ sym (D .depth (omega arith)))
-        (C .slot (omega arith) ∙ sym (D .slot (omega arith)))
-    go (suc zero) s (suc (suc n)) t =
-        let u : out ≡ in-at (l .depth) (l .slot .0) = sym (label-out k s) ∙ e ∙ label-kept l (omega arith) in
-        absurd (let z : _≡_ {A = ℕ} 0 1 = cc in omega arith)
-    go (suc (suc m)) s zero t =
-        let u : in-at (k .depth) (k .slot .0) ≡ absent = sym (label-kept k (omega arith)) ∙ e ∙ label-absent l t in
-        absurd (let z : _≡_ {A = ℕ} 0 1 = cc in omega arith)
-    go (suc (suc m)) s (suc zero) t =
-        let u : in-at (k .depth) (k .slot .0) ≡ out = sym (label-kept k (omega arith)) ∙ e ∙ label-out l t in
-        absurd (let z : _≡_ {A = ℕ} 0 1 = cc in omega arith)
-    go (suc (suc m)) s (suc (suc n)) t =
-        let u : in-at (k .depth) (k .slot .0) ≡ in-at (l .depth) (l .slot .0) =
-        sym (label-kept k (omega arith)) ∙ e ∙ label-kept l (omega arith) in
-        label-path k l (omega (arith, C .known, D .known)) (cc) (cc)
-
 -- Where all rules held have no negative cycle, the unmuted ones have one admissible model.
 pub one-model :
     (B : Pages) → (NegativeCycle (all B) → ⊥) → (M N : AtomSet) → Admissible (active B) M → Admissible (active B) N
@@ -178,6 +141,9 @@ pub same-label :
 same-label B M N a k l free A D K L =
     label-unique B N (D .founded) a k l (label-moves B M N (one-model B free M N A D) a k K) L
 
+-- Two sound tables that hold the same rules with the same marks are equal. Idea: slots are clean, so a page tells every
+-- field of its slot (`slot-equal`); both tables' labels are those of the one model of the same rules (`same-label`), and
+-- labels are clean too (`label-equal`).
 pub table-unique : (t u : Table) → Sized t → Sized u → Sound t → Sound u → held t ≡ held u → t ≡ u
 table-unique t u Z Y S T e = λ i. record { rules = rules i; labels = labels i }
   where

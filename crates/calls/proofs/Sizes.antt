@@ -14,7 +14,7 @@ use Rattle.table.specs.declared.Table.{Table}
 use Rattle.table.specs.Rules.{pastRule}
 use Rattle.table.proofs.Rule as rule-type
 use Rattle.table.proofs.Table as table-type
-use Rattle.table.proofs.Arrays.{each-at}
+use Rattle.table.proofs.Owned.{each-at}
 use Rattle.calls.specs.Contracts.{Sized}
 
 -- A rule as the tuple of its fields: how many entries it has.

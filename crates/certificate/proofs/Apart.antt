@@ -8,14 +8,14 @@ use Rattle.theory.specs.Rules.{Program}
 use Rattle.theory.specs.Models.{AtomSet}
 use Rattle.theory.specs.Certificate.{kept-in, kept-depth, kept-slot}
 use Rattle.table.specs.declared.Label.{Label}
-use Rattle.table.specs.declared.kept.Kept.{Kept}
+use Rattle.table.specs.declared.arrays.LabelArrays.{LabelArrays}
 use Rattle.table.specs.Labels.{labelAt}
-use Rattle.table.specs.Kept.{KeptOf}
+use Rattle.table.specs.Arrays.{ArraysOf}
 use Rattle.table.specs.Sets.{member, number}
-use Rattle.table.proofs.KeptFields.{flags-are, depths-are, slots-are}
+use Rattle.table.proofs.LabelArrays.{flags-are, depths-are, slots-are}
 use Rattle.certificate.specs.Certificate.{Confirmed}
 
-module _ (labels : List Label) (k : Kept) (K : KeptOf labels k) where
+module _ (labels : List Label) (k : LabelArrays) (K : ArraysOf labels k) where
   pub of-labels :
       (P : Program) (t : Bool)
       → ((t ≡ true) ↔ Confirmed P (member (k .flags)) (number (k .depths)) (number (k .slots)))

@@ -5,7 +5,7 @@ use table::Label;
 use table::Rule;
 use table::Slot;
 use table::Table;
-use table::kept::keep;
+use table::arrays::arrays_of;
 use table::sets::has;
 use table::sets::mark;
 use table::sets::number_of;
@@ -87,7 +87,7 @@ pub fn certified(rules: [Rule; Table::SLOTS], labels: [Label; Table::ATOMS]) -> 
         ↔ Confirmed (activeOf rules) (kept-in (labelAt labels)) (kept-depth (labelAt labels))
         (kept-slot (labelAt labels)) ⌝ }
 {
-    let k = keep(labels);
+    let k = arrays_of(labels);
     let flags = k.flags;
     let depths = k.depths;
     let slots = k.slots;

@@ -17,11 +17,11 @@ use Rattle.theory.proofs.Labels.{label-in}
 use Rattle.theory.proofs.Questions.{first-no-yes}
 use Rattle.table.specs.declared.Slot.{Slot}
 use Rattle.table.specs.declared.Table.{Table}
-use Rattle.table.specs.declared.kept.Kept.{Kept}
+use Rattle.table.specs.declared.arrays.LabelArrays.{LabelArrays}
 use Rattle.table.specs.Sets.{member, Flags}
-use Rattle.table.specs.Kept.{KeptOf}
+use Rattle.table.specs.Arrays.{ArraysOf}
 use Rattle.table.specs.Sound.{Sound}
-use Rattle.table.proofs.KeptFields.{flags-are}
+use Rattle.table.proofs.LabelArrays.{flags-are}
 use Rattle.table.proofs.Members.{all-alike}
 use Rattle.refusals.specs.declared.Refusal.{Refusal}
 use Rattle.calls.specs.declared.LabelAnswer.{LabelAnswer}
@@ -111,7 +111,7 @@ module _ (t : Table) (S : Sound t) (n : ℕ) (e : files-of (held t) ≡ some n) 
   C = checklist-of (held t) n e
 
   -- a mark's atom is kept as in exactly if the mark stands
-  kept-mark : (k : Kept) → KeptOf (t .labels) k → (a : ℕ) → is-mark n a ≡ true → member (k .flags) a ≡ marked (held t) a
+  kept-mark : (k : LabelArrays) → ArraysOf (t .labels) k → (a : ℕ) → is-mark n a ≡ true → member (k .flags) a ≡ marked (held t) a
   kept-mark k K a m =
       let low : a < document .atoms = omega (arith, mark-below n a m, C .high) in
       ap (λ (M : AtomSet). M a) (flags-are (t .labels) k K)
@@ -122,7 +122,7 @@ module _ (t : Table) (S : Sound t) (n : ℕ) (e : files-of (held t) ≡ some n) 
   passes : first-no (asks 15 (is-some (files-of (held t))) ∷ []) ≡ none
   passes = first-no-yes (asks 15 _) [] (ap is-some e) ∙ (unfold first-no in refl)
 
-  module _ (k : Kept) (K : KeptOf (t .labels) k) (flags : List Bool) (L : Lacking (k .flags) n flags) where
+  module _ (k : LabelArrays) (K : ArraysOf (t .labels) k) (flags : List Bool) (L : Lacking (k .flags) n flags) where
     listed-lacks : (i : ℕ) → on-list (some n) i ≡ true → lacking-in (k .flags) i ≡ lacks (held t) i
     listed-lacks i l =
         let low = leb-le 1 i (and-l (leb 1 i) _ l) in

@@ -14,7 +14,7 @@ use queries::label;
 use refusals::Refusal;
 use refusals::refusal_number;
 use table::Table;
-use table::kept::keep;
+use table::arrays::arrays_of;
 use written_lists::write_marked;
 ghost use mathlib.Core.Path.{_≡_};
 ghost use mathlib.Core.Bool.{true};
@@ -211,7 +211,7 @@ pub fn missing(table: Table, buffer: &mut [u32]) -> ListAnswer
         return ListAnswer::Refused(Refusal::TableUnsound);
     }
     let labels = table.labels;
-    let kept = keep(labels);
+    let kept = arrays_of(labels);
     let flags = kept.flags;
     let lacks = lacking(&flags, files);
     write_marked(&lacks, buffer)

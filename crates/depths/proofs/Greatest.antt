@@ -5,11 +5,11 @@ use mathlib.Core.Path.{_≡_, ap}
 use mathlib.Core.List.{List}
 use lib.ListN.{length, getD}
 use lib.Seq.{slice}
-use Rattle.theory.specs.Certificate.{greatest}
+use Rattle.theory.specs.Lists.{greatest}
 use Rattle.table.specs.declared.Atom.{Atom}
 use Rattle.table.specs.declared.Rule.{Rule}
 use Rattle.table.specs.Rules.{numbers, ruleOf, noAtom}
-use Rattle.table.proofs.Entries.{part-over, part-next, positives-are}
+use Rattle.table.proofs.Entries.{greatest-over, greatest-next, positives-are}
 
 -- A walk over the first n of the rule's entries has come to j: what was found, and what is left, give the whole.
 pub record Walked (d : ℕ → ℕ) (xs : List Atom) (n whole most j : ℕ) : Type 0 where
@@ -17,24 +17,14 @@ pub record Walked (d : ℕ → ℕ) (xs : List Atom) (n whole most j : ℕ) : Ty
   pub all : max most (greatest d (numbers (slice j n xs))) ≡ whole
 
 module _ (d : ℕ → ℕ) (xs : List Atom) (n whole most : ℕ) where
-  none-left : (j : ℕ) → n ≤ j → greatest d (numbers (slice j n xs)) ≡ 0
-  unfolding greatest
-  none-left j l = rw (part-over xs j n l)
-
-  one-more :
-      (j : ℕ) → j < n → n ≤ length xs
-      → greatest d (numbers (slice j n xs)) ≡ max (d (getD xs j noAtom .0)) (greatest d (numbers (slice (j + 1) n xs)))
-  unfolding greatest
-  one-more j l k = rw (part-next xs j n l k)
-
   pub walked-over : (j : ℕ) → n ≤ j → Walked d xs n whole most j → most ≡ whole
-  walked-over j l W = omega (arith, none-left j l, W .all)
+  walked-over j l W = omega (arith, greatest-over d xs j n l, W .all)
 
   pub walked-next :
       (j v next : ℕ) → j < n → n ≤ length xs → v ≡ d (getD xs j noAtom .0) → v ≤ 65535 → next ≡ max most v
       → Walked d xs n whole most j → Walked d xs n whole next (j + 1)
   walked-next j v next l k e h f W =
-      record { small = omega (arith, W .small); all = omega (arith, one-more j l k, W .all) }
+      record { small = omega (arith, W .small); all = omega (arith, greatest-next d xs j n l k, W .all) }
 
 -- At the start all is left: the positive entries are the first n.
 pub walked-start :

@@ -10,6 +10,7 @@ use mathlib.Core.Bool.{Bool, true, false, true≢false, _||_}
 use mathlib.Core.Logic.{_⊎_, inl, inr}
 use mathlib.Core.List.{List, [], _∷_, List·Memᴰ·head, List·Memᴰ·tail}
 use mathlib.Core.Option.{Option, none, some}
+use borrow.Author.Count.{below-more}
 use lib.ListN.{length, getD, set, replicate, length-set, length-replicate}
 use lib.Seq.{getD-set-same, getD-set-other}
 use Rattle.theory.specs.Lists.{_∈_, every}
@@ -77,13 +78,6 @@ pass-start P M at n k d true g W = record {
   rests = λ q j r l. absurd (omega arith);
   early = λ q. absurd (true≢false (sym q));
 }
-
--- What holds of each place below i, and of i, holds of each below i + 1.
-one-more : (s i : ℕ) → s < i + 1 → (F : ℕ → Type 0) → (s < i → F s) → F i → F s
-one-more s i l F f g = elim (le-or-lt i s) [
-  | inl m ↦ (let e : i ≡ s = omega arith in subst F e g)
-  | inr m ↦ f m
-]
 
 -- A slot that does not lower its head: the head has a number, and none above the rule's level.
 not-lowers :
@@ -165,17 +159,17 @@ module _ (P : Program) (M : AtomSet) (n : ℕ) (B : Bounded P n) (A : Admissible
     pass-over : (Lowers M (number d) n o h → ⊥) → Pass P M at n k (i + 1) d t
     pass-over not = record {
       found = W .found;
-      visited = λ j r l. one-more j i l
+      visited = λ j r l. below-more
           (λ z. Held P (at z) r → valid M r ≡ true → (u : ℕ) → u ≤ k → u < n → Derivations P M (r .positives) u
-          → (0 < number d (r .head)) × (number d (r .head) ≤ suc u))
-          (λ m. W .visited j r m)
+          → (0 < number d (r .head)) × (number d (r .head) ≤ suc u)) i
+          (λ z m. W .visited z r m)
           (λ held v u a b D. (
           let low = level-low k d (W .found) r u a D in
           let y = not-lowers M (number d) n r (λ L. not (turned r held L)) v
           (λ p m. (let e = entries-known k d (W .found) r u a D p m in (e .0, omega (arith, e .1)))) (omega arith) in
-          (y .0, omega (arith, y .1))));
-      rests = λ q j r l. one-more j i l (λ z. Held P (at z) r → Lowers M (number d) n (some r) (r .head) → ⊥)
-          (λ m. W .rests q j r m) (λ held L. not (turned r held L));
+          (y .0, omega (arith, y .1)))) j l;
+      rests = λ q j r l. below-more (λ z. Held P (at z) r → Lowers M (number d) n (some r) (r .head) → ⊥) i
+          (λ z m. W .rests q z r m) (λ held L. not (turned r held L)) j l;
       early = W .early;
     }
 
@@ -258,11 +252,11 @@ module _ (P : Program) (M : AtomSet) (n : ℕ) (B : Bounded P n) (A : Admissible
               let g = fall a (f .0) in
               (g .0, omega (arith, f .1, g .1)));
         };
-        visited = λ j r l. one-more j i l
+        visited = λ j r l. below-more
             (λ z. Held P (at z) r → valid M r ≡ true → (u : ℕ) → u ≤ k → u < n → Derivations P M (r .positives) u
-            → (0 < number after (r .head)) × (number after (r .head) ≤ suc u))
-            (λ m hr vr u a b D. (
-            let f = W .visited j r m hr vr u a b D in
+            → (0 < number after (r .head)) × (number after (r .head) ≤ suc u)) i
+            (λ z m hr vr u a b D. (
+            let f = W .visited z r m hr vr u a b D in
             let g = fall (r .head) (f .0) in
             (g .0, omega (arith, f .1, g .1))))
             (λ hr vr u a b D. (
@@ -271,7 +265,7 @@ module _ (P : Program) (M : AtomSet) (n : ℕ) (B : Bounded P n) (A : Admissible
             let same : v ≡ level (number d) r = ap (λ (z : Rule). level (number d) z) e in
             let at-head : number after (r .head) ≡ v =
             ap (λ (z : Rule). number after (z .head)) (sym e) ∙ (ap (number after) head-is ∙ there) in
-            (omega (arith, at-head), omega (arith, at-head, same))));
+            (omega (arith, at-head), omega (arith, at-head, same)))) j l;
         rests = λ q. absurd (true≢false q);
         early = λ q. soon;
       }

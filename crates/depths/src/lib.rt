@@ -22,6 +22,9 @@ ghost use Rattle.table.specs.Rules.{activeOf, activeIn, ruleOf};
 ghost use Rattle.depths.specs.Numbers.{DepthsOf, within};
 ghost use Rattle.depths.specs.Passes.{Lowered};
 
+// No depth is above ATOMS: an in atom has a derivation of at most as many levels as there are in atoms.
+const PAST_DEPTHS: u16 = Table::ATOMS as u16 + 1;
+
 // Has every positive entry of the rule a depth (not 0), and one below the limit?
 pub fn below(rule: Rule, depths: &[u16; Table::ATOMS], limit: u16) -> bool
     ensures { λ r. ⌜ r ≡ every (within (number (now (depths .entry))) limit) (ruleOf rule .positives) ⌝ }
@@ -77,7 +80,7 @@ fn lower(rule: Rule, model: &[bool; Table::ATOMS], found: &mut [u16; Table::ATOM
     if rule.state != 1 {
         return false;
     }
-    if !below(rule, found, 257) {
+    if !below(rule, found, PAST_DEPTHS) {
         return false;
     }
     let to = level(rule, found);

@@ -29,7 +29,7 @@ use Rattle.table.specs.Sets.{member, number}
 use Rattle.table.proofs.Members.{all-alike, number-same, number-other}
 use Rattle.table.proofs.Programs.{active-length, active-place, program-length}
 use Rattle.model.specs.Model.{Stratified, Searched}
-use Rattle.model.specs.Rounds.{Ready, Filling, Greatest}
+use Rattle.model.specs.Rounds.{Ready, Filling, HighestOf}
 use Rattle.model.proofs.Visits.{HeadBelow, Round}
 
 -- No more rules than slots.
@@ -120,7 +120,7 @@ kept-next B k n rounds l R C = record {
 }
 
 -- The highest layer, and that there is room for it.
-module _ (B : Pages) (ℓ : ℕ → ℕ) (exact : (a : ℕ) → Stratum (all B) a (ℓ a)) (top : ℕ) (T : Greatest ℓ top) where
+module _ (B : Pages) (ℓ : ℕ → ℕ) (exact : (a : ℕ) → Stratum (all B) a (ℓ a)) (top : ℕ) (T : HighestOf ℓ top) where
   acyclic : NegativeCycle (all B) → ⊥
   acyclic = strata-acyclic (all B) ℓ (exact-strata (all B) ℓ exact)
 
@@ -144,7 +144,7 @@ pub record Between (B : Pages) (ℓ : ℕ → ℕ) (top k : ℕ) (found : List B
   pub long : length rounds ≡ suc (document .slots)
   pub high : k ≤ top
 
-module _ (rules : List Rule) (ℓ : ℕ → ℕ) (S : Stratified (bookOf rules) ℓ) (top : ℕ) (T : Greatest ℓ top) where
+module _ (rules : List Rule) (ℓ : ℕ → ℕ) (S : Stratified (bookOf rules) ℓ) (top : ℕ) (T : HighestOf ℓ top) where
   pub between-start :
       (n m : ℕ) → n ≡ document .atoms → m ≡ suc (document .slots)
       → Between (bookOf rules) ℓ top 0 (replicate n false) (replicate m 0)

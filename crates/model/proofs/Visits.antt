@@ -22,15 +22,15 @@ use Rattle.table.specs.Rules.{activeIn, activeOf, page-in, pastRule, ruleOf}
 use Rattle.table.specs.Sets.{member}
 use Rattle.table.proofs.Members.{mark-is}
 use Rattle.table.proofs.Programs.{active-none, active-some, active-state}
-use Rattle.model.specs.Rounds.{missing, waits}
+use Rattle.model.specs.Rounds.{sought, waits}
 
--- An atom of another stratum is not missing; of one of the stratum k the set decides.
+-- An atom of another stratum is not sought; of one of the stratum k the set decides.
 module _ (stratum k : ℕ) (t : Bool) where
-  pub missing-other : (stratum ≡ k → ⊥) → false ≡ (eqb stratum k && t)
-  missing-other ne = sym (ap (λ b. b && t) (eqb-not stratum k ne))
+  pub sought-other : (stratum ≡ k → ⊥) → false ≡ (eqb stratum k && t)
+  sought-other ne = sym (ap (λ b. b && t) (eqb-not stratum k ne))
 
-  pub missing-here : stratum ≡ k → t ≡ (eqb stratum k && t)
-  missing-here e = sym (ap (λ b. b && t) (eqb-of stratum k e))
+  pub sought-here : stratum ≡ k → t ≡ (eqb stratum k && t)
+  sought-here e = sym (ap (λ b. b && t) (eqb-of stratum k e))
 
 -- A slot without an unmuted rule does not wait; of one with such a rule the head decides.
 module _ (ℓ : ℕ → ℕ) (k : ℕ) (M : AtomSet) where
@@ -39,13 +39,13 @@ module _ (ℓ : ℕ → ℕ) (k : ℕ) (M : AtomSet) where
   waits-idle (suc zero) a f = absurd (f refl)
   waits-idle (suc (suc n)) a f = refl
 
-  pub waits-unmuted : (n a : ℕ) → n ≡ 1 → missing ℓ k M a ≡ waits ℓ k M n a
+  pub waits-unmuted : (n a : ℕ) → n ≡ 1 → sought ℓ k M a ≡ waits ℓ k M n a
   waits-unmuted n a e = ap (λ m. waits ℓ k M m a) (sym e)
 
-  pub waits-missing : (n a : ℕ) → waits ℓ k M n a ≡ true → missing ℓ k M a ≡ true
-  waits-missing zero a e = absurd (true≢false (sym e))
-  waits-missing (suc zero) a e = e
-  waits-missing (suc (suc n)) a e = absurd (true≢false (sym e))
+  pub waits-sought : (n a : ℕ) → waits ℓ k M n a ≡ true → sought ℓ k M a ≡ true
+  waits-sought zero a e = absurd (true≢false (sym e))
+  waits-sought (suc zero) a e = e
+  waits-sought (suc (suc n)) a e = absurd (true≢false (sym e))
 
 -- A slot with an unmuted rule holds a valid one if that is valid; any other slot does not.
 pub rule-decides : (M : AtomSet) (rule : Rule) → rule .state ≡ 1
@@ -55,13 +55,13 @@ rule-decides M rule e = sym (ap (passes (valid M)) (active-some rule e))
 pub none-valid : (M : AtomSet) (rule : Rule) → (rule .state ≡ 1 → ⊥) → false ≡ passes (valid M) (activeIn rule)
 none-valid M rule f = sym (ap (passes (valid M)) (active-none rule f))
 
--- A slot fires if its head is missing and it holds a valid rule.
+-- A slot fires if its head is sought and it holds a valid rule.
 fires-is : (ℓ : ℕ → ℕ) (k : ℕ) (M : AtomSet) (n : ℕ) (r : theory.Rule)
-    → fires ℓ k M (active-on (page-in n r)) ≡ (missing ℓ k M (r .head) && passes (valid M) (active-on (page-in n r)))
+    → fires ℓ k M (active-on (page-in n r)) ≡ (sought ℓ k M (r .head) && passes (valid M) (active-on (page-in n r)))
 unfolding fires
-fires-is ℓ k M zero r = sym (and-false (missing ℓ k M (r .head)))
+fires-is ℓ k M zero r = sym (and-false (sought ℓ k M (r .head)))
 fires-is ℓ k M (suc zero) r = sym (and-assoc (eqb (ℓ (r .head)) k) (not (M (r .head))) (valid M r))
-fires-is ℓ k M (suc (suc n)) r = sym (and-false (missing ℓ k M (r .head)))
+fires-is ℓ k M (suc (suc n)) r = sym (and-false (sought ℓ k M (r .head)))
 
 -- The head of the slot's rule, if it holds one, is below n.
 abbrev pub HeadBelow : Option theory.Rule → ℕ → Type 0
@@ -115,7 +115,7 @@ module _ (ℓ : ℕ → ℕ) (k : ℕ) (rules : List Rule) where
       here = getD rules i pastRule
 
       abbrev new : Bool
-      new = missing ℓ k (member found) (here .head .0)
+      new = sought ℓ k (member found) (here .head .0)
 
       abbrev good : Bool
       good = passes (valid (member found)) (activeIn here)
@@ -142,7 +142,7 @@ module _ (ℓ : ℕ → ℕ) (k : ℕ) (rules : List Rule) where
       stay : (new && good) ≡ false → Left ℓ k rules before (i + 1) found u
       stay e = rw (sym (or-false u)) (step found false e refl refl)
 
-      -- A slot adds none if its head is not missing,
+      -- A slot adds none if its head is not sought,
       pub left-over : new ≡ false → Left ℓ k rules before (i + 1) found u
       left-over e = stay (ap (λ b. b && good) e)
 

@@ -1,4 +1,4 @@
--- What the functions of the crate tell each other (private): which atoms are missing, and what the rounds of a stratum
+-- What the functions of the crate tell each other (private): which atoms are sought, and what the rounds of a stratum
 -- do to the atoms found so far. Assumes nothing.
 use Prim.Native.Nat.{ℕ, zero, suc, _≤_}
 use mathlib.Core.Path.{_≡_}
@@ -13,14 +13,14 @@ use Rattle.theory.specs.Rounds.{FoundBelow, Rounds}
 use Rattle.table.specs.Sets.{member}
 use Rattle.model.specs.Model.{Stratified}
 
--- An atom is missing if it is of stratum k and not in M.
-abbrev pub missing : (ℕ → ℕ) → ℕ → AtomSet → ℕ → Bool
-missing ℓ k M a = eqb (ℓ a) k && not (M a)
+-- An atom is sought if it is of stratum k and not in M yet.
+abbrev pub sought : (ℕ → ℕ) → ℕ → AtomSet → ℕ → Bool
+sought ℓ k M a = eqb (ℓ a) k && not (M a)
 
--- A slot waits if it holds an unmuted rule (its state is 1) whose head is missing.
+-- A slot waits if it holds an unmuted rule (its state is 1) whose head is sought.
 abbrev pub waits : (ℕ → ℕ) → ℕ → AtomSet → ℕ → ℕ → Bool
 waits ℓ k M zero a = false
-waits ℓ k M (suc zero) a = missing ℓ k M a
+waits ℓ k M (suc zero) a = sought ℓ k M a
 waits ℓ k M (suc (suc n)) a = false
 
 -- The layers below k have ended, and there is room for every atom.
@@ -34,8 +34,8 @@ pub record Filling (P : Program) (ℓ : ℕ → ℕ) (k : ℕ) (before after : L
   pub rounds : Rounds P ℓ k (member before) n (member after)
   pub size : length after ≡ length before
 
--- The greatest of the numbers.
-pub record Greatest (ℓ : ℕ → ℕ) (top : ℕ) : Type 0 where
+-- The highest of the numbers.
+pub record HighestOf (ℓ : ℕ → ℕ) (top : ℕ) : Type 0 where
   pub above : (a : ℕ) → ℓ a ≤ top
   pub atom : ℕ
   pub there : ℓ atom ≡ top

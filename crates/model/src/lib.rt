@@ -12,7 +12,7 @@ ghost use Rattle.theory.specs.Models.{valid};
 ghost use Rattle.table.specs.Rules.{activeIn, activeOf, bookOf};
 ghost use Rattle.table.specs.Sets.{member, number};
 ghost use Rattle.model.specs.Model.{Stratified, Searched};
-ghost use Rattle.model.specs.Rounds.{missing, waits, Ready, Filling, Greatest};
+ghost use Rattle.model.specs.Rounds.{sought, waits, Ready, Filling, HighestOf};
 
 // What is found: the in atoms, and how many rounds were made in each stratum (layer), from the lowest on; 0 past the
 // highest.
@@ -27,8 +27,8 @@ impl Search {
 }
 
 // Is the atom of stratum k and not in yet?
-fn missing(a: Atom, strata: &[u16; Table::ATOMS], k: u16, found: &[bool; Table::ATOMS]) -> bool
-    ensures { λ r. ⌜ r ≡ missing (number (now (strata .entry))) k (member (now (found .entry))) (a .0) ⌝ }
+fn sought(a: Atom, strata: &[u16; Table::ATOMS], k: u16, found: &[bool; Table::ATOMS]) -> bool
+    ensures { λ r. ⌜ r ≡ sought (number (now (strata .entry))) k (member (now (found .entry))) (a .0) ⌝ }
 {
     if number_of(strata, a) != k {
         return false;
@@ -36,7 +36,7 @@ fn missing(a: Atom, strata: &[u16; Table::ATOMS], k: u16, found: &[bool; Table::
     !has(found, a)
 }
 
-// Does a slot of this state and head hold an unmuted rule whose head is missing?
+// Does a slot of this state and head hold an unmuted rule whose head is sought?
 fn waits(
     state: u16,
     head: Atom,
@@ -50,7 +50,7 @@ fn waits(
     if state != 1 {
         return false;
     }
-    missing(head, strata, k, found)
+    sought(head, strata, k, found)
 }
 
 // Does the slot hold an unmuted rule that is valid in the set?
@@ -107,7 +107,7 @@ fn fill_stratum(
 
 // The highest number that occurs among the strata.
 fn highest(strata: &[u16; Table::ATOMS]) -> u16
-    ensures { λ r. ⌜ Greatest (number (now (strata .entry))) r ⌝ }
+    ensures { λ r. ⌜ HighestOf (number (now (strata .entry))) r ⌝ }
 {
     let s = &strata[..];
     let mut top: u16 = 0;

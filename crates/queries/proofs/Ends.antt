@@ -25,9 +25,9 @@ use Rattle.table.specs.Rules.{pageOf, ruleOf}
 use Rattle.table.specs.Clean.{freeRule}
 use Rattle.table.specs.Labels.{labelAt, labelOf, absentLabel}
 use Rattle.table.specs.Sound.{Sound}
-use Rattle.table.specs.declared.kept.Kept.{Kept}
-use Rattle.table.specs.Kept.{KeptOf}
-use Rattle.table.proofs.KeptFields.{flags-are, slots-are}
+use Rattle.table.specs.declared.arrays.LabelArrays.{LabelArrays}
+use Rattle.table.specs.Arrays.{ArraysOf}
+use Rattle.table.proofs.LabelArrays.{flags-are, slots-are}
 use Rattle.theory.proofs.Pages.{active-bounded, page-held}
 use Rattle.theory.proofs.Questions.{passed-bounded}
 use Rattle.sound.proofs.Soundness.{kept-certified, sound-kept, sound-occurrence}
@@ -81,7 +81,7 @@ module _ (t : Table) (slots : length (t .rules) ≡ document .slots) (atoms : le
       go (in-at d s) q (is-in i D T) = T
 
   -- the same of the arrays
-  module _ (k : Kept) (K : KeptOf (t .labels) k) where
+  module _ (k : LabelArrays) (K : ArraysOf (t .labels) k) where
     pub flags-model : Admissible (active (held t)) (member (k .flags))
     flags-model = rw (flags-are (t .labels) k K) sound-model
 

@@ -13,7 +13,7 @@ use Rattle.table.specs.declared.Spoiler.{Spoiler}
 use Rattle.table.specs.declared.Spoiler.the-variants.{Nothing, Positive, Negative}
 use Rattle.table.specs.Rules.{page-in, pageOf, ruleOf, spoilerOf}
 use Rattle.table.specs.Labels.{labelOf}
-use Rattle.table.proofs.Programs.{label-kept}
+use Rattle.table.proofs.Programs.{label-is-in}
 use Rattle.calls.specs.declared.LabelAnswer.the-variants as label
 use Rattle.calls.specs.declared.SpoilerAnswer.{SpoilerAnswer}
 use Rattle.calls.specs.declared.SpoilerAnswer.the-variants as spoilt
@@ -23,7 +23,7 @@ pub told-in :
     (l : Label) → (l .state ≡ 0 → ⊥) → (l .state ≡ 1 → ⊥) → label.In (l .depth) (l .slot) ≡ tellLabel (labelOf l)
 told-in l m n =
     let more : 1 < l .state = omega arith in
-    sym (ap tellLabel (label-kept l more))
+    sym (ap tellLabel (label-is-in l more))
 
 module _ (f : Spoiler) (o : Option theory.Spoiler) (p : spoilerOf f ≡ o) where
   pub told-valid : f ≡ Nothing → spoilt.Valid ≡ tellSpoiler o

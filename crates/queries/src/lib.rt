@@ -11,7 +11,7 @@ use relations::following;
 use relations::justifying;
 use repercussions::reached;
 use table::Table;
-use table::kept::keep;
+use table::arrays::arrays_of;
 use table::parts::label_of;
 use table::parts::rule_in;
 use written_lists::write_marked;
@@ -46,7 +46,7 @@ pub fn spoiler(table: Table, slot: u32) -> SpoilerAnswer
             let rules = table.rules;
             let rule = rule_in(rules, s);
             let labels = table.labels;
-            let k = keep(labels);
+            let k = arrays_of(labels);
             let flags = k.flags;
             answers::tell_rule(rule, &flags)
         }
@@ -96,7 +96,7 @@ pub fn repercussions(table: Table, atom: u32, buffer: &mut [u32]) -> ListAnswer
         Asked::Passed(a) => {
             let rules = table.rules;
             let labels = table.labels;
-            let k = keep(labels);
+            let k = arrays_of(labels);
             let flags = k.flags;
             let slots = k.slots;
             let all = reached(rules, &flags, &slots, a);

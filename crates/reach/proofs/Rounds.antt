@@ -46,7 +46,7 @@ one-if-or false false = omega arith
 -- What an edge that is followed may do to the set.
 module _ (start a c : ℕ) (before after : List Bool) where
   followed-fewer : (b : Bool) → Followed start a c before after b → outside after + one-if b ≤ outside before
-  followed-fewer true f = rw (f .grown) (outside-set before c (f .place) (f .new))
+  followed-fewer true f = rw (f .grown) (outside-set before c (f .inside) (f .new))
   followed-fewer false f = omega (arith, ap outside (f .same))
 
   followed-same : (b : Bool) → Followed start a c before after b → b ≡ false → after ≡ before

@@ -19,7 +19,7 @@ pub record Marks (start a c : ℕ) (before after : List Bool) : Type 0 where
   pub atom-from : a < document .atoms
   pub atom-to : c < document .atoms
   pub from-source : source start before a ≡ true
-  pub place : c < length before
+  pub inside : c < length before
   pub new : member before c ≡ false
   pub grown : after ≡ set before c true
 

@@ -34,7 +34,7 @@ fn is_source(flags: &[bool; Table::ATOMS], start: Atom, a: Atom) -> bool
 }
 
 // Follows one edge, from `a` to `c`: where a is the start or in the set, c comes into the set. Was it new there?
-fn follow(flags: &mut [bool; Table::ATOMS], start: Atom, a: Atom, c: Atom) -> bool
+fn follow_edge(flags: &mut [bool; Table::ATOMS], start: Atom, a: Atom, c: Atom) -> bool
     ensures { λ r. ⌜ Followed (start .0) (a .0) (c .0) (now (flags .entry)) (now (flags .exit)) r ⌝ }
 {
     if !is_source(flags, start, a) {
@@ -73,7 +73,7 @@ fn round(
     while i < n {
         let a = from[i];
         let c = to[i];
-        let more = follow(flags, start, Atom(a), Atom(c));
+        let more = follow_edge(flags, start, Atom(a), Atom(c));
         marked = marked | more;
         i += 1;
     }

@@ -11,7 +11,7 @@ use lib.Seq.{set-out}
 use Rattle.theory.proofs.Lists.{clash, le-or-lt, test, eqb-eq, eqb-of}
 use Rattle.table.specs.Sets.{member, number}
 use Rattle.table.proofs.Members.{mark-in, mark-other, mark-keeps}
-use Rattle.reason_atoms.specs.Kept.{place, KeptEntry}
+use Rattle.reason_atoms.specs.SupportEntries.{entryIndex, SupportEntry}
 use Rattle.reason_atoms.specs.Gathering.{Leads, self, onward, Falling, Gathers}
 
 -- What is reached from an atom to which a step leads from a is reached from a.
@@ -19,7 +19,7 @@ pub leads-first : {S : ℕ → ℕ → Type 0} {a e x : ℕ} → S a e → Leads
 leads-first {S = S} {a = a} s (self q) = onward (self refl) (subst (λ z. S a z) (sym q) s)
 leads-first s (onward w t) = onward (leads-first s w) t
 
--- The atom a and the first j of the entries kept for it were gathered. The idea of a search in depth: an atom that came
+-- The atom a and the first j of the entries copied for it were gathered. The idea of a search in depth: an atom that came
 -- in is a, whose first j entries are in, or another, all of whose entries are in. Of what was in before, nothing is
 -- said: a call further out is still about it. At the outermost call nothing was in before, so that the set is closed
 -- at last.
@@ -27,14 +27,14 @@ pub record Gathering (counts entries : List ℕ) (d : ℕ → ℕ) (a depth j : 
   pub long : length now ≡ length before
   pub grows : (x : ℕ) → member before x ≡ true → member now x ≡ true
   pub here : a < length before → member now a ≡ true
-  pub only : (x : ℕ) → member now x ≡ true → (member before x ≡ true) ⊎ Leads (KeptEntry counts entries) a x
+  pub only : (x : ℕ) → member now x ≡ true → (member before x ≡ true) ⊎ Leads (SupportEntry counts entries) a x
   pub others :
-      depth ≡ d a → Falling (KeptEntry counts entries) d → (x y : ℕ) → member now x ≡ true
-      → member before x ≡ false → (x ≡ a → ⊥) → KeptEntry counts entries x y → y < length before
+      depth ≡ d a → Falling (SupportEntry counts entries) d → (x y : ℕ) → member now x ≡ true
+      → member before x ≡ false → (x ≡ a → ⊥) → SupportEntry counts entries x y → y < length before
       → member now y ≡ true
   pub own :
-      depth ≡ d a → Falling (KeptEntry counts entries) d → (k : ℕ) → k < j → k < number counts a
-      → number entries (place a k) < length before → member now (number entries (place a k)) ≡ true
+      depth ≡ d a → Falling (SupportEntry counts entries) d → (k : ℕ) → k < j → k < number counts a
+      → number entries (entryIndex a k) < length before → member now (number entries (entryIndex a k)) ≡ true
 
 -- A mark past the end changes nothing.
 marks-keep : (before : List Bool) (a x : ℕ) → member before x ≡ true → member (set before a true) x ≡ true
@@ -61,15 +61,15 @@ module _ (counts entries : List ℕ) (d : ℕ → ℕ) (a depth : ℕ) (before :
   module _ (j : ℕ) (counted : j < number counts a) where
     -- Entry j of a, and the step to it.
     abbrev entry : ℕ
-    entry = number entries (place a j)
+    entry = number entries (entryIndex a j)
 
-    step : KeptEntry counts entries a entry
+    step : SupportEntry counts entries a entry
     step = record { index = j; counted = counted; there = refl }
 
     -- Entry j is in.
     with-entry :
         (now : List Bool) → Gathering counts entries d a depth j before now
-        → (depth ≡ d a → Falling (KeptEntry counts entries) d → entry < length before → member now entry ≡ true)
+        → (depth ≡ d a → Falling (SupportEntry counts entries) d → entry < length before → member now entry ≡ true)
         → Gathering counts entries d a depth (j + 1) before now
     with-entry now g h =
         record {
@@ -98,7 +98,7 @@ module _ (counts entries : List ℕ) (d : ℕ → ℕ) (a depth : ℕ) (before :
         gathering-seen t = with-entry now g (λ p f i. ap (member now) (sym is-entry) ∙ t)
 
         -- It is gathered.
-        module _ (after : List Bool) (r : Gathers (KeptEntry counts entries) d x e now after) where
+        module _ (after : List Bool) (r : Gathers (SupportEntry counts entries) d x e now after) where
           followed : Gathering counts entries d a depth j before after
           followed =
               record {
@@ -107,8 +107,8 @@ module _ (counts entries : List ℕ) (d : ℕ → ℕ) (a depth : ℕ) (before :
                 here = λ l. r .grows a (g .here l);
                 only = λ y t. ⊎-elim
                     (λ (u : member now y ≡ true). g .only y u)
-                    (λ (u : Leads (KeptEntry counts entries) x y).
-                    inr (leads-first (subst (λ z. KeptEntry counts entries a z) (sym is-entry) step) u))
+                    (λ (u : Leads (SupportEntry counts entries) x y).
+                    inr (leads-first (subst (λ z. SupportEntry counts entries a z) (sym is-entry) step) u))
                     (r .only y t);
                 others = λ p f y z t n q s l. ⊎-elim
                     (λ (u : member now y ≡ true). r .grows z (g .others p f y z u n q s l))
@@ -125,7 +125,7 @@ module _ (counts entries : List ℕ) (d : ℕ → ℕ) (a depth : ℕ) (before :
   -- All entries of a were gathered.
   pub gathering-end :
       (j : ℕ) (now : List Bool) → number counts a ≤ j → Gathering counts entries d a depth j before now
-      → Gathers (KeptEntry counts entries) d a depth before now
+      → Gathers (SupportEntry counts entries) d a depth before now
   gathering-end j now l g =
       record {
         long = g .long;
@@ -135,7 +135,7 @@ module _ (counts entries : List ℕ) (d : ℕ → ℕ) (a depth : ℕ) (before :
         closed = λ p f x y t n s i. ⊎-elim
             (λ (q : eqb x a ≡ true). (
             let e = eqb-eq x a q in
-            let s′ : KeptEntry counts entries a y = subst (λ z. KeptEntry counts entries z y) e s in
+            let s′ : SupportEntry counts entries a y = subst (λ z. SupportEntry counts entries z y) e s in
             subst (λ z. member now z ≡ true) (s′ .there)
             (g .own p f (s′ .index) (omega (arith, s′ .counted)) (s′ .counted)
             (omega (arith, s′ .there)))))

@@ -1,3 +1,3 @@
 -- Laws about the definitions of specs/. Nothing here needs to be believed: all of it is checked.
-pub mod Kept
+pub mod SupportEntries
 pub mod Gathering

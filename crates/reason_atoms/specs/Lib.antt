@@ -1,3 +1,3 @@
 -- What the functions of this crate promise one another and `reasons`.
-pub mod Kept
+pub mod SupportEntries
 pub mod Gathering

@@ -13,17 +13,17 @@ ghost use lib.ListN.{length};
 ghost use Rattle.theory.specs.Limits.{document};
 ghost use Rattle.table.specs.Sets.{number};
 ghost use Rattle.table.specs.Labels.{labelOf};
-ghost use Rattle.reason_atoms.specs.Kept.{positivesOf, EntriesOf, Slotted, place, KeptEntry};
-ghost use Rattle.reason_atoms.specs.Kept.{Room, CopiedTo};
+ghost use Rattle.reason_atoms.specs.SupportEntries.{positivesOf, EntriesOf, Slotted, entryIndex, SupportEntry};
+ghost use Rattle.reason_atoms.specs.SupportEntries.{Fits, CopiedTo};
 ghost use Rattle.reason_atoms.specs.Gathering.{Gathers};
 
 // Room for the positive entries of each atom's supporting rule.
-pub const ROOM: usize = Table::ATOMS * Table::ENTRIES;
+pub const ALL_ENTRIES: usize = Table::ATOMS * Table::ENTRIES;
 
 // The positive entries of each in atom's supporting rule: how many, and from the atom's place on the entries.
 pub struct Entries {
     pub counts: [u16; Table::ATOMS],
-    pub entries: [u16; ROOM],
+    pub entries: [u16; ALL_ENTRIES],
 }
 
 // How many positive entries the supporting rule of an atom has: 0 where the atom is not in.
@@ -37,8 +37,8 @@ fn entry_count(label: Label, rule: Rule) -> usize
 }
 
 // Copies the first n entries of the rule to the places from `from` on.
-fn copy_entries(rule: Rule, n: usize, from: usize, entries: &mut [u16; ROOM])
-    requires { ⌜ Room n from (now entries) ⌝ }
+fn copy_entries(rule: Rule, n: usize, from: usize, entries: &mut [u16; ALL_ENTRIES])
+    requires { ⌜ Fits n from (now entries) ⌝ }
     ensures { λ _. ⌜ CopiedTo (rule .entries) n from (now (entries .entry)) (now (entries .exit)) ⌝ }
 {
     let mut j: usize = 0;
@@ -50,12 +50,12 @@ fn copy_entries(rule: Rule, n: usize, from: usize, entries: &mut [u16; ROOM])
 }
 
 // The positive entries of each in atom's supporting rule, which stands in a slot of the table.
-pub fn kept_entries(rules: [Rule; Table::SLOTS], labels: [Label; Table::ATOMS]) -> Entries
+pub fn support_entries(rules: [Rule; Table::SLOTS], labels: [Label; Table::ATOMS]) -> Entries
     requires { ⌜ Slotted labels ⌝ }
     ensures { λ r. ⌜ EntriesOf rules labels (r .counts) (r .entries) ⌝ }
 {
     let mut counts: [u16; Table::ATOMS] = [0; Table::ATOMS];
-    let mut entries: [u16; ROOM] = [0; ROOM];
+    let mut entries: [u16; ALL_ENTRIES] = [0; ALL_ENTRIES];
     let mut i: usize = 0;
     while i < Table::ATOMS {
         let label = labels[i];
@@ -69,34 +69,34 @@ pub fn kept_entries(rules: [Rule; Table::SLOTS], labels: [Label; Table::ATOMS]) 
     Entries { counts, entries }
 }
 
-// Entry j of the entries kept for the atom.
-fn kept_entry(entries: &[u16; ROOM], a: Atom, j: u16) -> Atom
-    ensures { λ r. ⌜ r .0 ≡ number (now (entries .entry)) (place (a .0) j) ⌝ }
+// Entry j of the entries copied for the atom.
+fn support_entry(entries: &[u16; ALL_ENTRIES], a: Atom, j: u16) -> Atom
+    ensures { λ r. ⌜ r .0 ≡ number (now (entries .entry)) (entryIndex (a .0) j) ⌝ }
 {
     let s = &entries[..];
     let k = a.0 as usize * Table::ENTRIES + j as usize;
     if k < s.len() { Atom(s[k]) } else { Atom(0) }
 }
 
-// Gathers the atom and, of the entries kept for it, each that is of smaller depth and not gathered yet. The depth falls
-// from call to call. On a sound table every kept entry is of smaller depth, so that none is left out.
+// Gathers the atom and, of the entries copied for it, each that is of smaller depth and not gathered yet. The depth falls
+// from call to call. On a sound table every copied entry is of smaller depth, so that none is left out.
 pub fn gather(
     a: Atom,
     depth: u16,
     counts: &[u16; Table::ATOMS],
-    entries: &[u16; ROOM],
+    entries: &[u16; ALL_ENTRIES],
     depths: &[u16; Table::ATOMS],
     seen: &mut [bool; Table::ATOMS],
 )
     ensures { λ _. ⌜
-        Gathers (KeptEntry (now (counts .entry)) (now (entries .entry))) (number (now (depths .entry))) (a .0) depth
+        Gathers (SupportEntry (now (counts .entry)) (now (entries .entry))) (number (now (depths .entry))) (a .0) depth
         (now (seen .entry)) (now (seen .exit)) ⌝ }
 {
     mark(seen, a);
     let n = number_of(counts, a);
     let mut j: u16 = 0;
     while j < n {
-        let x = kept_entry(entries, a, j);
+        let x = support_entry(entries, a, j);
         j += 1;
         let d = number_of(depths, x);
         if d < depth {

@@ -31,23 +31,23 @@ use Rattle.table.specs.Sets.{member, number}
 use Rattle.table.specs.Rules.{bookOf, pastRule}
 use Rattle.table.specs.Labels.{label-in, labelAt, absentLabel}
 use Rattle.table.specs.Sound.{Sound}
-use Rattle.table.specs.declared.kept.Kept.{Kept}
-use Rattle.table.specs.Kept.{KeptOf}
-use Rattle.table.proofs.KeptFields.{depths-are, slots-are}
+use Rattle.table.specs.declared.arrays.LabelArrays.{LabelArrays}
+use Rattle.table.specs.Arrays.{ArraysOf}
+use Rattle.table.proofs.LabelArrays.{depths-are, slots-are}
 use Rattle.table.proofs.Members.{all-alike}
-use Rattle.table.proofs.Programs.{active-length, book-length, unmuted-rule, label-kept}
+use Rattle.table.proofs.Programs.{active-length, book-length, unmuted-rule, label-is-in}
 use Rattle.calls.specs.declared.ListAnswer.{ListAnswer}
 use Rattle.calls.specs.declared.ListAnswer.the-variants as listed
 use Rattle.refusals.specs.declared.Refusal.the-variants.{BufferTooShort}
 use Rattle.calls.specs.Contracts.{ReasonEnds, short, accepted}
 use Rattle.calls.proofs.Asking.{Passes, passes-low}
-use Rattle.reason_atoms.specs.Kept.{KeptIn, slotAt, positivesAt, EntriesOf, Slotted, KeptEntry}
+use Rattle.reason_atoms.specs.SupportEntries.{KeptIn, labelSlot, positivesAt, EntriesOf, Slotted, SupportEntry}
 use Rattle.reason_atoms.specs.Gathering.{Leads, Falling, Gathers}
 use Rattle.reason_atoms.specs.Gathering as gathering
 use Rattle.written_lists.specs.Lists.{below}
 use Rattle.written_lists.specs.Written.{Appends}
 use Rattle.reason_order.specs.Depths.{by-depth}
-use Rattle.reason_atoms.proofs.Kept.{keeps-entries, positives-none, positives-in, past-label, past-slot}
+use Rattle.reason_atoms.proofs.SupportEntries.{copied-entries, positives-none, positives-in, past-label, past-slot}
 use Rattle.written_lists.proofs.Written.{overwrite-all, appends-all}
 use Rattle.reason_order.proofs.Depths.{by-depth-at, by-depth-of, by-depth-count, by-depth-sorted}
 
@@ -85,7 +85,7 @@ module _ (labels : List Label) (a : ℕ) where
     unfolding first-no
     all-yes h =
         asked-10
-        ∙ first-no-yes _ [] (ap is-in-label (label-kept (getD labels a absentLabel) (omega arith)))
+        ∙ first-no-yes _ [] (ap is-in-label (label-is-in (getD labels a absentLabel) (omega arith)))
 
 -- The atom that passed 15 and 10: its refusal 12, and its reason.
 module _ (t : Table) (a : ℕ) (x : Atom) (Q : Passes t a x) where
@@ -155,7 +155,7 @@ module _ (t : Table) (long : length (t .labels) ≡ document .atoms) (sound : So
 
   -- Its kept depth and slot are the defined ones.
   kept : (x : ℕ) → M x ≡ true
-      → (2 ≤ at x .state) × Depth P M x (at x .depth) × Supporting P M x (slotAt (t .labels) x)
+      → (2 ≤ at x .state) × Depth P M x (at x .depth) × Supporting P M x (labelSlot (t .labels) x)
   kept x u = state-in B M founded x _ _ _ (sound .labels .labels x (in-below x u)) u
 
   -- Every kept slot is a slot of the table.
@@ -181,8 +181,8 @@ module _ (t : Table) (long : length (t .labels) ≡ document .atoms) (sound : So
     positives-are : positivesAt (t .rules) (t .labels) x ≡ r .positives
     positives-are =
         let w = kept x u in
-        let e : s ≡ slotAt (t .labels) x = supporting-unique P M x _ _ S (w .2) in
-        positives-in (at x) (getD (t .rules) (slotAt (t .labels) x) pastRule) (w .0)
+        let e : s ≡ labelSlot (t .labels) x = supporting-unique P M x _ _ S (w .2) in
+        positives-in (at x) (getD (t .rules) (labelSlot (t .labels) x) pastRule) (w .0)
         ∙ ap (λ q. q .positives) (unmuted-rule (t .rules) _ r (subst (λ k. Held P k r) e h))
 
     positive-in : (y : ℕ) → y ∈ r .positives → M y ≡ true
@@ -196,7 +196,7 @@ module _ (t : Table) (long : length (t .labels) ≡ document .atoms) (sound : So
   gathered-in u (onward {x = x} {y = y} s r g S h m) = positive-in x (gathered-in u g) s r S h y m
 
   module _
-      (k : Kept) (K : KeptOf (t .labels) k) (counts entries : List ℕ)
+      (k : LabelArrays) (K : ArraysOf (t .labels) k) (counts entries : List ℕ)
       (copied : EntriesOf (t .rules) (t .labels) counts entries)
     where
       -- An in atom's depth and slot, as the arrays have them.
@@ -209,35 +209,35 @@ module _ (t : Table) (long : length (t .labels) ≡ document .atoms) (sound : So
       deep : (x : ℕ) → M x ≡ true → Depth P M x (number depths x)
       deep x u =
           let w = kept x u in
-          let is-in = label-kept (at x) (omega (arith, w .0)) in
+          let is-in = label-is-in (at x) (omega (arith, w .0)) in
           subst (Depth P M x)
           (sym (ap (λ (f : ℕ → ℕ). f x) (depths-are (t .labels) k K) ∙ ap depth-in is-in)) (w .1)
 
       supporting : (x : ℕ) → M x ≡ true → Supporting P M x (number slots x)
       supporting x u =
           let w = kept x u in
-          let is-in = label-kept (at x) (omega (arith, w .0)) in
+          let is-in = label-is-in (at x) (omega (arith, w .0)) in
           subst (Supporting P M x)
           (sym (ap (λ (f : ℕ → ℕ). f x) (slots-are (t .labels) k K) ∙ ap slot-in is-in)) (w .2)
 
       -- Only an in atom has kept entries: the positive entries of its supporting rule.
-      entry-from-in : (x y : ℕ) → KeptEntry counts entries x y → M x ≡ true
+      entry-from-in : (x y : ℕ) → SupportEntry counts entries x y → M x ≡ true
       entry-from-in x y k = ⊎-elim
           (λ (l : 2 ≤ at x .state). in-model x l)
           (λ (l : at x .state < 2). (
-          let m = keeps-entries _ counts entries x (copied x) y .0 k in
+          let m = copied-entries _ counts entries x (copied x) y .0 k in
           absurd (List·Memᴰ·not-nil (subst (λ ys. y ∈ ys) (positives-none (at x) _ l) m))))
           (le-or-lt 2 (at x .state))
 
-      entry-positive : (x y : ℕ) (u : M x ≡ true) → KeptEntry counts entries x y
+      entry-positive : (x y : ℕ) (u : M x ≡ true) → SupportEntry counts entries x y
           → y ∈ kept x u .2 .supports .rule .positives
       entry-positive x y u k =
           let S = kept x u .2 in
           subst (λ ys. y ∈ ys) (positives-are x u _ _ S (S .supports .held))
-          (keeps-entries _ counts entries x (copied x) y .0 k)
+          (copied-entries _ counts entries x (copied x) y .0 k)
 
       -- They are of smaller depth: the test before the recursive call never fails.
-      pub falling : Falling (KeptEntry counts entries) (number depths)
+      pub falling : Falling (SupportEntry counts entries) (number depths)
       falling x y k =
           let u = entry-from-in x y k in
           let S = kept x u .2 in
@@ -252,7 +252,7 @@ module _ (t : Table) (long : length (t .labels) ≡ document .atoms) (sound : So
           )
 
       -- What is reached by kept entries from an in atom is gathered from it,
-      reached-gathered : {a x : ℕ} → M a ≡ true → Leads (KeptEntry counts entries) a x → Gathered P M a x
+      reached-gathered : {a x : ℕ} → M a ≡ true → Leads (SupportEntry counts entries) a x → Gathered P M a x
       reached-gathered u (gathering.self e) = asked e
       reached-gathered u (gathering.onward {x = x} {y = y} w k) =
           let v = entry-from-in x y k in
@@ -262,7 +262,7 @@ module _ (t : Table) (long : length (t .labels) ≡ document .atoms) (sound : So
       -- and a set that holds the atom and is closed under kept entries holds all that is gathered.
       gathered-seen :
           {a : ℕ} → M a ≡ true → (seen : List Bool) → member seen a ≡ true
-          → ((x y : ℕ) → member seen x ≡ true → KeptEntry counts entries x y → y < document .atoms
+          → ((x y : ℕ) → member seen x ≡ true → SupportEntry counts entries x y → y < document .atoms
           → member seen y ≡ true)
           → {x : ℕ} → Gathered P M a x → member seen x ≡ true
       gathered-seen u seen here closed (asked e) = ap (member seen) e ∙ here
@@ -270,13 +270,13 @@ module _ (t : Table) (long : length (t .labels) ≡ document .atoms) (sound : So
           let v = gathered-in u g in
           let m′ : y ∈ positivesAt (t .rules) (t .labels) x =
           subst (λ ys. y ∈ ys) (sym (positives-are x v s r S h)) m in
-          closed x y (gathered-seen u seen here closed g) (keeps-entries _ counts entries x (copied x) y .1 m′)
+          closed x y (gathered-seen u seen here closed g) (copied-entries _ counts entries x (copied x) y .1 m′)
           (in-below y (positive-in x v s r S h y m))
 
       -- The set gathered from an atom that is kept as in.
       module _
           (a : ℕ) (q : KeptIn (t .labels) a) (depth : ℕ) (is-depth : depth ≡ number depths a) (seen : List Bool)
-          (G : Gathers (KeptEntry counts entries) (number depths) a depth (replicate (document .atoms) false) seen)
+          (G : Gathers (SupportEntry counts entries) (number depths) a depth (replicate (document .atoms) false) seen)
         where
           u : M a ≡ true
           u = in-model a q
@@ -287,11 +287,11 @@ module _ (t : Table) (long : length (t .labels) ≡ document .atoms) (sound : So
               (λ x y s k l. G .closed is-depth falling x y s (all-alike (document .atoms) x false) k
               (omega (arith, length-replicate (document .atoms) false)))
 
-          reached : (x : ℕ) → member seen x ≡ true → Leads (KeptEntry counts entries) a x
+          reached : (x : ℕ) → member seen x ≡ true → Leads (SupportEntry counts entries) a x
           reached x s = ⊎-elim
               (λ (b : member (replicate (document .atoms) false) x ≡ true).
               absurd (clash b (all-alike (document .atoms) x false)))
-              (λ (w : Leads (KeptEntry counts entries) a x). w)
+              (λ (w : Leads (SupportEntry counts entries) a x). w)
               (G .only x s)
 
           seen-in : (x : ℕ) → member seen x ≡ true → M x ≡ true

@@ -10,7 +10,7 @@ use denote.Struct.Declared.{row}
 use Rattle.table.specs.declared.Label.{Label}
 use Rattle.table.specs.Labels.{absentLabel}
 use Rattle.table.proofs.Label as label-type
-use Rattle.table.proofs.Arrays.{each-at}
+use Rattle.table.proofs.Owned.{each-at}
 
 -- Depth and supporting slot have 16 bits.
 abbrev pub Small : Label → Type 0

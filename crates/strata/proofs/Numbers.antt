@@ -9,40 +9,30 @@ use mathlib.Core.List.{Memᴰ·append-left, Memᴰ·append-right}
 use mathlib.Core.Option.{some}
 use lib.ListN.{length, getD, set, length-set}
 use lib.Seq.{slice}
-use Rattle.theory.specs.Lists.{_∈_}
+use Rattle.theory.specs.Lists.{_∈_, greatest}
 use Rattle.theory.specs.Rules as theory
 use Rattle.theory.proofs.Lists.{le-or-lt}
+use Rattle.theory.proofs.Certificate.{greatest-at}
 use Rattle.table.specs.declared.Atom.{Atom}
 use Rattle.table.specs.declared.Rule.{Rule}
 use Rattle.table.specs.Sets.{number}
 use Rattle.table.specs.Rules.{numbers, ruleOf, slotOf, noAtom}
 use Rattle.table.proofs.Programs.{slot-held}
-use Rattle.table.proofs.Entries.{part-over, part-next, positives-are, negatives-are}
-use Rattle.strata.specs.Needed.{greatest, needed, AllBelow, EntriesBelow, Raised}
+use Rattle.table.proofs.Entries.{part-next, greatest-over, greatest-next, positives-are, negatives-are}
+use Rattle.strata.specs.Needed.{plus, needed, AllBelow, EntriesBelow, Raised}
 use Rattle.strata.proofs.Walks.{Entry, plain, denied}
 
 -- A walk over the entries from j to below n: what was found and what is left give the whole.
 module _ (step : ℕ) (ℓ : ℕ → ℕ) (xs : List Atom) (j n : ℕ) where
-  none-left : n ≤ j → greatest step ℓ (numbers (slice j n xs)) ≡ 0
-  unfolding greatest
-  none-left l = rw (part-over xs j n l)
+  pub walked-over :
+      (most whole : ℕ) → n ≤ j → max most (greatest (plus step ℓ) (numbers (slice j n xs))) ≡ whole → most ≡ whole
+  walked-over most whole l e = omega (arith, greatest-over (plus step ℓ) xs j n l)
 
-  one-more :
-      j < n → n ≤ length xs
-      → greatest step ℓ (numbers (slice j n xs))
-      ≡ max (step + ℓ (getD xs j noAtom .0)) (greatest step ℓ (numbers (slice (j + 1) n xs)))
-  unfolding greatest
-  one-more l k = rw (part-next xs j n l k)
-
-  pub greatest-over :
-      (most whole : ℕ) → n ≤ j → max most (greatest step ℓ (numbers (slice j n xs))) ≡ whole → most ≡ whole
-  greatest-over most whole l e = omega (arith, none-left l)
-
-  pub greatest-next :
+  pub walked-next :
       (most whole v next : ℕ) → j < n → n ≤ length xs → v ≡ ℓ (getD xs j noAtom .0) → next ≡ max most (step + v)
-      → max most (greatest step ℓ (numbers (slice j n xs))) ≡ whole
-      → max next (greatest step ℓ (numbers (slice (j + 1) n xs))) ≡ whole
-  greatest-next most whole v next l k e f g = omega (arith, one-more l k)
+      → max most (greatest (plus step ℓ) (numbers (slice j n xs))) ≡ whole
+      → max next (greatest (plus step ℓ) (numbers (slice (j + 1) n xs))) ≡ whole
+  walked-next most whole v next l k e f g = omega (arith, greatest-next (plus step ℓ) xs j n l k)
 
 -- If the entries from j to below n are below b, so are entry j and those after it.
 module _ (xs : List Atom) (b j n : ℕ) (B : AllBelow b (numbers (slice j n xs))) (l : j < n) (k : n ≤ length xs) where
@@ -71,12 +61,12 @@ module _ (r : Rule) (b e : ℕ) (long : length (r .entries) ≡ e) (held : r .st
 pub needed-held :
     (ℓ : ℕ → ℕ) (r : Rule) (b : ℕ) → length (r .entries) ≡ b → (r .state ≡ 0 → ⊥)
     → (p n : ℕ) → p ≡ min (r .positives) b → n ≡ min (r .positives + r .negatives) b
-    → (x y z : ℕ) → x ≡ greatest 0 ℓ (numbers (slice 0 p (r .entries)))
-    → y ≡ greatest 1 ℓ (numbers (slice p n (r .entries))) → z ≡ max x y → z ≡ needed ℓ (slotOf r)
+    → (x y z : ℕ) → x ≡ greatest (plus 0 ℓ) (numbers (slice 0 p (r .entries)))
+    → y ≡ greatest (plus 1 ℓ) (numbers (slice p n (r .entries))) → z ≡ max x y → z ≡ needed ℓ (slotOf r)
 needed-held ℓ r b long held p n here there x y z e f g =
-    let u : greatest 0 ℓ (ruleOf r .positives) ≡ x = ap (greatest 0 ℓ) (positives-are r b long p here) ∙ sym e in
-    let v : greatest 1 ℓ (ruleOf r .negatives) ≡ y =
-    ap (greatest 1 ℓ) (negatives-are r b long p here n there) ∙ sym f in
+    let u : greatest (plus 0 ℓ) (ruleOf r .positives) ≡ x = ap (greatest (plus 0 ℓ)) (positives-are r b long p here) ∙ sym e in
+    let v : greatest (plus 1 ℓ) (ruleOf r .negatives) ≡ y =
+    ap (greatest (plus 1 ℓ)) (negatives-are r b long p here n there) ∙ sym f in
     g ∙ sym (ap (needed ℓ) (slot-held r held) ∙ ap₂ max u v)
 
 -- The number raised, or kept.
@@ -91,32 +81,24 @@ pub raised-length : (xs ys : List ℕ) (a n : ℕ) (flag : Bool) → Raised xs a
 raised-length xs ys a n true R = ap length (R .higher refl .1) ∙ length-set xs a n
 raised-length xs ys a n false R = ap length (R .kept refl .1)
 
--- The greatest number is at least that of each atom, and that of one of them or 0.
+-- The greatest number is that of one of the atoms, or 0.
 module _ (w : ℕ) (ℓ : ℕ → ℕ) where
-  greatest-enough : (xs : List ℕ) (x : ℕ) → x ∈ xs → w + ℓ x ≤ greatest w ℓ xs
-  unfolding greatest
-  greatest-enough [] x m = absurd (List·Memᴰ·not-nil m)
-  greatest-enough (y ∷ ys) x m = ⊎-elim
-      (λ (e : x ≡ y). omega (arith, ap ℓ e))
-      (λ (m′ : x ∈ ys). omega (arith, greatest-enough ys x m′))
-      (List·Memᴰ·cases-cons m)
-
-  greatest-reached : (xs : List ℕ) → (greatest w ℓ xs ≡ 0) ⊎ ((x : ℕ) × (x ∈ xs) × (greatest w ℓ xs ≡ w + ℓ x))
+  greatest-reached : (xs : List ℕ) → (greatest (plus w ℓ) xs ≡ 0) ⊎ ((x : ℕ) × (x ∈ xs) × (greatest (plus w ℓ) xs ≡ w + ℓ x))
   unfolding greatest
   greatest-reached [] = inl refl
   greatest-reached (y ∷ ys) = ⊎-elim
-      (λ (l : w + ℓ y ≤ greatest w ℓ ys). ⊎-elim
-      (λ (e : greatest w ℓ ys ≡ 0). inl (omega arith))
-      (λ (t : (x : ℕ) × (x ∈ ys) × (greatest w ℓ ys ≡ w + ℓ x)).
+      (λ (l : w + ℓ y ≤ greatest (plus w ℓ) ys). ⊎-elim
+      (λ (e : greatest (plus w ℓ) ys ≡ 0). inl (omega arith))
+      (λ (t : (x : ℕ) × (x ∈ ys) × (greatest (plus w ℓ) ys ≡ w + ℓ x)).
       inr (t .0, List·Memᴰ·tail (t .1), omega (arith, t .2)))
       (greatest-reached ys))
-      (λ (l : greatest w ℓ ys < w + ℓ y). inr (y, List·Memᴰ·head refl, omega arith))
+      (λ (l : greatest (plus w ℓ) ys < w + ℓ y). inr (y, List·Memᴰ·head refl, omega arith))
       (le-or-lt _ _)
 
 -- So what a rule needs is at least the weight and the number of each entry, and that of one of them or 0.
 pub needed-enough : (ℓ : ℕ → ℕ) (r : theory.Rule) (x w : ℕ) → Entry r x w → w + ℓ x ≤ needed ℓ (some r)
-needed-enough ℓ r x w (plain m) = omega (arith, greatest-enough 0 ℓ (r .positives) x m)
-needed-enough ℓ r x w (denied m) = omega (arith, greatest-enough 1 ℓ (r .negatives) x m)
+needed-enough ℓ r x w (plain m) = omega (arith, greatest-at (plus 0 ℓ) (r .positives) x m)
+needed-enough ℓ r x w (denied m) = omega (arith, greatest-at (plus 1 ℓ) (r .negatives) x m)
 
 pub record Reached (ℓ : ℕ → ℕ) (r : theory.Rule) (n : ℕ) : Type 0 where
   pub atom : ℕ
@@ -128,10 +110,10 @@ pub needed-reached : (ℓ : ℕ → ℕ) (r : theory.Rule) → (needed ℓ (some
 needed-reached ℓ r = go (greatest-reached 0 ℓ (r .positives)) (greatest-reached 1 ℓ (r .negatives)) (le-or-lt p n)
   where
     p : ℕ
-    p = greatest 0 ℓ (r .positives)
+    p = greatest (plus 0 ℓ) (r .positives)
 
     n : ℕ
-    n = greatest 1 ℓ (r .negatives)
+    n = greatest (plus 1 ℓ) (r .negatives)
 
     go : (p ≡ 0) ⊎ ((x : ℕ) × (x ∈ r .positives) × (p ≡ 0 + ℓ x))
         → (n ≡ 0) ⊎ ((x : ℕ) × (x ∈ r .negatives) × (n ≡ 1 + ℓ x))

@@ -9,12 +9,13 @@ use mathlib.Core.Path.{_≡_, refl, sym, _∙_, ap, ap₂, subst}
 use mathlib.Core.Logic.{⊎-elim}
 use mathlib.Core.Bool.{Bool, true, false, _||_, true≢false}
 use mathlib.Core.List.{List}
-use mathlib.Core.Option.{Option, none, some, Option·none-ne-some}
-use lib.ListN.{length, getD, List·getD-eq-default}
+use mathlib.Core.Option.{Option, none, some}
+use lib.ListN.{length, getD}
+use borrow.Author.Count.{below-more}
 use Rattle.theory.specs.Rules.{Rule, Program, Held}
 use Rattle.theory.specs.Dependencies.{DependencyPath, here, NegativeCycle, Stratum}
 use Rattle.theory.specs.Questions.{rules}
-use Rattle.theory.proofs.Lists.{le-or-lt}
+use Rattle.theory.proofs.Questions.{held-below}
 use Rattle.theory.proofs.Rules.{held-unique}
 use Rattle.theory.proofs.Cycles.{negative-cycle?}
 use Rattle.theory.proofs.Strata.{few-negatives, Strata, strata-exact}
@@ -23,20 +24,6 @@ use Rattle.table.proofs.Members.{number-same, number-other}
 use Rattle.strata.specs.Needed.{needed, Raised}
 use Rattle.strata.proofs.Numbers.{needed-enough, Reached, needed-reached}
 use Rattle.strata.proofs.Walks.{Entry, plain, denied, Step, after, Walk, stay, step, everywhere, short-walk}
-
--- A slot that holds a rule is one of the program's.
-held-below : (P : Program) (s : ℕ) (r : Rule) → Held P s r → s < length P
-held-below P s r h = ⊎-elim
-    (λ (l : length P ≤ s). absurd (Option·none-ne-some r (sym (List·getD-eq-default P none l) ∙ h)))
-    (λ (l : s < length P). l)
-    (le-or-lt (length P) s)
-
--- What holds of each place below i, and of i, holds of each below i + 1.
-one-more : (s i : ℕ) → s < i + 1 → (F : ℕ → Type 0) → (s < i → F s) → F i → F s
-one-more s i l F f g = ⊎-elim
-    (λ (m : i ≤ s). (let e : i ≡ s = omega arith in subst F e g))
-    (λ (m : s < i). f m)
-    (le-or-lt i s)
 
 -- Each atom's number is the weight of some path from it.
 abbrev pub Attained : Program → (ℕ → ℕ) → Type 0
@@ -201,9 +188,9 @@ module _ (P : Program) (S : ℕ) (few : length (rules P) ≤ S) where
       slot-kept enough = record {
         attained = T .attained;
         covers = T .covers;
-        visited = λ s r l. one-more s i l (λ j. Held P (at j) r → Visited P k ℓ r) (λ j. T .visited s r j)
-            (λ h x w t c n j m v. omega (arith, rests r h x w t, T .covers x c n j m v));
-        resting = λ t s r l. one-more s i l (λ j. Held P (at j) r → Resting ℓ r) (λ j. T .resting t s r j) (rests r);
+        visited = λ s r l. below-more (λ j. Held P (at j) r → Visited P k ℓ r) i (λ z j. T .visited z r j)
+            (λ h x w t c n j m v. omega (arith, rests r h x w t, T .covers x c n j m v)) s l;
+        resting = λ t s r l. below-more (λ j. Held P (at j) r → Resting ℓ r) i (λ z j. T .resting t z r j) (rests r) s l;
         late = T .late;
       }
         where
@@ -216,8 +203,8 @@ module _ (P : Program) (S : ℕ) (few : length (rules P) ≤ S) where
       slot-raised m q held H = record {
         attained = higher-attained P ℓ m (q .head) _ H (T .attained) (needed-path P ℓ (T .attained) (at i) q held);
         covers = λ a c n j l v. omega (arith, up a, T .covers a c n j l v);
-        visited = λ s r l. one-more s i l (λ j. Held P (at j) r → Visited P k m r)
-            (λ z h x w t c n j l v. omega (arith, up (r .head), T .visited s r z h x w t c n j l v))
+        visited = λ s r l. below-more (λ j. Held P (at j) r → Visited P k m r) i
+            (λ y z h x w t c n j l v. omega (arith, up (r .head), T .visited y r z h x w t c n j l v))
             (λ h x w t c n j l v. omega (
               arith,
               T .covers x c n j l v,
@@ -225,7 +212,7 @@ module _ (P : Program) (S : ℕ) (few : length (rules P) ≤ S) where
               H .there,
               ap (λ (p : Rule). m (p .head)) (held-unique P (at i) q r held h),
               ap (λ (p : Rule). needed ℓ (some p)) (held-unique P (at i) q r held h),
-            ));
+            )) s l;
         resting = λ t. absurd (true≢false t);
         late = λ t l. uncovered k ℓ (T .covers) l (needed-path P ℓ (T .attained) (at i) q held .1) (H .more);
       }

@@ -3,22 +3,21 @@
 use Prim.Native.Nat.{ℕ, _+_, _≤_, _<_, max}
 use mathlib.Core.Path.{_≡_}
 use mathlib.Core.Bool.{Bool, true, false}
-use mathlib.Core.List.{List, [], _∷_}
+use mathlib.Core.List.{List}
 use mathlib.Core.Option.{Option, none, some}
 use lib.ListN.{set}
-use Rattle.theory.specs.Lists.{_∈_}
+use Rattle.theory.specs.Lists.{_∈_, greatest}
 use Rattle.theory.specs.Rules.{Rule, entries}
 use Rattle.table.specs.Sets.{number}
 
--- The greatest of the numbers of some atoms, each made greater by a step; 0 if there is no atom.
-unfoldable pub greatest : ℕ → (ℕ → ℕ) → List ℕ → ℕ
-greatest step ℓ [] = 0
-greatest step ℓ (x ∷ xs) = max (step + ℓ x) (greatest step ℓ xs)
+-- The numbers of the atoms, each made greater by a step.
+abbrev pub plus : ℕ → (ℕ → ℕ) → ℕ → ℕ
+plus step ℓ = λ x. step + ℓ x
 
 -- The least number for the head at which no entry lies above it and each negative entry lies below it.
 abbrev pub needed : (ℕ → ℕ) → Option Rule → ℕ
 needed ℓ none = 0
-needed ℓ (some r) = max (greatest 0 ℓ (r .positives)) (greatest 1 ℓ (r .negatives))
+needed ℓ (some r) = max (greatest (plus 0 ℓ) (r .positives)) (greatest (plus 1 ℓ) (r .negatives))
 
 -- All numbers of a list are below n; all entries of a slot's rule are, if it holds one.
 abbrev pub AllBelow : ℕ → List ℕ → Type 0

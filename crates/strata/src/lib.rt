@@ -10,12 +10,13 @@ use table::turns::slot_at;
 ghost use mathlib.Core.Path.{_≡_};
 ghost use Prim.Native.Nat.{_≤_, _<_};
 ghost use lib.Seq.{slice};
+ghost use Rattle.theory.specs.Lists.{greatest};
 ghost use Rattle.theory.specs.Rules.{Bounded};
 ghost use Rattle.theory.specs.Limits.{document};
 ghost use Rattle.table.specs.Sets.{number};
 ghost use Rattle.table.specs.Rules.{numbers, slotOf, programOf};
 ghost use Rattle.strata.specs.Answer.{StrataOf};
-ghost use Rattle.strata.specs.Needed.{greatest, needed, AllBelow, EntriesBelow, Raised};
+ghost use Rattle.strata.specs.Needed.{plus, needed, AllBelow, EntriesBelow, Raised};
 
 // Either each atom's stratum, or that there is a negative cycle; `of` says nothing then.
 pub struct Stratification {
@@ -37,7 +38,7 @@ fn number_at(kept: &[u16; Table::ATOMS], a: Atom) -> u16
 // The greatest number among the entries from `from` to below `to`, each `step` more than is kept for it; 0 if none.
 fn greatest(rule: Rule, from: usize, to: usize, kept: &[u16; Table::ATOMS], step: u16) -> usize
     requires { ⌜ (to ≤ document .entries) × AllBelow (document .atoms) (numbers (slice from to (rule .entries))) ⌝ }
-    ensures { λ r. ⌜ r ≡ greatest step (number (now (kept .entry))) (numbers (slice from to (rule .entries))) ⌝ }
+    ensures { λ r. ⌜ r ≡ greatest (plus step (number (now (kept .entry)))) (numbers (slice from to (rule .entries))) ⌝ }
 {
     let mut most: usize = 0;
     let mut j = from;

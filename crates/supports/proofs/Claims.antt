@@ -23,7 +23,7 @@ use Rattle.table.specs.Sets.{member, number}
 use Rattle.table.proofs.Members.{all-alike}
 use Rattle.depths.specs.Numbers.{DepthsOf}
 use Rattle.supports.specs.Supports.{SupportsOf}
-use Rattle.supports.specs.Claims.{ready, put-if, claims, Claimed}
+use Rattle.supports.specs.Claims.{ready, set-if, claims, Claimed}
 use Rattle.supports.proofs.Slots.{ready-at, ready-of}
 
 -- With the slots below i passed: an atom that is found has its supporting slot, and no slot passed supports another.
@@ -102,7 +102,7 @@ module _ (P : Program) (M : AtomSet) (A : Admissible P M) (d : ℕ → ℕ) (D :
       | inl k ↦ (let q : u ≡ s = omega arith in x (subst (λ (z : ℕ). Supports P M a z) q S))
     ]
 
-    go : (t : Bool) → t ≡ claims M d o h found → Scan P M n (s + 1) (put-if t h true found) (put-if t h s slots)
+    go : (t : Bool) → t ≡ claims M d o h found → Scan P M n (s + 1) (set-if t h true found) (set-if t h s slots)
     go false e = record {
       long-found = W .long-found;
       long-slots = W .long-slots;

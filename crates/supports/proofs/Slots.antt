@@ -15,7 +15,7 @@ use Rattle.table.specs.Sets.{member}
 use Rattle.table.proofs.Programs.{active-none, active-some}
 use Rattle.depths.specs.Numbers.{within}
 use Rattle.depths.proofs.Slots.{within-at}
-use Rattle.supports.specs.Claims.{ready, put-if, claims, Claimed}
+use Rattle.supports.specs.Claims.{ready, set-if, claims, Claimed}
 
 -- A slot that is ready, taken apart.
 pub record Ready (M : AtomSet) (d : ℕ → ℕ) (limit : ℕ) (o : Option Rule) : Type 0 where
@@ -69,10 +69,10 @@ module _ (M : AtomSet) (d : ℕ → ℕ) (limit : ℕ) (r : table.Rule) where
 -- A slot in the pass for supporting slots.
 module _ (M : AtomSet) (d : ℕ → ℕ) (s : ℕ) (o : Option Rule) (a : ℕ) (found : List Bool) (slots : List ℕ) where
   claimed : (t : Bool) → claims M d o a found ≡ t → (found′ : List Bool) (slots′ : List ℕ)
-      → found′ ≡ put-if t a true found → slots′ ≡ put-if t a s slots → Claimed M d s o a found found′ slots slots′
+      → found′ ≡ set-if t a true found → slots′ ≡ set-if t a s slots → Claimed M d s o a found found′ slots slots′
   claimed t e found′ slots′ f g = record {
-    marked = f ∙ sym (ap (λ z. put-if z a true found) e);
-    stored = g ∙ sym (ap (λ z. put-if z a s slots) e);
+    marked = f ∙ sym (ap (λ z. set-if z a true found) e);
+    stored = g ∙ sym (ap (λ z. set-if z a s slots) e);
   }
 
   pub claimed-found : member found a ≡ true → Claimed M d s o a found found slots slots

@@ -16,9 +16,9 @@ unfoldable pub ready : AtomSet → (ℕ → ℕ) → ℕ → Option Rule → Boo
 ready M d limit o = passes (λ r. every (within d limit) (r .positives) && valid M r) o
 
 -- The list with v at place a, if the test t passes; else as it is.
-abbrev pub put-if : {A : Type 0} → Bool → ℕ → A → List A → List A
-put-if true a v l = set l a v
-put-if false a v l = l
+abbrev pub set-if : {A : Type 0} → Bool → ℕ → A → List A → List A
+set-if true a v l = set l a v
+set-if false a v l = l
 
 -- Slot s, which is o with head a, in the pass for supporting slots: if none was found for a and the slot is ready for
 -- a's depth, it is a's supporting slot.
@@ -28,5 +28,5 @@ claims M d o a found = not (member found a) && ready M d (d a) o
 pub record Claimed
     (M : AtomSet) (d : ℕ → ℕ) (s : ℕ) (o : Option Rule) (a : ℕ) (found found′ : List Bool) (slots slots′ : List ℕ)
     : Type 0 where
-  pub marked : found′ ≡ put-if (claims M d o a found) a true found
-  pub stored : slots′ ≡ put-if (claims M d o a found) a s slots
+  pub marked : found′ ≡ set-if (claims M d o a found) a true found
+  pub stored : slots′ ≡ set-if (claims M d o a found) a s slots

@@ -1,6 +1,6 @@
 -- Laws of reading an array place by place, and of a rule's two lists as parts of its entries. Assumes nothing.
 -- The number of entries is a parameter of each law.
-use Prim.Native.Nat.{ℕ, zero, suc, _+_, _-_, _≤_, _<_, min}
+use Prim.Native.Nat.{ℕ, zero, suc, _+_, _-_, _≤_, _<_, min, max}
 use native.Mathlib.Omega.{arith}
 use native.Mathlib.Numerals.{add-one}
 use mathlib.Core.Path.{_≡_, refl, sym, _∙_, ap, ap₂}
@@ -12,7 +12,7 @@ use lib.ListN.{length, getD, take, drop, set, length-map, length-take, drop-of-l
 use lib.ListN.{List·getD-map, List·getD-eq-default}
 use lib.Seq.{slice, slice-cons, length-slice, getD-drop, getD-take}
 use lib.Seq.{take-add, take-suc, take-suc-set, take-all, take-nil}
-use Rattle.theory.specs.Lists.{every, before}
+use Rattle.theory.specs.Lists.{every, before, greatest}
 use Rattle.theory.specs.Rules as theory
 use Rattle.theory.specs.Models.{AtomSet, valid}
 use Rattle.theory.specs.Labels.{Side, positive, negative, first-on, spoiler}
@@ -82,6 +82,18 @@ module _ (f : ℕ → Bool) (xs : List Atom) (j n : ℕ) where
   before-stop l k t =
       let e = ap (before f) (part-next xs j n l k) ∙ before-hit f _ _ t in
       omega (arith, e)
+
+-- The greatest number of a part: none, or the greater of that of entry j and of the rest.
+module _ (d : ℕ → ℕ) (xs : List Atom) (j n : ℕ) where
+  pub greatest-over : n ≤ j → greatest d (numbers (slice j n xs)) ≡ 0
+  unfolding greatest
+  greatest-over l = rw (part-over xs j n l)
+
+  pub greatest-next :
+      j < n → n ≤ length xs
+      → greatest d (numbers (slice j n xs)) ≡ max (d (getD xs j noAtom .0)) (greatest d (numbers (slice (j + 1) n xs)))
+  unfolding greatest
+  greatest-next l k = rw (part-next xs j n l k)
 
 -- Where a walk over the part from j to below n stopped, at k: at the first entry that passes, or past the part.
 module _ (d : Side) (f : ℕ → Bool) (xs : List Atom) (j n : ℕ) (in-it : n ≤ length xs) (k : ℕ)

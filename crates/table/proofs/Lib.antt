@@ -4,7 +4,8 @@ pub mod Entries
 pub mod Programs
 pub mod Walks
 pub mod Empty
-pub mod Arrays
+pub mod Owned
 pub mod Copies
-pub mod KeptFields
+pub mod LabelArrays
+pub mod CleanLabels
 pub mod SlotsInTurn

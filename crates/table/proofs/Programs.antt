@@ -123,10 +123,10 @@ label-absent l e = ap (λ n. label-in n (l .depth) (l .slot .0)) e
 pub label-out : (l : Label) → l .state ≡ 1 → labelOf l ≡ out
 label-out l e = ap (λ n. label-in n (l .depth) (l .slot .0)) e
 
-pub label-kept : (l : Label) → 1 < l .state → labelOf l ≡ in-at (l .depth) (l .slot .0)
-label-kept l h = kept (l .state) h
+pub label-is-in : (l : Label) → 1 < l .state → labelOf l ≡ in-at (l .depth) (l .slot .0)
+label-is-in l h = more (l .state) h
   where
-    kept : (n : ℕ) → 1 < n → label-in n (l .depth) (l .slot .0) ≡ in-at (l .depth) (l .slot .0)
-    kept zero k = absurd (omega arith)
-    kept (suc zero) k = absurd (omega arith)
-    kept (suc (suc n)) k = refl
+    more : (n : ℕ) → 1 < n → label-in n (l .depth) (l .slot .0) ≡ in-at (l .depth) (l .slot .0)
+    more zero k = absurd (omega arith)
+    more (suc zero) k = absurd (omega arith)
+    more (suc (suc n)) k = refl

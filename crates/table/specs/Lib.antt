@@ -3,7 +3,7 @@
 pub mod Sets
 pub mod Rules
 pub mod Labels
-pub mod Kept
+pub mod Arrays
 pub mod Turns
 pub mod Questions
 pub mod Clean

@@ -5,7 +5,7 @@ ghost use Rattle.table.specs.Labels.{absentLabel};
 
 pub mod sets; // sets.rt: sets, numbers and slots of atoms, kept in arrays
 pub mod parts; // parts.rt: the rule in a slot, the label kept for an atom
-pub mod kept; // kept.rt: what the labels keep, in arrays
+pub mod arrays; // arrays.rt: what the labels keep, in arrays
 pub mod turns; // turns.rt: rounds over the slots, upwards or downwards
 
 // The number of an atom, and the number of a slot. One passed where the other is meant does not build:

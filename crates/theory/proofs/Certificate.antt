@@ -10,21 +10,21 @@ use mathlib.Core.Logic.{_⊎_, ⊎-elim}
 use mathlib.Core.Bool.{true, false, not, true≢false}
 use mathlib.Core.List.{List, [], _∷_, List·Memᴰ, List·Memᴰ·head, List·Memᴰ·tail, List·Memᴰ·cases-cons}
 use mathlib.Core.List.{List·Memᴰ·not-nil, map, Memᴰ·map}
-use Rattle.theory.specs.Lists.{_∈_}
+use Rattle.theory.specs.Lists.{_∈_, greatest}
 use Rattle.theory.specs.Rules.{active, all, Held, Occurs, Pages, Program, Rule}
 use Rattle.theory.specs.Models.{Admissible, AtomSet, Founded, next, Ordered, start, valid}
 use Rattle.theory.specs.Derivations.{also, by, Depth, Derivation, Derivations, leaf}
 use Rattle.theory.specs.Labels.{absent, in-at, is-absent, is-in, is-out, Label, Labelled, out, Supporting}
 use Rattle.theory.specs.Labels.{Supports}
 use Rattle.theory.specs.Questions.{is-in-label, rules}
-use Rattle.theory.specs.Certificate.{depth-in, greatest, kept-depth, kept-in, level}
+use Rattle.theory.specs.Certificate.{depth-in, kept-depth, kept-in, level}
 use Rattle.theory.proofs.Lists.{clash, in-mem, le-or-lt, mem, mem-in, test}
 use Rattle.theory.proofs.Rules.{rules-of, valid-positive}
 use Rattle.theory.proofs.Derivations.{entry, last}
 use Rattle.theory.proofs.Depths.{depth-unique, greatest-le, settled-depth}
 use Rattle.theory.proofs.Labels.{label-in}
 
--- The greatest of some atoms' numbers.
+-- The greatest is no smaller than what d gives of an entry.
 
 pub greatest-at : (d : ℕ → ℕ) (xs : List ℕ) (x : ℕ) → x ∈ xs → d x ≤ greatest d xs
 unfolding greatest

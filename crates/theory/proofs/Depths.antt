@@ -8,11 +8,10 @@ use mathlib.Core.List.{List, [], _∷_, List·Memᴰ·head, List·Memᴰ·tail, 
 use mathlib.Core.List.{List·Memᴰ·not-nil}
 use lib.Dec.{eqb}
 use lib.ListN.{length}
-use Rattle.theory.specs.Lists.{_∈_, every, Sorted}
+use Rattle.theory.specs.Lists.{_∈_, every, Sorted, greatest}
 use Rattle.theory.specs.Rules.{any-rule, Held, Program, Rule}
 use Rattle.theory.specs.Models.{AtomSet, Closed, Founded, next, Ordered, start, valid}
 use Rattle.theory.specs.Derivations.{by, Depth, Derivation}
-use Rattle.theory.specs.Certificate.{greatest}
 use Rattle.theory.proofs.Lists.{and-l, and-of, and-r, clash, eqb-eq, eqb-of, every-at, every-of, le-or-lt}
 use Rattle.theory.proofs.Lists.{sorted-within, test, unless}
 use Rattle.theory.proofs.Rules.{any-rule-at, any-rule-of}

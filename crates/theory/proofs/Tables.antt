@@ -10,7 +10,7 @@ use mathlib.Core.List.{List·Memᴰ·not-nil, Memᴰ·map}
 use mathlib.Core.Option.{Option, none, some}
 use lib.Dec.{eqb, leb}
 use lib.ListN.{getD}
-use Rattle.theory.specs.Lists.{_∈_, any, distinct, every, insert, same-members, sort}
+use Rattle.theory.specs.Lists.{_∈_, any, distinct, every, greatest, insert, same-members, sort}
 use Rattle.theory.specs.Rules.{active, all, any-rule, entries, Held, Occurs, Pages, passes, Program, Rule, same}
 use Rattle.theory.specs.Models.{AtomSet, valid}
 use Rattle.theory.specs.Labels.{absent, in-at, Label, Labelled, out}
@@ -21,7 +21,7 @@ use Rattle.theory.specs.Tables.{Example, left, Row, Shows, tables}
 use Rattle.theory.proofs.Lists.{and-l, and-of, and-r, clash, eqb-eq, eqb-of, every-at, le-or-lt, leb-le, mem}
 use Rattle.theory.proofs.Lists.{mem-in, not-true, or-cases, test}
 use Rattle.theory.proofs.Rules.{any-rule-of, occurs-at, occurs-test, passes-at}
-use Rattle.theory.specs.Certificate.{greatest, kept-depth, kept-in, level}
+use Rattle.theory.specs.Certificate.{kept-depth, kept-in, level}
 use Rattle.theory.proofs.Certificate.{Certified, certified-admissible, certified-labels}
 
 -- The label that the rows give an atom: absent if no row names it.

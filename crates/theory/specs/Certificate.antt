@@ -1,6 +1,6 @@
 -- What labels keep of each atom, and the level of a rule by the depths kept. Assumes nothing.
-use Prim.Native.Nat.{ℕ, zero, suc, max}
-use mathlib.Core.List.{List, [], _∷_}
+use Prim.Native.Nat.{ℕ, zero, suc}
+use Rattle.theory.specs.Lists.{greatest}
 use Rattle.theory.specs.Rules.{Rule}
 use Rattle.theory.specs.Models.{AtomSet}
 use Rattle.theory.specs.Labels.{absent, in-at, Label, out}
@@ -27,11 +27,6 @@ slot-in (in-at d s) = s
 
 abbrev pub kept-slot : (ℕ → Label) → ℕ → ℕ
 kept-slot label = λ a. slot-in (label a)
-
--- The greatest of some atoms' numbers, 0 where there is none.
-unfoldable pub greatest : (ℕ → ℕ) → List ℕ → ℕ
-greatest d [] = zero
-greatest d (x ∷ xs) = max (d x) (greatest d xs)
 
 -- The level of a rule: 1 more than the greatest depth of its positive entries.
 abbrev pub level : (ℕ → ℕ) → Rule → ℕ

@@ -39,6 +39,11 @@ pub record FirstAt (f : ℕ → Bool) (xs : List ℕ) (i x : ℕ) : Type 0 where
   pub good : f x ≡ true
   pub earlier : (j : ℕ) → j < i → f (getD xs j 0) ≡ false
 
+-- The greatest of what d gives of the entries, 0 where there is none.
+unfoldable pub greatest : (ℕ → ℕ) → List ℕ → ℕ
+greatest d [] = zero
+greatest d (x ∷ xs) = max (d x) (greatest d xs)
+
 -- No number stands in the list twice.
 unfoldable pub distinct : List ℕ → Bool
 distinct [] = true

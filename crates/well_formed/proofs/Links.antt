@@ -16,7 +16,7 @@ use Rattle.table.specs.Rules.{numbers, noAtom}
 use Rattle.table.proofs.Entries.{part-over, part-next}
 use Rattle.table.proofs.Members.{number-same, number-other}
 use Rattle.well_formed.specs.Slots.{Single}
-use Rattle.well_formed.specs.Keys.{mixed, key, slot-key}
+use Rattle.well_formed.specs.Keys.{keys, modulus, factor, mixed, key, slot-key}
 use Rattle.questions.proofs.Passes.{equal?}
 
 -- k is 1 more than the last slot below `end` that holds a rule of the key h; 0 if there is none.
@@ -26,9 +26,9 @@ pub record Link (P : Program) (h k end : ℕ) : Type 0 where
   pub free : (t : ℕ) → k ≤ t → t < end → (r : Rule) → Held P t r → key r ≡ h → ⊥
 
 -- The links after i slots: the last slot of each key, the one before of each slot; and no two rules so far are equal.
--- There are 256 keys, and m slots.
+-- There are m slots.
 pub record Linked (P : Program) (m : ℕ) (last before : List ℕ) (i : ℕ) : Type 0 where
-  pub size : length last ≡ 256
+  pub size : length last ≡ keys
   pub long : length before ≡ m
   pub lasts : (h : ℕ) → Link P h (number last h) i
   pub befores : (t : ℕ) → t < i → (r : Rule) → Held P t r → Link P (key r) (number before t) t
@@ -41,13 +41,13 @@ pub record Following (P : Program) (o : Option Rule) (i k : ℕ) : Type 0 where
   pub at : 0 < k → (r : Rule) × Held P (k - 1) r × (key r ≡ slot-key o)
   pub differ : (q : Rule) → o ≡ some q → (t : ℕ) → k ≤ t → t < i → Held P t q → ⊥
 
--- A key is below 256.
-mixed-below : (xs : List ℕ) (k : ℕ) → mixed k xs < 256
+-- A key is below the number of keys.
+mixed-below : (xs : List ℕ) (k : ℕ) → mixed k xs < keys
 unfolding mixed
 mixed-below [] k = omega arith
-mixed-below (x ∷ xs) k = mixed-below xs ((8121 * k + x) % 65536)
+mixed-below (x ∷ xs) k = mixed-below xs ((factor * k + x) % modulus)
 
-key-below : (q : Rule) → key q < 256
+key-below : (q : Rule) → key q < keys
 key-below q = mixed-below (entries q) (q .head)
 
 -- A slot with the key of a rule is not free.
@@ -56,28 +56,28 @@ linked-held none r e = absurd (omega (arith, key-below r))
 linked-held (some q) r e = (q, refl)
 
 -- A walk over the entries from j to below m: what was mixed in and what is left give the whole.
-none-left : (k : ℕ) (ys : List ℕ) → ys ≡ [] → mixed k ys ≡ 8121 * k % 65536 / 256
+none-left : (k : ℕ) (ys : List ℕ) → ys ≡ [] → mixed k ys ≡ factor * k % modulus / keys
 unfolding mixed
 none-left k ys e = rw e refl
 
-one-left : (k y : ℕ) (ys zs : List ℕ) → zs ≡ y ∷ ys → mixed k zs ≡ mixed ((8121 * k + y) % 65536) ys
+one-left : (k y : ℕ) (ys zs : List ℕ) → zs ≡ y ∷ ys → mixed k zs ≡ mixed ((factor * k + y) % modulus) ys
 unfolding mixed
 one-left k y ys zs e = rw e refl
 
 module _ (xs : List Atom) (j m k whole : ℕ) (W : mixed k (numbers (slice j m xs)) ≡ whole) where
-  pub mixed-over : m ≤ j → 8121 * k % 65536 / 256 ≡ whole
+  pub mixed-over : m ≤ j → factor * k % modulus / keys ≡ whole
   mixed-over l = sym (none-left k (numbers (slice j m xs)) (part-over xs j m l)) ∙ W
 
   pub mixed-next :
-      j < m → m ≤ length xs → (x next : ℕ) → x ≡ getD xs j noAtom .0 → next ≡ (8121 * k + x) % 65536
+      j < m → m ≤ length xs → (x next : ℕ) → x ≡ getD xs j noAtom .0 → next ≡ (factor * k + x) % modulus
       → mixed next (numbers (slice (j + 1) m xs)) ≡ whole
   mixed-next l b x next e f =
-      ap (λ (z : ℕ). mixed z (numbers (slice (j + 1) m xs))) (f ∙ ap (λ (z : ℕ). (8121 * k + z) % 65536) e)
+      ap (λ (z : ℕ). mixed z (numbers (slice (j + 1) m xs))) (f ∙ ap (λ (z : ℕ). (factor * k + z) % modulus) e)
       ∙ sym (one-left k (getD xs j noAtom .0) (numbers (slice (j + 1) m xs)) (numbers (slice j m xs))
       (part-next xs j m l b)) ∙ W
 
 module _ (P : Program) (m : ℕ) where
-  pub links-start : (last before : List ℕ) → length last ≡ 256 → length before ≡ m → ((h : ℕ) → number last h ≡ 0)
+  pub links-start : (last before : List ℕ) → length last ≡ keys → length before ≡ m → ((h : ℕ) → number last h ≡ 0)
       → Linked P m last before 0
   links-start last before l k z = record {
     size = l;
@@ -153,7 +153,7 @@ module _ (P : Program) (m : ℕ) where
         → Link P h (number (set last (slot-key o) (i + 1)) h) (i + 1)
     lasts-next none e h =
         subst (λ (xs : List ℕ). Link P h (number xs h) (i + 1))
-        (sym (set-out last 256 (i + 1) (omega (arith, L .size))))
+        (sym (set-out last keys (i + 1) (omega (arith, L .size))))
         (pass-by h (number last h) (L .lasts h) (λ r g. absurd (Option·none-ne-some r (sym e ∙ g))))
     lasts-next (some q) e h = ⊎-elim
         (λ (z : h ≡ key q). (

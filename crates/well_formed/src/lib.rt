@@ -10,7 +10,7 @@ use table::Table;
 ghost use mathlib.Core.Path.{_≡_};
 ghost use mathlib.Core.Bool.{true};
 ghost use mathlib.Core.Logic.{_↔_};
-ghost use Prim.Native.Nat.{ℕ, _<_, _≤_};
+ghost use Prim.Native.Nat.{ℕ, _<_};
 ghost use lib.ListN.{getD, set};
 ghost use Rattle.theory.specs.Limits.{document};
 ghost use Rattle.table.specs.Sets.{number};
@@ -18,7 +18,14 @@ ghost use Rattle.table.specs.Rules.{slotOf, ruleOf, programOf, pastRule};
 ghost use Rattle.table.specs.Labels.{absentLabel};
 ghost use Rattle.table.specs.Clean.{WellFormed, CleanLabel};
 ghost use Rattle.well_formed.specs.Slots.{Single};
-ghost use Rattle.well_formed.specs.Keys.{key, slot-key};
+ghost use Rattle.well_formed.specs.Keys.{modulus, key, slot-key};
+
+// Keys, by which rules are linked: see specs/Keys.antt.
+const KEYS: usize = Table::SLOTS;
+
+const MODULUS: usize = KEYS * KEYS;
+
+const FACTOR: usize = 8121;
 
 // Is every slot one that a sound table can have?
 pub fn slots_well_formed(rules: [Rule; Table::SLOTS]) -> bool
@@ -50,9 +57,9 @@ pub fn labels_clean(labels: [Label; Table::ATOMS]) -> bool
     true
 }
 
-// The number of an atom, which is not above 65535.
+// The number of an atom.
 fn wide(a: Atom) -> usize
-    ensures { λ r. ⌜ (r ≡ a .0) × (r ≤ 65535) ⌝ }
+    ensures { λ r. ⌜ (r ≡ a .0) × (r < modulus) ⌝ }
 {
     a.0 as usize
 }
@@ -67,10 +74,10 @@ fn key(rule: Rule) -> usize
     while j < n {
         let a = rule.entries[j];
         let x = wide(a);
-        k = (8121 * k + x) % 65536;
+        k = (FACTOR * k + x) % MODULUS;
         j += 1;
     }
-    8121 * k % 65536 / 256
+    FACTOR * k % MODULUS / KEYS
 }
 
 // The key by which the slot is linked: that of its rule. A free slot has one past the last, by which nothing is linked.
@@ -78,13 +85,13 @@ fn slot_key(rule: Rule) -> usize
     ensures { λ r. ⌜ r ≡ slot-key (slotOf rule) ⌝ }
 {
     if rule.state == 0 {
-        return 256;
+        return KEYS;
     }
     key(rule)
 }
 
 // Where to start looking for an equal rule: 1 more than the last slot so far of this key; 0 if there is none.
-fn last_of(k: usize, last: &[u16; 256]) -> u16
+fn last_of(k: usize, last: &[u16; KEYS]) -> u16
     ensures { λ r. ⌜ r ≡ number (now (last .entry)) k ⌝ }
 {
     let s = &last[..];
@@ -92,7 +99,7 @@ fn last_of(k: usize, last: &[u16; 256]) -> u16
 }
 
 // The slot before `next` is now the last of this key; past the last key nothing is kept.
-fn note(k: usize, last: &mut [u16; 256], next: u16)
+fn note(k: usize, last: &mut [u16; KEYS], next: u16)
     ensures { λ _. ⌜ now (last .exit) ≡ set (now (last .entry)) k next ⌝ }
 {
     let s = &mut last[..];
@@ -106,7 +113,7 @@ fn note(k: usize, last: &mut [u16; 256], next: u16)
 pub fn no_two_equal(rules: [Rule; Table::SLOTS]) -> bool
     ensures { λ r. ⌜ (r ≡ true) ↔ Single (programOf rules) ⌝ }
 {
-    let mut last: [u16; 256] = [0; 256];
+    let mut last: [u16; KEYS] = [0; KEYS];
     let mut before: [u16; Table::SLOTS] = [0; Table::SLOTS];
     let mut i: usize = 0;
     while i < Table::SLOTS {

@@ -12,7 +12,7 @@ use lib.ListN.{length, length-map}
 use Rattle.theory.proofs.Lists.{not-true, not-false}
 use Rattle.table.proofs.Members.{all-alike}
 use Rattle.questions.proofs.Passes.{member-below}
-use Rattle.table.proofs.KeptFields.{flags-long}
+use Rattle.table.proofs.LabelArrays.{flags-long}
 use Rattle.certificate.proofs.Apart.{of-labels}
 use borrow.Author.Needs.{needs}
 use Rattle.certificate.proofs.certified.Statement.{statement}
@@ -25,8 +25,8 @@ Inv-loop rules flags depths slots found₀ i₀ found i =
 abbrev μ-loop : tie.MeasureT-loop
 μ-loop rules flags depths slots found₀ i₀ found i = document .slots - i
 
-keep-requires : tie.Need-keep-requires Inv-loop μ-loop
-keep-requires c κs = tt
+arrays-of-requires : tie.Need-arrays-of-requires Inv-loop μ-loop
+arrays-of-requires c κs = tt
 
 loop-holds : tie.Need-loop-holds Inv-loop μ-loop
 loop-holds c = checked-start _ _ _ _ _ _ refl (λ a. all-alike 256 a false)
@@ -48,7 +48,7 @@ returns c =
     let o = c .before .before .before .before .before .before .before .before in
     let a = c .before .before .before .before .before .before .before .before .before .before .before .before in
     let s = a .before in
-    of-labels (s .args .labels) _ (a .keep .ensures) _ _
+    of-labels (s .args .labels) _ (a .arrays-of .ensures) _ _
     (slot-fails (s .args .t1) _ _ _ (o .loop .i) _ _ _ (c .before .agrees .ensures) (not-true _ (c .if1 .taken)))
 
 add-i : tie.Need-add-i Inv-loop μ-loop
@@ -64,7 +64,7 @@ loop-again c =
     let s = a .before in
     let long : length (s .args .labels) ≡ 256 = search needs in
     slot-passes (s .args .t1) _ _ _ (o .loop .i) _ _ _ (c .before .agrees .ensures) 256
-    (member-below (a .keep .result .flags) 256 (flags-long (s .args .labels) _ (a .keep .ensures) ∙ long))
+    (member-below (a .arrays-of .result .flags) 256 (flags-long (s .args .labels) _ (a .arrays-of .ensures) ∙ long))
     (o .loop .inv) (not-false _ (c .if1 .left))
 
 all-found-requires : tie.Need-all-found-requires Inv-loop μ-loop
@@ -77,7 +77,7 @@ returns-2 c =
     let s = a .before in
     let long : length (s .args .t1) ≡ 256 = search needs in
     let over : length (activeOf (s .args .t1)) ≤ o .loop .i = simp length-map (omega arith) in
-    of-labels (s .args .labels) _ (a .keep .ensures) _ _
+    of-labels (s .args .labels) _ (a .arrays-of .ensures) _ _
     (checked-all _ _ _ _ 256 _ _ over (o .loop .inv) _ (c .all-found .ensures))
 
 pub certified-spec : {M : Type 1} → statement M
@@ -86,7 +86,7 @@ certified-spec =
     (tie.spec
     Inv-loop
     μ-loop
-    keep-requires
+    arrays-of-requires
     loop-holds
     mul-rule
     array-copy-out-rule

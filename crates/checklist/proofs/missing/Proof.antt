@@ -34,8 +34,8 @@ returns-2 c =
     contract.refused TableUnsound (s .is-sound .ensures .0 (not-false _ (i .if1 .left)))
     (first-no-here (asks 15 _) [] (ap is-some (counted-none (held t) _ (f .file-count .ensures) (c .if2 .taken))))
 
-keep-requires : tie.Need-keep-requires
-keep-requires c κs = search needs
+arrays-of-requires : tie.Need-arrays-of-requires
+arrays-of-requires c κs = search needs
 
 lacking-requires : tie.Need-lacking-requires
 lacking-requires c κs =
@@ -65,7 +65,7 @@ returns-3 c =
     let s = i .before in
     let t = s .before .before .args .table in
     missing-ends t (s .is-sound .ensures .0 (not-false _ (i .if1 .left))) _
-    (counted-some (held t) _ (f .file-count .ensures) (i2 .if2 .left)) (k .keep .result) (k .keep .ensures) _
+    (counted-some (held t) _ (f .file-count .ensures) (i2 .if2 .left)) (k .arrays-of .result) (k .arrays-of .ensures) _
     (l .lacking .ensures) (w .write-marked .ensures)
 
 pub missing-spec : {M : Type 1} → statement M
@@ -76,7 +76,7 @@ missing-spec =
     returns
     file-count-requires
     returns-2
-    keep-requires
+    arrays-of-requires
     lacking-requires
     slice-aggregate-write-marked
     write-marked-requires

@@ -2,7 +2,7 @@
 use Prim.Native.Nat.{_-_}
 use native.Mathlib.Omega.{arith}
 use lib.ListN.{length, length-map}
-use Rattle.theory.specs.Certificate.{greatest}
+use Rattle.theory.specs.Lists.{greatest}
 use Rattle.table.specs.Sets.{number}
 use Rattle.table.specs.Rules.{ruleOf}
 use Rattle.depths.proofs.Greatest.{Walked, walked-start, walked-next, walked-over}

@@ -10,7 +10,7 @@ use Rattle.theory.proofs.Lists.{not-true, not-false}
 use Rattle.theory.proofs.Found.{found-filled}
 use Rattle.table.specs.Rules.{activeOf, pastRule}
 use Rattle.table.specs.Sets.{member, number}
-use Rattle.model.proofs.Visits.{Left, left-start, left-idle, left-stop, left-add, left-rest, waits-missing}
+use Rattle.model.proofs.Visits.{Left, left-start, left-idle, left-stop, left-add, left-rest, waits-sought}
 use Rattle.model.proofs.Visits.{NoneFrom, Seen, seen-start, seen-over, seen-here, seen-mark, seen-end}
 use Rattle.model.proofs.Rounds.{Going, going-start, going-few, room-of, head-below}
 use Rattle.model.proofs.Rounds.{strata-given, stratum-next, stratum-end}
@@ -122,7 +122,7 @@ loop2-again-3 c =
     at .loop2 .inv .0 .size ∙ (round-of at .loop .inv .1 ∙ s .pre .size) in (
       left-add _ _ (s .args .t1) _ (at .loop2 .i) _ _ (omega (arith, at .loop2 .inv .2)) (at .loop2 .inv .0)
           (rw size (head-below (s .args .t1) (document .atoms) _ (s .pre .stratified .bounded)))
-          (waits-missing (number (s .args .strata .now)) (s .args .k) (member (at .loop2 .found)) (here .state)
+          (waits-sought (number (s .args .strata .now)) (s .args .k) (member (at .loop2 .found)) (here .state)
           (here .head .0) (sym (new .before .waits .ensures) ∙ not-false _ (new .if1 .left)))
           (sym (good .before .holds-valid .ensures) ∙ not-false _ (good .if2 .left)) _ (c .mark .ensures),
       seen-mark _ _ (s .args .t1) _ _ _ _ _ _ (c .mark .ensures)

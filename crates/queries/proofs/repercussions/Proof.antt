@@ -27,18 +27,18 @@ enum-known-asked c = search needs
 enum-known-asked-2 : tie.Need-enum-known-asked-2
 enum-known-asked-2 c = search needs
 
-keep-requires : tie.Need-keep-requires
-keep-requires c κs = tt
+arrays-of-requires : tie.Need-arrays-of-requires
+arrays-of-requires c κs = tt
 
 reached-requires : tie.Need-reached-requires
 reached-requires c κs =
-    let keep = c .before .before .before .before in
-    let asked = keep .before .before .before .before in
+    let arrays-of = c .before .before .before .before in
+    let asked = arrays-of .before .before .before .before in
     let ask = asked .before .before in
     let s = ask .before .before in
     let t = s .args .table in
     let is-sound = ask-passed t (s .args .atom) _ (ask .ask .ensures) _ (asked .asked2 .given .1) .sound in
-    (active-low t is-sound, flags-supports t (rules-long s) (labels-long s) is-sound _ (keep .keep .ensures))
+    (active-low t is-sound, flags-supports t (rules-long s) (labels-long s) is-sound _ (arrays-of .arrays-of .ensures))
 
 slice-aggregate-write-marked : tie.Need-slice-aggregate-write-marked
 slice-aggregate-write-marked c = search needs
@@ -62,15 +62,15 @@ returns-2 : tie.Need-returns-2
 returns-2 c =
     let write = c .before .before in
     let find = write .before .before .before in
-    let keep = find .before .before .before .before .before in
-    let asked = keep .before .before .before .before in
+    let arrays-of = find .before .before .before .before .before in
+    let asked = arrays-of .before .before .before .before in
     let ask = asked .before .before in
     let s = ask .before .before in
     let t = s .args .table in
     let passes = ask-passed t (s .args .atom) _ (ask .ask .ensures) _ (asked .asked2 .given .1) in
     set-ends t (s .args .atom) _ (ask .ask .ensures) (λ M. Repercussion (active (held t)) M) _
     (asked .asked2 .given .1) _
-    (flags-model t (rules-long s) (labels-long s) (passes .sound) _ (keep .keep .ensures))
+    (flags-model t (rules-long s) (labels-long s) (passes .sound) _ (arrays-of .arrays-of .ensures))
     (find .reached .result) (find .reached .ensures) _ _ _ (write .write-marked .ensures)
 
 pub repercussions-spec : {M : Type 1} → statement M
@@ -80,7 +80,7 @@ repercussions-spec =
     ask-requires
     enum-known-asked
     enum-known-asked-2
-    keep-requires
+    arrays-of-requires
     reached-requires
     slice-aggregate-write-marked
     write-marked-requires

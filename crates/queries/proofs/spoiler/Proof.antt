@@ -27,8 +27,8 @@ enum-known-asked-2 c = search needs
 rule-in-requires : tie.Need-rule-in-requires
 rule-in-requires c κs = tt
 
-keep-requires : tie.Need-keep-requires
-keep-requires c κs = tt
+arrays-of-requires : tie.Need-arrays-of-requires
+arrays-of-requires c κs = tt
 
 tell-rule-requires : tie.Need-tell-rule-requires
 tell-rule-requires c κs = tt
@@ -42,14 +42,14 @@ returns c =
 
 returns-2 : tie.Need-returns-2
 returns-2 c =
-    let keep = c .before .before .before in
-    let read = keep .before .before in
+    let arrays-of = c .before .before .before in
+    let read = arrays-of .before .before in
     let asked = read .before .before .before in
     let ask = asked .before .before in
     let s = ask .before in
     let passes = slot-passed (s .args .table) (s .args .slot) _ (ask .ask-slot .ensures) _ (asked .asked2 .given .1) in
-    spoiler-ends (s .args .table) (rules-long s) (labels-long s) (passes .sound) (keep .keep .result)
-    (keep .keep .ensures) (s .args .slot) _ passes _ (read .rule-in .ensures) _ (c .tell-rule .ensures)
+    spoiler-ends (s .args .table) (rules-long s) (labels-long s) (passes .sound) (arrays-of .arrays-of .result)
+    (arrays-of .arrays-of .ensures) (s .args .slot) _ passes _ (read .rule-in .ensures) _ (c .tell-rule .ensures)
 
 pub spoiler-spec : {M : Type 1} → statement M
 spoiler-spec =
@@ -59,7 +59,7 @@ spoiler-spec =
     enum-known-asked
     enum-known-asked-2
     rule-in-requires
-    keep-requires
+    arrays-of-requires
     tell-rule-requires
     returns
     returns-2)

@@ -33,8 +33,8 @@ mul-c c = search needs
 shared-slice-read-c : tie.Need-shared-slice-read-c Inv-loop μ-loop
 shared-slice-read-c c = search needs
 
-follow-requires : tie.Need-follow-requires Inv-loop μ-loop
-follow-requires c κs = tt
+follow-edge-requires : tie.Need-follow-edge-requires Inv-loop μ-loop
+follow-edge-requires c κs = tt
 
 add-i : tie.Need-add-i Inv-loop μ-loop
 add-i c = search needs
@@ -46,9 +46,9 @@ loop-again : tie.Need-loop-again Inv-loop μ-loop
 loop-again c =
     let at = c .before .before .before .before .before .loop in (
       search needs,
-      round-next _ _ _ _ (at .i) _ (at .flags) _ (at .marked) (c .follow .result)
+      round-next _ _ _ _ (at .i) _ (at .flags) _ (at .marked) (c .follow-edge .result)
           (omega arith) (omega arith) (omega arith)
-          (at .inv .1) (c .follow .ensures),
+          (at .inv .1) (c .follow-edge .ensures),
     )
 
 returns : tie.Need-returns Inv-loop μ-loop
@@ -66,7 +66,7 @@ round-spec =
     shared-slice-read-a
     mul-c
     shared-slice-read-c
-    follow-requires
+    follow-edge-requires
     add-i
     loop-less
     loop-again

@@ -1,5 +1,5 @@
 -- The proof of the cycle of calls {gather}. The measure is the depth, which the test before the call makes fall. The
--- loop's invariant: the atom and the first j of its kept entries were gathered. Assumes nothing.
+-- loop's invariant: the atom and the first j of its copied entries were gathered. Assumes nothing.
 use native.Mathlib.Omega.{arith}
 use mathlib.Core.Path.{_≡_, sym, _∙_}
 use mathlib.Core.Bool.{Bool, true}
@@ -16,7 +16,7 @@ use borrow.Fn.PlainCycle.{Measures, is, falls, and}
 use Rattle.reason_atoms.proofs.gather.Reads as gather
 use Rattle.reason_atoms.proofs.gather.Kinds as gather-kinds
 use Rattle.reason_atoms.proofs.+gather.Lts-gather as gather-lts
-use Rattle.reason_atoms.proofs.kept_entry.Reads as kept-entry-reads
+use Rattle.reason_atoms.proofs.support_entry.Reads as support-entry-reads
 use Rattle.table.proofs.sets.has.Reads as has-reads
 use Rattle.table.proofs.sets.mark.Reads as mark-reads
 use Rattle.table.proofs.sets.number_of.Reads as number-of-reads
@@ -40,8 +40,8 @@ calls t = (
   mark-reads.Learnt,
   number-of-reads.Asked,
   number-of-reads.Learnt,
-  kept-entry-reads.Asked,
-  kept-entry-reads.Learnt,
+  support-entry-reads.Asked,
+  support-entry-reads.Learnt,
   has-reads.Asked,
   has-reads.Learnt,
   gather-below t,
@@ -65,8 +65,8 @@ number-of-requires t c κs = search needs
 loop-holds : (t : ℕ) → gather-lts.Need-loop-holds (calls t) (gather-at t) gather.Post Inv-loop μ-loop
 loop-holds t c = λ before e. rw e (gathering-start _ _ _ _ _ before)
 
-kept-entry-requires : (t : ℕ) → gather-lts.Need-kept-entry-requires (calls t) (gather-at t) gather.Post Inv-loop μ-loop
-kept-entry-requires t c κs = search needs
+support-entry-requires : (t : ℕ) → gather-lts.Need-support-entry-requires (calls t) (gather-at t) gather.Post Inv-loop μ-loop
+support-entry-requires t c κs = search needs
 
 add-j : (t : ℕ) → gather-lts.Need-add-j (calls t) (gather-at t) gather.Post Inv-loop μ-loop
 add-j t c = search needs
@@ -90,7 +90,7 @@ loop-again t c =
     let at = d .before .before .before in
     λ before e. gathering-called _ _ _ _ _ before (at .loop .j)
     (omega (arith, at .before .number-of .ensures, d .before .before .loop-test .taken)) _ (at .loop .inv before e) _ _
-    (d .before .kept-entry .ensures) (d .number-of2 .ensures) _ (c .gather .ensures)
+    (d .before .support-entry .ensures) (d .number-of2 .ensures) _ (c .gather .ensures)
 
 loop-less-2 : (t : ℕ) → gather-lts.Need-loop-less-2 (calls t) (gather-at t) gather.Post Inv-loop μ-loop
 loop-less-2 t c = search needs
@@ -101,7 +101,7 @@ loop-again-2 t c =
     let at = d .before .before .before in
     λ before e. gathering-seen _ _ _ _ _ before (at .loop .j)
     (omega (arith, at .before .number-of .ensures, d .before .before .loop-test .taken)) _ (at .loop .inv before e) _ _
-    (d .before .kept-entry .ensures) (d .number-of2 .ensures)
+    (d .before .support-entry .ensures) (d .number-of2 .ensures)
     (sym (c .before .has .ensures) ∙ not-false _ (c .if2 .left))
 
 loop-less-3 : (t : ℕ) → gather-lts.Need-loop-less-3 (calls t) (gather-at t) gather.Post Inv-loop μ-loop
@@ -113,7 +113,7 @@ loop-again-3 t c =
     let at = d .before .before .before in
     λ before e. gathering-deep _ _ _ _ _ before (at .loop .j)
     (omega (arith, at .before .number-of .ensures, d .before .before .loop-test .taken)) _ (at .loop .inv before e) _ _
-    (d .before .kept-entry .ensures) (d .number-of2 .ensures) (c .if1 .left)
+    (d .before .support-entry .ensures) (d .number-of2 .ensures) (c .if1 .left)
 
 returns : (t : ℕ) → gather-lts.Need-returns (calls t) (gather-at t) gather.Post Inv-loop μ-loop
 returns t c =
@@ -130,7 +130,7 @@ pub +gather-spec : {M : Type 1} → statement M
     (mark-requires t)
     (number-of-requires t)
     (loop-holds t)
-    (kept-entry-requires t)
+    (support-entry-requires t)
     (add-j t)
     (number-of-requires-2 t)
     (has-requires t)

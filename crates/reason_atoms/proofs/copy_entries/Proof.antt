@@ -1,8 +1,8 @@
 -- `reason_atoms::copy_entries` meets its contract. The loop's invariant: the entries below j were copied. Assumes nothing.
 use Prim.Native.Nat.{_-_, _≤_}
 use native.Mathlib.Omega.{arith}
-use Rattle.reason_atoms.specs.Kept.{CopiedTo}
-use Rattle.reason_atoms.proofs.Kept.{copied-start, copied-next}
+use Rattle.reason_atoms.specs.SupportEntries.{CopiedTo}
+use Rattle.reason_atoms.proofs.SupportEntries.{copied-start, copied-next}
 use mathlib.Core.Path.{_≡_, subst}
 use borrow.Author.Needs.{needs}
 use Rattle.reason_atoms.proofs.copy_entries.Statement.{statement}

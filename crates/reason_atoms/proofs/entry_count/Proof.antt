@@ -3,7 +3,7 @@ use native.Mathlib.Omega.{arith}
 use mathlib.Core.Path.{_≡_, sym, ap, _∙_}
 use lib.ListN.{length, length-map}
 use Rattle.theory.specs.Limits.{document}
-use Rattle.reason_atoms.proofs.Kept.{positives-none, positives-in, positives-length}
+use Rattle.reason_atoms.proofs.SupportEntries.{positives-none, positives-in, positives-length}
 use Rattle.reason_atoms.proofs.entry_count.Statement.{statement}
 use Rattle.reason_atoms.proofs.entry_count.Tie as tie
 

@@ -11,11 +11,11 @@ use Rattle.reason_call.proofs.listed.Tie as tie
 long : (s : tie.Start) → length (s .args .table .labels) ≡ document .atoms
 long s = simp length-map at (s .good .0 .1 .1 .1 .0 .1 .0 .1)
 
-keep-requires : tie.Need-keep-requires
-keep-requires c κs = tt
+arrays-of-requires : tie.Need-arrays-of-requires
+arrays-of-requires c κs = tt
 
-kept-entries-requires : tie.Need-kept-entries-requires
-kept-entries-requires c κs =
+support-entries-requires : tie.Need-support-entries-requires
+support-entries-requires c κs =
     let s = c .before .before .before .before .before .before in
     slotted (s .args .table) (long s) (s .pre .0)
 
@@ -39,8 +39,8 @@ returns c =
     let copied = depth .before .before .before .before in
     let kept = copied .before .before .before in
     let s = kept .before .before .before .before in
-    ends-short (s .args .table) (long s) (s .pre .0) (kept .keep .result) (kept .keep .ensures) _ _
-    (copied .kept-entries .ensures) (s .args .a .0) (s .pre .1) _ (depth .number-of .ensures) _
+    ends-short (s .args .table) (long s) (s .pre .0) (kept .arrays-of .result) (kept .arrays-of .ensures) _ _
+    (copied .support-entries .ensures) (s .args .a .0) (s .pre .1) _ (depth .number-of .ensures) _
     (gathered .gather .ensures) (s .args .buffer .now) _ (counted .count-marked .ensures) (c .if1 .taken)
 
 write-slots-requires : tie.Need-write-slots-requires
@@ -57,8 +57,8 @@ returns-2 c =
     let copied = depth .before .before .before .before in
     let kept = copied .before .before .before in
     let s = kept .before .before .before .before in
-    ends-written (s .args .table) (long s) (s .pre .0) (kept .keep .result) (kept .keep .ensures) _ _
-    (copied .kept-entries .ensures) (s .args .a .0) (s .pre .1) _ (depth .number-of .ensures) _
+    ends-written (s .args .table) (long s) (s .pre .0) (kept .arrays-of .result) (kept .arrays-of .ensures) _ _
+    (copied .support-entries .ensures) (s .args .a .0) (s .pre .1) _ (depth .number-of .ensures) _
     (gathered .gather .ensures) (s .args .buffer .now) _ (counted .count-marked .ensures)
     (c .before .before .before .before .before .before .before .if1 .left) _ _
     (c .before .before .write-slots .ensures)
@@ -67,8 +67,8 @@ pub listed-spec : {M : Type 1} → statement M
 listed-spec =
     tie.close
     (tie.spec
-    keep-requires
-    kept-entries-requires
+    arrays-of-requires
+    support-entries-requires
     number-of-requires
     gather-requires
     slice-aggregate-count-marked

@@ -1,7 +1,7 @@
 -- `sheet_label_lines::write_label` meets its contract. Assumes nothing.
 use native.Mathlib.Omega.{arith}
 use borrow.Author.Needs.{needs}
-use Rattle.table.proofs.Programs.{label-absent, label-out, label-kept}
+use Rattle.table.proofs.Programs.{label-absent, label-out, label-is-in}
 use Rattle.fields.specs.Texts.{bytes}
 use Rattle.sheet_label_lines.specs.LabelLines.{labelLine}
 use Rattle.fields.proofs.Wrote.{wrote-nothing, wrote-then}
@@ -59,7 +59,7 @@ returns-3 c =
     let not-absent = number .before .before .if1 .left in
     let not-out = rest .before .before .before .before .if2 .left in
     let label = number .before .before .before .before .before .args .label in
-    rw (label-kept label (omega arith)) (wrote-then (atom .0) (rest .write-in .ensures))
+    rw (label-is-in label (omega arith)) (wrote-then (atom .0) (rest .write-in .ensures))
 
 pub write-label-spec : {M : Type 1} → statement M
 write-label-spec =

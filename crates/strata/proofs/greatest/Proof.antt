@@ -5,11 +5,12 @@ use mathlib.Core.Path.{_≡_}
 use lib.ListN.{length, length-map}
 use lib.Seq.{slice}
 use borrow.Author.Needs.{needs}
+use Rattle.theory.specs.Lists.{greatest}
 use Rattle.theory.specs.Limits.{document}
 use Rattle.table.specs.Sets.{number}
 use Rattle.table.specs.Rules.{numbers}
-use Rattle.strata.specs.Needed.{greatest, AllBelow}
-use Rattle.strata.proofs.Numbers.{greatest-over, greatest-next, entry-below, rest-below}
+use Rattle.strata.specs.Needed.{plus, AllBelow}
+use Rattle.strata.proofs.Numbers.{walked-over, walked-next, entry-below, rest-below}
 use Rattle.strata.proofs.greatest.Statement.{statement}
 use Rattle.strata.proofs.greatest.Tie as tie
 use Rattle.strata.proofs.greatest.Reads as reads
@@ -20,8 +21,8 @@ use Rattle.table.proofs.sets.larger.Reads as larger-reads
 abbrev Inv-loop : tie.InvT-loop
 Inv-loop from to kept step rule most₀ j₀ most j =
     AllBelow (document .atoms) (numbers (slice j to (rule .entries)))
-    × max most (greatest step (number kept) (numbers (slice j to (rule .entries))))
-    ≡ greatest step (number kept) (numbers (slice from to (rule .entries)))
+    × max most (greatest (plus step (number kept)) (numbers (slice j to (rule .entries))))
+    ≡ greatest (plus step (number kept)) (numbers (slice from to (rule .entries)))
 
 abbrev μ-loop : tie.MeasureT-loop
 μ-loop from to kept step rule most₀ j₀ most j = to - j
@@ -69,12 +70,12 @@ loop-again c =
     let t = c .before .before .before .before .loop in
     let l = c .before .before .before .loop-test .taken in (
       rest-below (s .args .t1 .entries) _ (t .j) (s .args .to) (t .inv .0) l k,
-      greatest-next _ _ (s .args .t1 .entries) (t .j) (s .args .to) _ _ _ _ l k
+      walked-next _ _ (s .args .t1 .entries) (t .j) (s .args .to) _ _ _ _ l k
           (c .before .number-at .ensures) (c .larger .ensures) (t .inv .1),
     )
 
 returns : tie.Need-returns Inv-loop μ-loop
-returns c = greatest-over _ _ _ _ _ _ _ (c .loop-test .left) (c .before .loop .inv .1)
+returns c = walked-over _ _ _ _ _ _ _ (c .loop-test .left) (c .before .loop .inv .1)
 
 pub greatest-spec : {M : Type 1} → statement M
 greatest-spec =

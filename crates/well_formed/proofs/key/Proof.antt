@@ -8,14 +8,14 @@ use Rattle.theory.specs.Limits.{document}
 use Rattle.theory.specs.Rules.{entries}
 use Rattle.table.specs.Rules.{numbers, ruleOf}
 use Rattle.table.proofs.Entries.{entries-are}
-use Rattle.well_formed.specs.Keys.{mixed, key}
+use Rattle.well_formed.specs.Keys.{modulus, mixed, key}
 use Rattle.well_formed.proofs.Links.{mixed-over, mixed-next}
 use borrow.Author.Needs.{needs}
 use Rattle.well_formed.proofs.key.Statement.{statement}
 use Rattle.well_formed.proofs.key.Tie as tie
 
 abbrev Inv-loop : tie.InvT-loop
-Inv-loop rule n k₀ j₀ k j = (k < 65536) × (mixed k (numbers (slice j n (rule .entries))) ≡ key (ruleOf rule))
+Inv-loop rule n k₀ j₀ k j = (k < modulus) × (mixed k (numbers (slice j n (rule .entries))) ≡ key (ruleOf rule))
 
 abbrev μ-loop : tie.MeasureT-loop
 μ-loop rule n k₀ j₀ k j = document .entries - j

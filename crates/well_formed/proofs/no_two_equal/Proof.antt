@@ -9,6 +9,7 @@ use Rattle.table.specs.Rules.{slotOf, programOf, pastRule}
 use Rattle.questions.proofs.Cleanness.{is-not}
 use Rattle.table.proofs.Members.{all-alike}
 use Rattle.table.proofs.Programs.{program-at, slot-rule}
+use Rattle.well_formed.specs.Keys.{keys}
 use Rattle.well_formed.proofs.Links.{Linked, Following, links-start, links-step, links-all}
 use Rattle.well_formed.proofs.Links.{follow-start, follow-falls, follow-next, follow-equal}
 use borrow.Author.Needs.{needs}
@@ -30,7 +31,7 @@ abbrev μ-loop : tie.MeasureT-loop
 μ-loop rules last₀ before₀ i₀ last before i = document .slots - i
 
 loop-holds : tie.Need-loop-holds Inv-loop2 μ-loop2 Inv-loop μ-loop
-loop-holds c = links-start _ _ _ _ refl refl (λ h. all-alike 256 h 0)
+loop-holds c = links-start _ _ _ _ refl refl (λ h. all-alike keys h 0)
 
 mul-rule : tie.Need-mul-rule Inv-loop2 μ-loop2 Inv-loop μ-loop
 mul-rule c = search needs
@@ -50,7 +51,7 @@ cast-link c = search needs
 loop2-holds : tie.Need-loop2-holds Inv-loop2 μ-loop2 Inv-loop μ-loop
 loop2-holds c =
     let l = c .before .before .before .before .before .loop in
-    follow-start _ 256 _ _ (l .i) (l .inv) _ _ _ (c .before .before .slot-key .ensures) (c .last-of .ensures)
+    follow-start _ (document .slots) _ _ (l .i) (l .inv) _ _ _ (c .before .before .slot-key .ensures) (c .last-of .ensures)
 
 sub-other : tie.Need-sub-other Inv-loop2 μ-loop2 Inv-loop μ-loop
 sub-other c = search needs
@@ -70,7 +71,7 @@ returns c =
     let o = c .before .before .before .before .before .before .before .before .before .before in
     let s = o .before in
     let x = s .args .t1 in
-    is-not (follow-equal _ 256 _ _ (o .loop .i) (o .loop .inv) _ (program-at x (o .loop .i)) (l .link)
+    is-not (follow-equal _ (document .slots) _ _ (o .loop .i) (o .loop .inv) _ (program-at x (o .loop .i)) (l .link)
     (c .before .before .before .loop2-test .taken) (l .inv) _ _
     (slot-rule (getD x (o .loop .i) pastRule))
     (λ r g. slot-rule (getD x (l .link - 1) pastRule) r (sym (program-at x (l .link - 1)) ∙ g))
@@ -91,7 +92,7 @@ cast-link-2 c =
     let o = c .before .before .before .before .before .before .before .before .before .before in
     let s = o .before in
     let u = l .inv .under in
-    let f = follow-falls _ 256 _ _ (o .loop .i) (o .loop .inv) _ (program-at (s .args .t1) (o .loop .i))
+    let f = follow-falls _ (document .slots) _ _ (o .loop .i) (o .loop .inv) _ (program-at (s .args .t1) (o .loop .i))
     (l .link) (c .before .before .before .loop2-test .taken) (l .inv) in
     omega arith
 
@@ -100,7 +101,7 @@ loop2-less c =
     let l = c .before .before .before .before .loop2 in
     let o = c .before .before .before .before .before .before .before .before .before .before in
     let s = o .before in
-    follow-falls _ 256 _ _ (o .loop .i) (o .loop .inv) _ (program-at (s .args .t1) (o .loop .i))
+    follow-falls _ (document .slots) _ _ (o .loop .i) (o .loop .inv) _ (program-at (s .args .t1) (o .loop .i))
     (l .link) (c .before .before .before .loop2-test .taken) (l .inv)
 
 loop2-again : tie.Need-loop2-again Inv-loop2 μ-loop2 Inv-loop μ-loop
@@ -109,7 +110,7 @@ loop2-again c =
     let o = c .before .before .before .before .before .before .before .before .before .before in
     let s = o .before in
     let x = s .args .t1 in
-    follow-next _ 256 _ _ (o .loop .i) (o .loop .inv) _ (program-at x (o .loop .i)) (l .link)
+    follow-next _ (document .slots) _ _ (o .loop .i) (o .loop .inv) _ (program-at x (o .loop .i)) (l .link)
     (c .before .before .before .loop2-test .taken) (l .inv) _ _
     (slot-rule (getD x (o .loop .i) pastRule))
     (λ r g. slot-rule (getD x (l .link - 1) pastRule) r (sym (program-at x (l .link - 1)) ∙ g))
@@ -141,7 +142,7 @@ loop-again c =
     let l = c .before .before .before .loop2 in
     let o = c .before .before .before .before .before .before .before .before .before in
     let s = o .before in
-    links-step _ 256 _ _ (o .loop .i) (o .loop .inv)
+    links-step _ (document .slots) _ _ (o .loop .i) (o .loop .inv)
     (c .before .before .before .before .before .before .before .before .loop-test .taken) _
     (program-at (s .args .t1) (o .loop .i)) (l .link) (omega (arith, c .before .before .loop2-test .left)) (l .inv)
     _ _ (c .before .before .before .before .before .before .slot-key .ensures)
@@ -150,9 +151,9 @@ loop-again c =
 returns-2 : tie.Need-returns-2 Inv-loop2 μ-loop2 Inv-loop μ-loop
 returns-2 c =
     let s = c .before .before in
-    let long : length (s .args .t1) ≡ 256 = search needs in
+    let long : length (s .args .t1) ≡ document .slots = search needs in
     let over : length (programOf (s .args .t1)) ≤ c .before .loop .i = simp length-map (omega arith) in
-    (λ t. links-all _ 256 _ _ _ (c .before .loop .inv) over, λ h. refl)
+    (λ t. links-all _ (document .slots) _ _ _ (c .before .loop .inv) over, λ h. refl)
 
 pub no-two-equal-spec : {M : Type 1} → statement M
 no-two-equal-spec =

@@ -5,10 +5,10 @@ ghost use mathlib.Core.Path.{_≡_};
 ghost use Rattle.theory.specs.Questions.{is-in-label};
 ghost use Rattle.theory.specs.Certificate.{depth-in, slot-in};
 ghost use Rattle.table.specs.Labels.{labelOf};
-ghost use Rattle.table.specs.Kept.{KeptOf};
+ghost use Rattle.table.specs.Arrays.{ArraysOf};
 
 // Of each atom: is it in, its depth and its supporting slot (both 0 where it is not in)?
-pub struct Kept {
+pub struct LabelArrays {
     pub flags: [bool; Table::ATOMS],
     pub depths: [u16; Table::ATOMS],
     pub slots: [u16; Table::ATOMS],
@@ -33,8 +33,8 @@ fn slot_in(label: Label) -> u16
 }
 
 // What the labels keep.
-pub fn keep(labels: [Label; Table::ATOMS]) -> Kept
-    ensures { λ r. ⌜ KeptOf labels r ⌝ }
+pub fn arrays_of(labels: [Label; Table::ATOMS]) -> LabelArrays
+    ensures { λ r. ⌜ ArraysOf labels r ⌝ }
 {
     let mut flags: [bool; Table::ATOMS] = [false; Table::ATOMS];
     let mut depths: [u16; Table::ATOMS] = [0; Table::ATOMS];
@@ -47,7 +47,7 @@ pub fn keep(labels: [Label; Table::ATOMS]) -> Kept
         slots[a] = slot_in(label);
         a += 1;
     }
-    Kept {
+    LabelArrays {
         flags: flags,
         depths: depths,
         slots: slots,

@@ -1,4 +1,4 @@
--- `table::kept::keep` meets its contract. Assumes nothing.
+-- `table::arrays::arrays-of` meets its contract. Assumes nothing.
 use Prim.Native.Nat.{_-_}
 use native.Mathlib.Omega.{arith}
 use Rattle.theory.specs.Questions.{is-in-label}
@@ -10,8 +10,8 @@ use Prim.Native.Nat.{_≤_, _<_}
 use mathlib.Core.Path.{_≡_, sym}
 use lib.ListN.{length}
 use borrow.Author.Needs.{needs}
-use Rattle.table.proofs.kept.keep.Statement.{statement}
-use Rattle.table.proofs.kept.keep.Tie as tie
+use Rattle.table.proofs.arrays.arrays_of.Statement.{statement}
+use Rattle.table.proofs.arrays.arrays_of.Tie as tie
 
 abbrev Inv-loop : tie.InvT-loop
 Inv-loop labels flags₀ depths₀ slots₀ a₀ flags depths slots a =
@@ -86,8 +86,8 @@ returns c =
       slots = copied-all _ _ _ (l .a) over (l .inv .2);
     }
 
-pub keep-spec : {M : Type 1} → statement M
-keep-spec =
+pub arrays-of-spec : {M : Type 1} → statement M
+arrays-of-spec =
     tie.close
     (tie.spec
     Inv-loop

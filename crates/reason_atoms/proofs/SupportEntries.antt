@@ -1,4 +1,4 @@
--- Laws of the numbers and the entries kept of each atom, and of the loops that keep them. Assumes nothing. The number
+-- Laws of the numbers and the entries copied of each atom, and of the loops that copy them. Assumes nothing. The number
 -- of atoms is a parameter.
 use Prim.Native.Nat.{ℕ, zero, suc, _+_, _*_, _≤_, _<_, min}
 use native.Mathlib.Omega.{arith}
@@ -11,40 +11,27 @@ use lib.ListN.{List·getD-map, List·getD-eq-default}
 use lib.Seq.{getD-take, getD-set-same, getD-set-other}
 use Rattle.theory.specs.Lists.{_∈_}
 use Rattle.theory.specs.Limits.{document}
-use Rattle.theory.proofs.Lists.{le-or-lt}
+use Rattle.theory.proofs.Lists.{entry-in, in-entry, le-or-lt}
 use Rattle.table.specs.declared.Atom.{Atom}
 use Rattle.table.specs.declared.Rule.{Rule}
 use Rattle.table.specs.declared.Label.{Label}
 use Rattle.table.specs.Sets.{number}
 use Rattle.table.specs.Rules.{ruleOf, noAtom, pastRule}
 use Rattle.table.specs.Labels.{labelOf, label-in, absentLabel}
-use Rattle.table.proofs.Programs.{label-kept}
-use Rattle.reason_atoms.specs.Kept.{slotAt, positivesOf, positivesAt, place, EntriesKept, KeptEntry}
-use Rattle.reason_atoms.specs.Kept.{Room, CopiedTo}
+use Rattle.table.proofs.Programs.{label-is-in}
+use Rattle.reason_atoms.specs.SupportEntries.{labelSlot, positivesOf, positivesAt, entryIndex, EntriesCopied}
+use Rattle.reason_atoms.specs.SupportEntries.{SupportEntry, Fits, CopiedTo}
 
--- Members of a list are what stands at its places.
-pub member-place : (xs : List ℕ) (x : ℕ) → x ∈ xs → (j : ℕ) × (j < length xs) × (getD xs j 0 ≡ x)
-member-place [] x m = absurd (List·Memᴰ·not-nil m)
-member-place (y ∷ ys) x m = ⊎-elim
-    (λ (e : x ≡ y). (0, omega arith, sym e))
-    (λ (i : x ∈ ys). (let w = member-place ys x i in (suc (w .0), omega (arith, w .1), w .2)))
-    (List·Memᴰ·cases-cons m)
-
-pub place-member : (xs : List ℕ) (j : ℕ) → j < length xs → getD xs j 0 ∈ xs
-place-member [] j l = absurd (omega arith)
-place-member (y ∷ ys) zero l = List·Memᴰ·head refl
-place-member (y ∷ ys) (suc j) l = List·Memᴰ·tail (place-member ys j (omega arith))
-
--- The kept entries are the members of the list that was kept.
-pub keeps-entries :
-    (xs counts entries : List ℕ) (a : ℕ) → EntriesKept xs counts entries a → (x : ℕ)
-    → KeptEntry counts entries a x ↔ x ∈ xs
-keeps-entries xs counts entries a k x = (
+-- The copied entries are the members of the list that was copied.
+pub copied-entries :
+    (xs counts entries : List ℕ) (a : ℕ) → EntriesCopied xs counts entries a → (x : ℕ)
+    → SupportEntry counts entries a x ↔ x ∈ xs
+copied-entries xs counts entries a k x = (
   λ s. (
       let l : s .index < length xs = omega (arith, s .counted, k .counted) in
-      subst (λ z. z ∈ xs) (sym (k .copied (s .index) l) ∙ s .there) (place-member xs (s .index) l)),
+      subst (λ z. z ∈ xs) (sym (k .copied (s .index) l) ∙ s .there) (entry-in xs (s .index) l)),
   λ m. (
-      let w = member-place xs x m in
+      let w = in-entry xs x m in
       record {
         index = w .0;
         counted = omega (arith, w .1, k .counted);
@@ -63,7 +50,7 @@ module _ (label : Label) (rule : Rule) where
       none-of (suc (suc n)) i = absurd (omega arith)
 
   pub positives-in : 2 ≤ label .state → positivesOf (labelOf label) rule ≡ ruleOf rule .positives
-  positives-in l = ap (λ k. positivesOf k rule) (label-kept label (omega arith))
+  positives-in l = ap (λ k. positivesOf k rule) (label-is-in label (omega arith))
 
   -- entry j of them is entry j of the rule
   pub positive-at :
@@ -145,16 +132,16 @@ module _ (g : ℕ → ℕ) (n : ℕ) where
       (λ (h : a < n). c .done a (omega arith))
       (le-or-lt n a)
 
--- For each atom below i the entries ys a are kept.
-pub record KeptBelow (ys : ℕ → List ℕ) (n i : ℕ) (counts entries : List ℕ) : Type 0 where
+-- For each atom below i the entries ys a are copied.
+pub record CopiedBelow (ys : ℕ → List ℕ) (n i : ℕ) (counts entries : List ℕ) : Type 0 where
   pub counted : Copying (λ a. length (ys a)) n i counts
   pub long : length entries ≡ n * document .entries
   pub few : (a : ℕ) → a < i → length (ys a) ≤ document .entries
-  pub copied : (a : ℕ) → a < i → (j : ℕ) → j < length (ys a) → number entries (place a j) ≡ getD (ys a) j 0
+  pub copied : (a : ℕ) → a < i → (j : ℕ) → j < length (ys a) → number entries (entryIndex a j) ≡ getD (ys a) j 0
 
 module _ (ys : ℕ → List ℕ) (n : ℕ) where
-  pub kept-start : KeptBelow ys n 0 (replicate n 0) (replicate (n * document .entries) 0)
-  kept-start =
+  pub copied-start : CopiedBelow ys n 0 (replicate n 0) (replicate (n * document .entries) 0)
+  copied-start =
       record {
         counted = copying-start (λ a. length (ys a)) n;
         long = length-replicate (n * document .entries) 0;
@@ -162,21 +149,21 @@ module _ (ys : ℕ → List ℕ) (n : ℕ) where
         copied = λ a l. absurd (omega arith);
       }
 
-  module _ (i : ℕ) (l : i < n) (counts entries : List ℕ) (k : KeptBelow ys n i counts entries) where
+  module _ (i : ℕ) (l : i < n) (counts entries : List ℕ) (k : CopiedBelow ys n i counts entries) where
     -- The array has room for entries of atom i.
-    pub kept-room : n ≡ document .atoms → (m : ℕ) → m ≤ document .entries → Room m (i * document .entries) entries
-    kept-room e m h =
+    pub copied-room : n ≡ document .atoms → (m : ℕ) → m ≤ document .entries → Fits m (i * document .entries) entries
+    copied-room e m h =
         record {
           few = h;
           long = k .long ∙ ap (λ z. z * document .entries) e;
           fits = omega (arith, k .long);
         }
 
-    pub kept-next :
+    pub copied-next :
         (xs : List Atom) (m : ℕ) (after : List ℕ) → m ≡ length (ys i) → m ≤ document .entries
         → ((j : ℕ) → j < length (ys i) → getD (ys i) j 0 ≡ getD xs j noAtom .0)
-        → CopiedTo xs m (i * document .entries) entries after → KeptBelow ys n (i + 1) (set counts i m) after
-    kept-next xs m after e h at c =
+        → CopiedTo xs m (i * document .entries) entries after → CopiedBelow ys n (i + 1) (set counts i m) after
+    copied-next xs m after e h at c =
         record {
           counted = copying-next (λ a. length (ys a)) n i counts m l e (k .counted);
           long = c .long ∙ k .long;
@@ -189,14 +176,14 @@ module _ (ys : ℕ → List ℕ) (n : ℕ) where
               let q : a ≡ i = omega arith in
               let b′ : j < length (ys i) = rw q at b in
               rw q (c .here j (omega arith) ∙ sym (at j b′))))
-              (λ (p : a < i). c .other (place a j) (inl (omega (arith, k .few a p))) ∙ k .copied a p j b)
+              (λ (p : a < i). c .other (entryIndex a j) (inl (omega (arith, k .few a p))) ∙ k .copied a p j b)
               (le-or-lt i a);
         }
 
-  pub kept-end :
-      (i : ℕ) (counts entries : List ℕ) → n ≤ i → ((a : ℕ) → n ≤ a → ys a ≡ []) → KeptBelow ys n i counts entries
-      → (a : ℕ) → EntriesKept (ys a) counts entries a
-  kept-end i counts entries l past k a =
+  pub copied-end :
+      (i : ℕ) (counts entries : List ℕ) → n ≤ i → ((a : ℕ) → n ≤ a → ys a ≡ []) → CopiedBelow ys n i counts entries
+      → (a : ℕ) → EntriesCopied (ys a) counts entries a
+  copied-end i counts entries l past k a =
       record {
         counted = copying-end (λ b. length (ys b)) n i counts l (λ b h. ap length (past b h)) (k .counted) a;
         copied = λ j b. ⊎-elim
@@ -211,7 +198,7 @@ pub past-label : (labels : List Label) (n : ℕ) → length labels ≡ n → (a 
 past-label labels n l a h = List·getD-eq-default labels absentLabel (omega arith)
 
 module _ (labels : List Label) (n : ℕ) (l : length labels ≡ n) where
-  pub past-slot : (a : ℕ) → n ≤ a → slotAt labels a ≡ 0
+  pub past-slot : (a : ℕ) → n ≤ a → labelSlot labels a ≡ 0
   past-slot a h = ap (λ k. k .slot .0) (past-label labels n l a h)
 
   pub past-positives : (rules : List Rule) (a : ℕ) → n ≤ a → positivesAt rules labels a ≡ []

@@ -1,4 +1,4 @@
--- Private: the positive entries of each atom's supporting rule, kept in one array. Assumes nothing.
+-- Private: the positive entries of each atom's supporting rule, copied to one array. Assumes nothing.
 use Prim.Native.Nat.{ℕ, _+_, _*_, _≤_, _<_}
 use mathlib.Core.Path.{_≡_}
 use mathlib.Core.Logic.{_⊎_}
@@ -15,8 +15,8 @@ use Rattle.table.specs.Rules.{ruleOf, noAtom, pastRule}
 use Rattle.table.specs.Labels.{labelOf, absentLabel}
 
 -- The kept slot of an atom: 0 past the end.
-abbrev pub slotAt : List Label → ℕ → ℕ
-slotAt labels a = getD labels a absentLabel .slot .0
+abbrev pub labelSlot : List Label → ℕ → ℕ
+labelSlot labels a = getD labels a absentLabel .slot .0
 
 -- The atom's label says that it is in.
 abbrev pub KeptIn : List Label → ℕ → Type 0
@@ -30,33 +30,33 @@ positivesOf (in-at d s) r = ruleOf r .positives
 
 -- The positive entries of the rule in the kept slot of an in atom.
 abbrev pub positivesAt : List Rule → List Label → ℕ → List ℕ
-positivesAt rules labels a = positivesOf (labelOf (getD labels a absentLabel)) (getD rules (slotAt labels a) pastRule)
+positivesAt rules labels a = positivesOf (labelOf (getD labels a absentLabel)) (getD rules (labelSlot labels a) pastRule)
 
--- The place of entry j of the atom a in the array of all kept entries.
-abbrev pub place : ℕ → ℕ → ℕ
-place a j = a * document .entries + j
+-- Where entry j of the atom a stands in the array of all entries.
+abbrev pub entryIndex : ℕ → ℕ → ℕ
+entryIndex a j = a * document .entries + j
 
--- The entries kept for the atom a are xs.
-pub record EntriesKept (xs counts entries : List ℕ) (a : ℕ) : Type 0 where
+-- The entries copied for the atom a are xs.
+pub record EntriesCopied (xs counts entries : List ℕ) (a : ℕ) : Type 0 where
   pub counted : number counts a ≡ length xs
-  pub copied : (j : ℕ) → j < length xs → number entries (place a j) ≡ getD xs j 0
+  pub copied : (j : ℕ) → j < length xs → number entries (entryIndex a j) ≡ getD xs j 0
 
--- For each atom the positive entries of its supporting rule are kept.
+-- For each atom the positive entries of its supporting rule are copied.
 abbrev pub EntriesOf : List Rule → List Label → List ℕ → List ℕ → Type 0
-EntriesOf rules labels counts entries = (a : ℕ) → EntriesKept (positivesAt rules labels a) counts entries a
+EntriesOf rules labels counts entries = (a : ℕ) → EntriesCopied (positivesAt rules labels a) counts entries a
 
 -- Every label's slot is one of the table's.
 abbrev pub Slotted : List Label → Type 0
-Slotted labels = (a : ℕ) → slotAt labels a < document .slots
+Slotted labels = (a : ℕ) → labelSlot labels a < document .slots
 
--- x is one of the entries kept for the atom a.
-pub record KeptEntry (counts entries : List ℕ) (a x : ℕ) : Type 0 where
+-- x is one of the entries copied for the atom a.
+pub record SupportEntry (counts entries : List ℕ) (a x : ℕ) : Type 0 where
   pub index : ℕ
   pub counted : index < number counts a
-  pub there : number entries (place a index) ≡ x
+  pub there : number entries (entryIndex a index) ≡ x
 
 -- The array has room for n entries from a place on, where a rule has so many.
-pub record Room (n from : ℕ) (entries : List ℕ) : Type 0 where
+pub record Fits (n from : ℕ) (entries : List ℕ) : Type 0 where
   pub few : n ≤ document .entries
   pub long : length entries ≡ document .atoms * document .entries
   pub fits : from + n ≤ length entries

@@ -8,21 +8,15 @@ use mathlib.Core.Logic.{⊎-elim}
 use lib.Dec.{ltb}
 use lib.ListN.{length, length-map, List·getD-map}
 use Rattle.theory.specs.Labels as theory
-use Rattle.theory.specs.Labels.{in-at}
 use Rattle.theory.specs.Questions.{is-in-label}
 use Rattle.theory.proofs.Lists.{lt-ltb, ltb-lt, le-or-lt, unless}
 use Rattle.theory.specs.Certificate.{depth-in, slot-in, kept-in, kept-depth, kept-slot}
 use Rattle.table.specs.declared.Label.{Label}
 use Rattle.table.specs.Labels.{label-in, labelOf, labelAt, absentLabel}
 use Rattle.table.specs.Sets.{member, number}
-use Rattle.table.specs.declared.kept.Kept.{Kept}
-use Rattle.table.specs.Kept.{KeptOf}
-
--- What a label is, by its state.
-in-more : (n d s : ℕ) → 1 < n → label-in n d s ≡ in-at d s
-in-more zero d s l = absurd (omega arith)
-in-more (suc zero) d s l = absurd (omega arith)
-in-more (suc (suc n)) d s l = refl
+use Rattle.table.specs.declared.arrays.LabelArrays.{LabelArrays}
+use Rattle.table.specs.Arrays.{ArraysOf}
+use Rattle.table.proofs.Programs.{label-is-in}
 
 -- A field that an in label alone has: 0 for the others.
 in-less :
@@ -33,9 +27,6 @@ in-less f z a o (suc zero) d s l = o
 in-less f z a o (suc (suc n)) d s l = absurd (omega arith)
 
 module _ (l : Label) where
-  pub label-is-in : 1 < l .state → labelOf l ≡ in-at (l .depth) (l .slot .0)
-  label-is-in h = in-more (l .state) (l .depth) (l .slot .0) h
-
   pub label-not-in : {A : Type 0} (f : theory.Label → A) (z : A) → f theory.absent ≡ z → f theory.out ≡ z → l .state ≤ 1
       → f (labelOf l) ≡ z
   label-not-in f z a o h = in-less f z a o (l .state) (l .depth) (l .slot .0) h
@@ -44,11 +35,11 @@ module _ (l : Label) where
   in-test = ⊎-elim
       (λ (h : l .state ≤ 1). unless _ (λ t. (let k = ltb-lt 1 (l .state) t in omega arith))
       ∙ sym (label-not-in is-in-label false refl refl h))
-      (λ (h : 1 < l .state). lt-ltb 1 (l .state) h ∙ sym (ap is-in-label (label-is-in h)))
+      (λ (h : 1 < l .state). lt-ltb 1 (l .state) h ∙ sym (ap is-in-label (label-is-in l h)))
       (le-or-lt (l .state) 1)
 
 -- What was taken apart is what is kept.
-module _ (labels : List Label) (k : Kept) (K : KeptOf labels k) where
+module _ (labels : List Label) (k : LabelArrays) (K : ArraysOf labels k) where
   pub flags-long : length (k .flags) ≡ length labels
   flags-long = ap length (K .flags) ∙ simp length-map
 

@@ -1,10 +1,10 @@
--- `reach::follow` meets its contract. Assumes nothing.
+-- `reach::follow_edge` meets its contract. Assumes nothing.
 use native.Mathlib.Omega.{arith}
 use mathlib.Core.Path.{sym, _∙_}
 use borrow.Author.Needs.{needs}
 use Rattle.theory.proofs.Lists.{clash, not-true, not-false}
-use Rattle.reach.proofs.follow.Statement.{statement}
-use Rattle.reach.proofs.follow.Tie as tie
+use Rattle.reach.proofs.follow_edge.Statement.{statement}
+use Rattle.reach.proofs.follow_edge.Tie as tie
 
 is-source-requires : tie.Need-is-source-requires
 is-source-requires c κs = tt
@@ -42,13 +42,13 @@ returns-5 c =
       atom-from = search needs;
       atom-to = search needs;
       from-source = sym (tested .before .is-source .ensures) ∙ not-false _ (tested .if1 .left);
-      place = search needs;
+      inside = search needs;
       new = search needs;
       grown = search needs;
     }
 
-pub follow-spec : {M : Type 1} → statement M
-follow-spec =
+pub follow-edge-spec : {M : Type 1} → statement M
+follow-edge-spec =
     tie.close
     (tie.spec
     is-source-requires

@@ -1,9 +1,10 @@
--- `table::kept::slot_in` meets its contract. Assumes nothing.
+-- `table::arrays::slot_in` meets its contract. Assumes nothing.
 use mathlib.Core.Path.{refl, sym, ap}
 use Rattle.theory.specs.Certificate.{slot-in}
-use Rattle.table.proofs.KeptFields.{label-is-in, label-not-in}
-use Rattle.table.proofs.kept.slot_in.Statement.{statement}
-use Rattle.table.proofs.kept.slot_in.Tie as tie
+use Rattle.table.proofs.Programs.{label-is-in}
+use Rattle.table.proofs.LabelArrays.{label-not-in}
+use Rattle.table.proofs.arrays.slot_in.Statement.{statement}
+use Rattle.table.proofs.arrays.slot_in.Tie as tie
 
 returns : tie.Need-returns
 returns c = sym (ap slot-in (label-is-in (c .before .before .args .label) (c .if1 .taken)))

@@ -1,8 +1,8 @@
--- `reason_atoms::kept_entry` meets its contract. Assumes nothing.
+-- `reason_atoms::support_entry` meets its contract. Assumes nothing.
 use Rattle.table.proofs.Entries.{past}
 use borrow.Author.Needs.{needs}
-use Rattle.reason_atoms.proofs.kept_entry.Statement.{statement}
-use Rattle.reason_atoms.proofs.kept_entry.Tie as tie
+use Rattle.reason_atoms.proofs.support_entry.Statement.{statement}
+use Rattle.reason_atoms.proofs.support_entry.Tie as tie
 
 cast-k : tie.Need-cast-k
 cast-k c = search needs
@@ -25,6 +25,6 @@ returns c = search needs
 returns-2 : tie.Need-returns-2
 returns-2 c = search (needs, past)
 
-pub kept-entry-spec : {M : Type 1} → statement M
-kept-entry-spec =
+pub support-entry-spec : {M : Type 1} → statement M
+support-entry-spec =
     tie.close (tie.spec cast-k mul-k add-k mul-t12 shared-slice-read-t14 returns returns-2)
