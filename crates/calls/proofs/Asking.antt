@@ -25,15 +25,15 @@ use Rattle.table.specs.Clean.{freeRule}
 use Rattle.table.specs.Sound.{Sound}
 use Rattle.table.proofs.Programs.{slot-free, slot-held}
 use Rattle.refusals.specs.declared.Refusal.{Refusal}
-use Rattle.calls.specs.declared.Asked.{Asked}
-use Rattle.calls.specs.declared.Asked.the-variants.{Passed, Refused}
+use Rattle.calls.specs.declared.AskedAtom.{AskedAtom}
+use Rattle.calls.specs.declared.AskedAtom.the-variants.{Passed, Refused}
 use Rattle.calls.specs.declared.AskedSlot.{AskedSlot}
 use Rattle.calls.specs.declared.AskedSlot.the-variants as slot
 use Rattle.calls.specs.declared.LabelAnswer.the-variants as label
 use Rattle.calls.specs.declared.ListAnswer.the-variants as listed
 use Rattle.calls.specs.declared.ChangeAnswer.the-variants as changed
 use Rattle.calls.specs.declared.SpoilerAnswer.the-variants as spoilt
-use Rattle.calls.specs.Asking.{AskEnds, AskSlotEnds, unsound, refused, passed}
+use Rattle.calls.specs.Asking.{AskAtomEnds, AskSlotEnds, unsound, refused, passed}
 use Rattle.calls.specs.Contracts.{held, ChangeEnds, LabelEnds, ListEnds, SpoilerEnds}
 use Rattle.calls.specs.Contracts as contract
 
@@ -67,19 +67,19 @@ pub record Passes (t : Table) (a : ℕ) (x : Atom) : Type 0 where
 pub passes-low : (t : Table) (a : ℕ) (x : Atom) → Passes t a x → a < document .atoms
 passes-low t a x Q = ltb-lt a (document .atoms) (first-no-none (asks 10 (ltb a (document .atoms))) [] (Q .yes) .0)
 
-module _ (t : Table) (a : ℕ) (r : Asked) (E : AskEnds t a r) where
+module _ (t : Table) (a : ℕ) (r : AskedAtom) (E : AskAtomEnds t a r) where
   pub ask-passed : (x : Atom) → r ≡ Passed x → Passes t a x
-  ask-passed x e = go x (subst (AskEnds t a) e E)
+  ask-passed x e = go x (subst (AskAtomEnds t a) e E)
     where
-      go : (x : Atom) → AskEnds t a (Passed x) → Passes t a x
+      go : (x : Atom) → AskAtomEnds t a (Passed x) → Passes t a x
       go x (passed S q) = record { sound = S; yes = q; atom = refl }
 
   -- One was answered no: so ends a call that starts with these questions.
   module _ (f : Refusal) (e : r ≡ Refused f) where
     pub label-refused : LabelEnds t a (label.Refused f)
-    label-refused = go f (subst (AskEnds t a) e E)
+    label-refused = go f (subst (AskAtomEnds t a) e E)
       where
-        go : (f : Refusal) → AskEnds t a (Refused f) → LabelEnds t a (label.Refused f)
+        go : (f : Refusal) → AskAtomEnds t a (Refused f) → LabelEnds t a (label.Refused f)
         go f (unsound n) = contract.unsound n
         go f (refused g S q) = contract.refused g S q
 
@@ -87,9 +87,9 @@ module _ (t : Table) (a : ℕ) (r : Asked) (E : AskEnds t a r) where
         (questions : List Question) (Is : AtomSet → List ℕ → Type 0) (before : List ℕ)
         → ((k : ℕ) → first-no (atom-questions document a) ≡ some k → first-no questions ≡ some k)
         → ListEnds questions Is t before (listed.Refused f) before
-    list-refused questions Is before more = go f (subst (AskEnds t a) e E)
+    list-refused questions Is before more = go f (subst (AskAtomEnds t a) e E)
       where
-        go : (f : Refusal) → AskEnds t a (Refused f) → ListEnds questions Is t before (listed.Refused f) before
+        go : (f : Refusal) → AskAtomEnds t a (Refused f) → ListEnds questions Is t before (listed.Refused f) before
         go f (unsound n) = contract.unsound n
         go f (refused g S q) = contract.refused g S (more _ q)
 

@@ -7,8 +7,8 @@ use borrow.Author.Needs.{needs}
 use Rattle.reason_call.proofs.reason.Statement.{statement}
 use Rattle.reason_call.proofs.reason.Tie as tie
 
-ask-requires : tie.Need-ask-requires
-ask-requires c κs = tt
+ask-atom-requires : tie.Need-ask-atom-requires
+ask-atom-requires c κs = tt
 
 enum-known-asked : tie.Need-enum-known-asked
 enum-known-asked c = search needs
@@ -25,7 +25,7 @@ returns c =
     let asked = read .before .before .before in
     let ask = asked .before .before in
     let s = ask .before .before in
-    let passes = ask-passed (s .args .table) (s .args .atom) _ (ask .ask .ensures) _ (asked .asked2 .given .1) in
+    let passes = ask-passed (s .args .table) (s .args .atom) _ (ask .ask-atom .ensures) _ (asked .asked2 .given .1) in
     refused AtomNotIn (passes .sound)
     (refused-12 (s .args .table) (s .args .atom) _ passes _ (read .label-of .ensures) (c .if1 .taken))
 
@@ -36,7 +36,7 @@ listed-requires c κs =
     let asked = read .before .before .before in
     let ask = asked .before .before in
     let s = ask .before .before in
-    let passes = ask-passed (s .args .table) (s .args .atom) _ (ask .ask .ensures) _ (asked .asked2 .given .1) in (
+    let passes = ask-passed (s .args .table) (s .args .atom) _ (ask .ask-atom .ensures) _ (asked .asked2 .given .1) in (
       passes .sound,
       is-kept-in (s .args .table) (s .args .atom) _ passes _ (read .label-of .ensures) (is-in .if1 .left),
     )
@@ -46,7 +46,7 @@ returns-2 c =
     let asked = c .before in
     let ask = asked .before .before in
     let s = ask .before .before in
-    list-refused (s .args .table) (s .args .atom) _ (ask .ask .ensures) _ (asked .asked .given .1) _ _ _
+    list-refused (s .args .table) (s .args .atom) _ (ask .ask-atom .ensures) _ (asked .asked .given .1) _ _ _
     (asked-first _ _)
 
 same-length : tie.Need-same-length
@@ -59,14 +59,14 @@ returns-3 c =
     let asked = read .before .before .before in
     let ask = asked .before .before in
     let s = ask .before .before in
-    let passes = ask-passed (s .args .table) (s .args .atom) _ (ask .ask .ensures) _ (asked .asked2 .given .1) in
+    let passes = ask-passed (s .args .table) (s .args .atom) _ (ask .ask-atom .ensures) _ (asked .asked2 .given .1) in
     ends-asked (s .args .table) (s .args .atom) _ passes _ _ _ (listed .listed .ensures)
 
 pub reason-spec : {M : Type 1} → statement M
 reason-spec =
     tie.close
     (tie.spec
-    ask-requires
+    ask-atom-requires
     enum-known-asked
     enum-known-asked-2
     label-of-requires

@@ -1,12 +1,12 @@
--- `calls::slots::ask_slot` meets its contract: the refusal is that of the first question answered no. Assumes nothing.
+-- `calls::ask_slot` meets its contract: the refusal is that of the first question answered no. Assumes nothing.
 use Rattle.table.specs.Sound.{Sound}
 use Rattle.questions.proofs.Passes as sound
 use Rattle.refusals.specs.declared.Refusal.the-variants.{SlotTooLarge, SlotFree}
 use Rattle.calls.specs.Asking.{unsound, refused, passed}
 use Rattle.calls.proofs.Asking.{slot-past, slot-empty, slot-yes}
 use borrow.Author.Needs.{needs}
-use Rattle.calls.proofs.slots.ask_slot.Statement.{statement}
-use Rattle.calls.proofs.slots.ask_slot.Tie as tie
+use Rattle.calls.proofs.ask_slot.Statement.{statement}
+use Rattle.calls.proofs.ask_slot.Tie as tie
 
 -- Past the first test the table is sound.
 is-sound : (c : tie.Else1) → Sound (c .before .before .args .table)

@@ -1,12 +1,12 @@
--- `calls::ask` meets its contract: the refusal is that of the first question answered no. Assumes nothing.
+-- `calls::ask_atom` meets its contract: the refusal is that of the first question answered no. Assumes nothing.
 use Rattle.table.specs.Sound.{Sound}
 use Rattle.questions.proofs.Passes as sound
 use Rattle.refusals.specs.declared.Refusal.the-variants.{AtomTooLarge}
 use Rattle.calls.specs.Asking.{unsound, refused, passed}
 use Rattle.calls.proofs.Asking.{atom-yes, atom-no, atom-low}
 use borrow.Author.Needs.{needs}
-use Rattle.calls.proofs.ask.Statement.{statement}
-use Rattle.calls.proofs.ask.Tie as tie
+use Rattle.calls.proofs.ask_atom.Statement.{statement}
+use Rattle.calls.proofs.ask_atom.Tie as tie
 
 -- Past the first test the table is sound.
 is-sound : (c : tie.Else1) → Sound (c .before .before .args .table)
@@ -39,5 +39,5 @@ returns-3 c =
     passed (is-sound (c .before .before))
     (atom-yes (s .args .atom) _ (c .before .head-fits .ensures) (c .if2 .left))
 
-pub ask-spec : {M : Type 1} → statement M
-ask-spec = tie.close (tie.spec sound-requires returns head-fits-requires returns-2 cast-a returns-3)
+pub ask-atom-spec : {M : Type 1} → statement M
+ask-atom-spec = tie.close (tie.spec sound-requires returns head-fits-requires returns-2 cast-a returns-3)
