@@ -2,10 +2,9 @@
 use Prim.Native.Nat.{ℕ, _≤_, _<_}
 use native.Mathlib.Omega.{arith}
 use mathlib.Core.Path.{_≡_, refl, sym, _∙_, ap, subst}
-use mathlib.Core.Logic.{⊎-elim}
 use mathlib.Core.Bool.{Bool, true, false, not}
 use mathlib.Core.List.{List, [], _∷_}
-use mathlib.Core.Option.{none, some, Option·none-ne-some}
+use mathlib.Core.Option.{none, some}
 use lib.Dec.{ltb}
 use lib.ListN.{length, getD, List·getD-map}
 use Rattle.theory.specs.Rules.{Pages, Program, all, rule-on, Held}
@@ -13,7 +12,7 @@ use Rattle.theory.specs.Rules as theory
 use Rattle.theory.specs.Models.{AtomSet}
 use Rattle.theory.specs.Questions.{Question, first-no, asks, atom-questions, slot-questions, is-some}
 use Rattle.theory.specs.Limits.{document}
-use Rattle.theory.proofs.Lists.{test, clash, ltb-lt, lt-ltb, unless, not-true, not-false}
+use Rattle.theory.proofs.Lists.{clash, ltb-lt, lt-ltb, unless, not-true, not-false}
 use Rattle.theory.proofs.Pages.{all-at}
 use Rattle.theory.proofs.Questions.{first-no-yes, first-no-here, first-no-none, held-below}
 use Rattle.table.specs.declared.Atom.{Atom}
@@ -48,15 +47,6 @@ module _ (a : ℕ) (b : Bool) (told : b ≡ ltb a (document .atoms)) where
 
   pub atom-low : not b ≡ false → a < document .atoms
   atom-low t = ltb-lt a (document .atoms) (sym told ∙ not-false b t)
-
--- A first question answered no is the refusal, whatever is asked after it.
-pub asked-first :
-    (q : Question) (qs : List Question) (k : ℕ) → first-no (q ∷ []) ≡ some k → first-no (q ∷ qs) ≡ some k
-unfolding first-no
-asked-first q qs k e = ⊎-elim
-    (λ (t : q .yes? ≡ true). absurd (Option·none-ne-some k (sym (first-no-yes q [] t) ∙ e)))
-    (λ (t : q .yes? ≡ false). first-no-here q qs t ∙ sym (first-no-here q [] t) ∙ e)
-    (test (q .yes?))
 
 -- Both were answered yes of the atom x.
 pub record Passes (t : Table) (a : ℕ) (x : Atom) : Type 0 where

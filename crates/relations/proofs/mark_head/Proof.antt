@@ -1,9 +1,9 @@
--- `relations::follow` meets its contract. Assumes nothing.
+-- `relations::mark_head` meets its contract. Assumes nothing.
 use mathlib.Core.Path.{sym, _∙_, ap}
 use Rattle.theory.proofs.Lists.{not-true, not-false}
 use Rattle.relations.specs.Marks.{mark-if}
-use Rattle.relations.proofs.follow.Statement.{statement}
-use Rattle.relations.proofs.follow.Tie as tie
+use Rattle.relations.proofs.mark_head.Statement.{statement}
+use Rattle.relations.proofs.mark_head.Tie as tie
 
 has-entry-requires : tie.Need-has-entry-requires
 has-entry-requires c κs = tt
@@ -27,5 +27,5 @@ returns-2 c =
     ∙ sym (ap (λ b. mark-if b (s .args .flags .now) (s .args .rule .head .0))
     (sym (h .has-entry .ensures) ∙ not-false _ (t .if1 .left)))
 
-pub follow-spec : {M : Type 1} → statement M
-follow-spec = tie.close (tie.spec has-entry-requires returns mark-requires returns-2)
+pub mark-head-spec : {M : Type 1} → statement M
+mark-head-spec = tie.close (tie.spec has-entry-requires returns mark-requires returns-2)

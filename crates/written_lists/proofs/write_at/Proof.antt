@@ -1,9 +1,9 @@
--- `written_lists::put` meets its contract. Assumes nothing.
+-- `written_lists::write_at` meets its contract. Assumes nothing.
 use mathlib.Core.Path.{sym}
 use lib.Seq.{set-out}
 use borrow.Author.Needs.{needs}
-use Rattle.written_lists.proofs.put.Statement.{statement}
-use Rattle.written_lists.proofs.put.Tie as tie
+use Rattle.written_lists.proofs.write_at.Statement.{statement}
+use Rattle.written_lists.proofs.write_at.Tie as tie
 
 mul-buffer : tie.Need-mul-buffer
 mul-buffer c = search needs
@@ -20,5 +20,5 @@ returns c = search needs
 returns-2 : tie.Need-returns-2
 returns-2 c = sym (set-out _ _ _ (search needs))
 
-pub put-spec : {M : Type 1} → statement M
-put-spec = tie.close (tie.spec mul-buffer slice-write-buffer same-length returns returns-2)
+pub write-at-spec : {M : Type 1} → statement M
+write-at-spec = tie.close (tie.spec mul-buffer slice-write-buffer same-length returns returns-2)

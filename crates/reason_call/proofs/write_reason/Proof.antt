@@ -1,11 +1,11 @@
--- `reason_call::listed` meets its contract: what was gathered, counted and written is the reason. Assumes nothing.
+-- `reason_call::write_reason` meets its contract: what was gathered, counted and written is the reason. Assumes nothing.
 use mathlib.Core.Path.{_≡_}
 use lib.ListN.{length, length-map}
 use Rattle.theory.specs.Limits.{document}
 use Rattle.reason_call.proofs.Reasons.{slotted, ends-short, ends-written}
 use borrow.Author.Needs.{needs}
-use Rattle.reason_call.proofs.listed.Statement.{statement}
-use Rattle.reason_call.proofs.listed.Tie as tie
+use Rattle.reason_call.proofs.write_reason.Statement.{statement}
+use Rattle.reason_call.proofs.write_reason.Tie as tie
 
 -- The table has a label for each atom.
 long : (s : tie.Start) → length (s .args .table .labels) ≡ document .atoms
@@ -63,8 +63,8 @@ returns-2 c =
     (c .before .before .before .before .before .before .before .if1 .left) _ _
     (c .before .before .write-slots .ensures)
 
-pub listed-spec : {M : Type 1} → statement M
-listed-spec =
+pub write-reason-spec : {M : Type 1} → statement M
+write-reason-spec =
     tie.close
     (tie.spec
     keep-requires
