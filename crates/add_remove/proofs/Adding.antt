@@ -1,5 +1,5 @@
 -- How an addition to a sound table ends, from the answers of its questions. Assumes nothing.
-use Prim.Native.Nat.{ℕ, _≤_, _<_}
+use Prim.Native.Nat.{ℕ, _<_}
 use mathlib.Core.Path.{_≡_, refl, sym, _∙_, ap, subst}
 use mathlib.Core.Bool.{true, false, not}
 use mathlib.Core.List.{List, [], _∷_}
@@ -18,7 +18,6 @@ use Rattle.theory.proofs.Questions.{first-no-yes, first-no-here, first-no-take,
 use Rattle.table.specs.declared.Rule.{Rule}
 use Rattle.table.specs.declared.Table.{Table}
 use Rattle.table.specs.Rules.{bookOf, programOf}
-use Rattle.table.specs.Questions.{refusalNumber}
 use Rattle.table.specs.Sound.{Sound}
 use Rattle.refusals.specs.declared.Refusal.{Refusal}
 use Rattle.refusals.specs.declared.Refusal.the-variants as refusal
@@ -30,7 +29,7 @@ use Rattle.calls.specs.Contracts.{held, Sized, AddEnds}
 use Rattle.labels.specs.declared.Labelling.{Labelling}
 use Rattle.labels.specs.Labelling.{LabellingOf}
 use Rattle.new_rule.specs.Parts.{SlotWith}
-use Rattle.add_remove.proofs.Putting.{rule-refused, book-put, bounded-put, put-cyclic, put-stratified, put-sized}
+use Rattle.add_remove.proofs.Putting.{book-put, bounded-put, put-cyclic, put-stratified, put-sized}
 use Rattle.add_remove.proofs.Putting.{put-sound}
 
 -- A refusal that hands the table back as it came.
@@ -42,10 +41,8 @@ handed-back t q f r e E = subst (λ (x : Added). AddEnds t q (x .answer) (x .tab
 -- An addition of the rule q to the table t.
 module _ (t : Table) (S : Sound t) (q : theory.Rule) where
   pub refused-early :
-      (k : ℕ) → k ≡ refusalNumber (first-no (rule-questions document q)) → (k ≡ 0 → ⊥) → (f : Refusal)
-      → (0 < k → k ≤ 4 → numberOf f ≡ k) → AddEnds t q (added.Refused f) t
-  refused-early k told n f number =
-      contract.refused f S (first-no-before (rule-questions document q) _ _ (rule-refused q k told n f number))
+      (f : Refusal) → some (numberOf f) ≡ first-no (rule-questions document q) → AddEnds t q (added.Refused f) t
+  refused-early f e = contract.refused f S (first-no-before (rule-questions document q) _ _ (sym e))
 
   module _ (pass : first-no (rule-questions document q) ≡ none) where
     four : first-no (add-questions document (all (held t)) q)

@@ -23,11 +23,8 @@ use Rattle.theory.proofs.Questions.{first-no-asked}
 use Rattle.table.specs.declared.Rule.{Rule}
 use Rattle.table.specs.declared.Table.{Table}
 use Rattle.table.specs.Rules.{bookOf, programOf, ruleOf, slotOf}
-use Rattle.table.specs.Questions.{refusalNumber}
 use Rattle.table.specs.Sound.{Sound}
 use Rattle.table.proofs.Programs.{slot-rule}
-use Rattle.refusals.specs.declared.Refusal.{Refusal}
-use Rattle.refusals.specs.Refusals.{numberOf}
 use Rattle.calls.specs.Contracts.{held, Sized}
 use Rattle.labels.specs.declared.Labelling.{Labelling}
 use Rattle.labels.specs.Labelling.{LabellingOf}
@@ -46,29 +43,6 @@ same-told P up q pass r R b v e u =
     (λ y. (let w = told .0 y in e .1 (w .0, subst (Held P (w .0)) (sym one) (w .1))))
     (λ y. (let w = e .0 y in told .1 (w .0, subst (Held P (w .0)) one (w .1))))
     ∙ u
-
--- One of questions 1 to 4 is answered no, and the refusal has its number.
-
-rule-number : (q : theory.Rule) (k : ℕ) → first-no (rule-questions document q) ≡ some k → (0 < k) × (k ≤ 4)
-unfolding every
-rule-number q k e =
-    let u = every-at (λ j. ltb 0 j && leb j 4) (1 ∷ 2 ∷ 3 ∷ 4 ∷ []) refl k
-    (first-no-asked (rule-questions document q) k e) in
-    (ltb-lt 0 k (and-l (ltb 0 k) _ u), leb-le k 4 (and-r (ltb 0 k) _ u))
-
-pub rule-refused :
-    (q : theory.Rule) (k : ℕ) → k ≡ refusalNumber (first-no (rule-questions document q)) → (k ≡ 0 → ⊥) → (f : Refusal)
-    → (0 < k → k ≤ 4 → numberOf f ≡ k) → first-no (rule-questions document q) ≡ some (numberOf f)
-rule-refused q k told n f number = by (first-no (rule-questions document q)) refl
-  where
-    by :
-        (o : Option ℕ) → first-no (rule-questions document q) ≡ o
-        → first-no (rule-questions document q) ≡ some (numberOf f)
-    by none e = absurd (n (told ∙ ap refusalNumber e))
-    by (some j) e =
-        let w = rule-number q j e in
-        let i : k ≡ j = told ∙ ap refusalNumber e in
-        e ∙ ap some (sym i ∙ sym (number (omega arith) (omega arith)))
 
 -- The slot r, made for the rule q, which passes questions 1 to 4, is put as slot s of the table t. No other slot holds
 -- that rule.

@@ -2,10 +2,9 @@
 use Prim.Native.Nat.{ℕ, _≤_, _<_}
 use native.Mathlib.Omega.{arith}
 use mathlib.Core.Path.{_≡_, refl, sym, _∙_, ap, subst}
-use mathlib.Core.Logic.{⊎-elim}
 use mathlib.Core.Bool.{Bool, true, false, not}
 use mathlib.Core.List.{List, [], _∷_}
-use mathlib.Core.Option.{none, some, Option·none-ne-some}
+use mathlib.Core.Option.{none, some}
 use lib.Dec.{ltb}
 use lib.ListN.{length, getD, List·getD-map}
 use Rattle.theory.specs.Rules.{Pages, Program, all, rule-on, Held}
@@ -13,7 +12,7 @@ use Rattle.theory.specs.Rules as theory
 use Rattle.theory.specs.Models.{AtomSet}
 use Rattle.theory.specs.Questions.{Question, first-no, asks, atom-questions, slot-questions, is-some}
 use Rattle.theory.specs.Limits.{document}
-use Rattle.theory.proofs.Lists.{test, clash, ltb-lt, lt-ltb, unless, not-true, not-false}
+use Rattle.theory.proofs.Lists.{clash, ltb-lt, lt-ltb, unless, not-true, not-false}
 use Rattle.theory.proofs.Pages.{all-at}
 use Rattle.theory.proofs.Questions.{first-no-yes, first-no-here, first-no-none, held-below}
 use Rattle.table.specs.declared.Atom.{Atom}
@@ -25,15 +24,15 @@ use Rattle.table.specs.Clean.{freeRule}
 use Rattle.table.specs.Sound.{Sound}
 use Rattle.table.proofs.Programs.{slot-free, slot-held}
 use Rattle.refusals.specs.declared.Refusal.{Refusal}
-use Rattle.calls.specs.declared.Asked.{Asked}
-use Rattle.calls.specs.declared.Asked.the-variants.{Passed, Refused}
+use Rattle.calls.specs.declared.AskedAtom.{AskedAtom}
+use Rattle.calls.specs.declared.AskedAtom.the-variants.{Passed, Refused}
 use Rattle.calls.specs.declared.AskedSlot.{AskedSlot}
 use Rattle.calls.specs.declared.AskedSlot.the-variants as slot
 use Rattle.calls.specs.declared.LabelAnswer.the-variants as label
 use Rattle.calls.specs.declared.ListAnswer.the-variants as listed
 use Rattle.calls.specs.declared.ChangeAnswer.the-variants as changed
 use Rattle.calls.specs.declared.SpoilerAnswer.the-variants as spoilt
-use Rattle.calls.specs.Asking.{AskEnds, AskSlotEnds, unsound, refused, passed}
+use Rattle.calls.specs.Asking.{AskAtomEnds, AskSlotEnds, unsound, refused, passed}
 use Rattle.calls.specs.Contracts.{held, ChangeEnds, LabelEnds, ListEnds, SpoilerEnds}
 use Rattle.calls.specs.Contracts as contract
 
@@ -49,15 +48,6 @@ module _ (a : ℕ) (b : Bool) (told : b ≡ ltb a (document .atoms)) where
   pub atom-low : not b ≡ false → a < document .atoms
   atom-low t = ltb-lt a (document .atoms) (sym told ∙ not-false b t)
 
--- A first question answered no is the refusal, whatever is asked after it.
-pub asked-first :
-    (q : Question) (qs : List Question) (k : ℕ) → first-no (q ∷ []) ≡ some k → first-no (q ∷ qs) ≡ some k
-unfolding first-no
-asked-first q qs k e = ⊎-elim
-    (λ (t : q .yes? ≡ true). absurd (Option·none-ne-some k (sym (first-no-yes q [] t) ∙ e)))
-    (λ (t : q .yes? ≡ false). first-no-here q qs t ∙ sym (first-no-here q [] t) ∙ e)
-    (test (q .yes?))
-
 -- Both were answered yes of the atom x.
 pub record Passes (t : Table) (a : ℕ) (x : Atom) : Type 0 where
   pub sound : Sound t
@@ -67,19 +57,19 @@ pub record Passes (t : Table) (a : ℕ) (x : Atom) : Type 0 where
 pub passes-low : (t : Table) (a : ℕ) (x : Atom) → Passes t a x → a < document .atoms
 passes-low t a x Q = ltb-lt a (document .atoms) (first-no-none (asks 10 (ltb a (document .atoms))) [] (Q .yes) .0)
 
-module _ (t : Table) (a : ℕ) (r : Asked) (E : AskEnds t a r) where
+module _ (t : Table) (a : ℕ) (r : AskedAtom) (E : AskAtomEnds t a r) where
   pub ask-passed : (x : Atom) → r ≡ Passed x → Passes t a x
-  ask-passed x e = go x (subst (AskEnds t a) e E)
+  ask-passed x e = go x (subst (AskAtomEnds t a) e E)
     where
-      go : (x : Atom) → AskEnds t a (Passed x) → Passes t a x
+      go : (x : Atom) → AskAtomEnds t a (Passed x) → Passes t a x
       go x (passed S q) = record { sound = S; yes = q; atom = refl }
 
   -- One was answered no: so ends a call that starts with these questions.
   module _ (f : Refusal) (e : r ≡ Refused f) where
     pub label-refused : LabelEnds t a (label.Refused f)
-    label-refused = go f (subst (AskEnds t a) e E)
+    label-refused = go f (subst (AskAtomEnds t a) e E)
       where
-        go : (f : Refusal) → AskEnds t a (Refused f) → LabelEnds t a (label.Refused f)
+        go : (f : Refusal) → AskAtomEnds t a (Refused f) → LabelEnds t a (label.Refused f)
         go f (unsound n) = contract.unsound n
         go f (refused g S q) = contract.refused g S q
 
@@ -87,9 +77,9 @@ module _ (t : Table) (a : ℕ) (r : Asked) (E : AskEnds t a r) where
         (questions : List Question) (Is : AtomSet → List ℕ → Type 0) (before : List ℕ)
         → ((k : ℕ) → first-no (atom-questions document a) ≡ some k → first-no questions ≡ some k)
         → ListEnds questions Is t before (listed.Refused f) before
-    list-refused questions Is before more = go f (subst (AskEnds t a) e E)
+    list-refused questions Is before more = go f (subst (AskAtomEnds t a) e E)
       where
-        go : (f : Refusal) → AskEnds t a (Refused f) → ListEnds questions Is t before (listed.Refused f) before
+        go : (f : Refusal) → AskAtomEnds t a (Refused f) → ListEnds questions Is t before (listed.Refused f) before
         go f (unsound n) = contract.unsound n
         go f (refused g S q) = contract.refused g S (more _ q)
 

@@ -12,7 +12,7 @@ use Rattle.theory.specs.Rules.{Pages, all, active, new-page}
 use Rattle.theory.specs.Rules as theory
 use Rattle.theory.specs.Models.{AtomSet, Admissible}
 use Rattle.theory.specs.Questions.{Question, first-no, add-questions, slot-questions, replace-questions}
-use Rattle.theory.specs.Questions.{atom-questions, reason-questions}
+use Rattle.theory.specs.Questions.{rule-questions, atom-questions, reason-questions}
 use Rattle.theory.specs.Limits.{document}
 use Rattle.theory.proofs.Lists.{every-at, not-true, clash, eqb-of}
 use Rattle.theory.proofs.Questions.{first-no-asked}
@@ -22,6 +22,9 @@ use Rattle.table.specs.Labels.{labelAt}
 use Rattle.table.specs.Sound.{Sound}
 use Rattle.refusals.specs.declared.Refusal.{Refusal}
 use Rattle.refusals.specs.declared.Refusal.the-variants.{BufferTooShort}
+use Rattle.questions.specs.declared.AskedRule.{AskedRule}
+use Rattle.questions.specs.declared.AskedRule.the-variants as rule
+use Rattle.questions.specs.Asked.{firstNoTold}
 use Rattle.calls.specs.declared.AddAnswer.{AddAnswer}
 use Rattle.calls.specs.declared.AddAnswer.the-variants as added
 use Rattle.calls.specs.declared.ChangeAnswer.{ChangeAnswer}
@@ -60,11 +63,24 @@ refusal-unique qs t f g d e =
 pub both : (qs : List Question) (k : ℕ) → first-no qs ≡ some k → first-no qs ≡ none → ⊥
 both qs k d e = Option·none-ne-some k (sym e ∙ d)
 
+-- The answer to questions 1 to 4 of a rule is determined by its contract.
+pub ask-rule-determined :
+    (r : theory.Rule) (x y : AskedRule) → firstNoTold x ≡ first-no (rule-questions document r)
+    → firstNoTold y ≡ first-no (rule-questions document r) → x ≡ y
+unfolding every
+ask-rule-determined r rule.Passed rule.Passed d e = refl
+ask-rule-determined r rule.Passed (rule.Refused g) d e = absurd (both (rule-questions document r) _ (sym e) (sym d))
+ask-rule-determined r (rule.Refused f) rule.Passed d e = absurd (both (rule-questions document r) _ (sym d) (sym e))
+ask-rule-determined r (rule.Refused f) (rule.Refused g) d e =
+    ap rule.Refused (refusal-unique (rule-questions document r) refl f g (sym d) (sym e))
+
 -- The admissible model of a sound table's unmuted rules is one set.
 pub same-model :
     (t : Table) → Sound t → (M N : AtomSet) → Admissible (active (held t)) M → Admissible (active (held t)) N → M ≡ N
 same-model t S M N A B = fun-ext (one-model (held t) (S .labels .acyclic) M N A B)
 
+-- Two additions of the same rule to the same table. Refused, both name the first question answered no; accepted, both
+-- take the lowest free slot and leave the same pages, so the same table (`table-unique`). One of each cannot be.
 pub add-determined :
     (t : Table) (r : theory.Rule) (x y : AddAnswer) (u v : Table) → AddEnds t r x u → AddEnds t r y v
     → (x ≡ y) × (u ≡ v)
@@ -84,7 +100,8 @@ add-determined t r x y u v (contract.accepted s w S d l Z h U) (contract.accepte
     let rules = h ∙ ap (λ (n : ℕ). set (held t) n (some (new-page r))) same ∙ sym i in
     (ap added.Taken slot, table-unique w z Z Y U W rules)
 
--- A call that answers that it was accepted, where its questions do not ask 11.
+-- A call that answers that it was accepted, where its questions do not ask 11: the refusal is that of the first question
+-- answered no, and the pages afterwards determine the table.
 change-determined :
     (qs : List Question) → every (λ k. not (eqb k 11)) (map (λ q. q .number) qs) ≡ true → (B : Pages) (t : Table)
     (x y : ChangeAnswer) (u v : Table) → ChangeEnds qs B t x u → ChangeEnds qs B t y v → (x ≡ y) × (u ≡ v)
@@ -118,6 +135,7 @@ pub mute-determined :
 unfolding every
 mute-determined t s m = change-determined (slot-questions document (all (held t)) s) refl _ t
 
+-- The rules of a sound table have one admissible model, and an atom one label in it.
 pub label-determined : (t : Table) (a : ℕ) (x y : LabelAnswer) → LabelEnds t a x → LabelEnds t a y → x ≡ y
 unfolding every
 label-determined t a x y (contract.unsound n) (contract.unsound m) = refl
@@ -132,6 +150,7 @@ label-determined t a x y (contract.accepted M k S d A L) (contract.refused g T e
 label-determined t a x y (contract.accepted M k S d A L) (contract.accepted N j T e B K) =
     ap tellLabel (same-label (held t) M N a k j (S .labels .acyclic) A B L K)
 
+-- The page of the slot is one, and so is the model in which its rule is read.
 pub spoiler-determined : (t : Table) (s : ℕ) (x y : SpoilerAnswer) → SpoilerEnds t s x → SpoilerEnds t s y → x ≡ y
 unfolding every
 spoiler-determined t s x y (contract.unsound n) (contract.unsound m) = refl
@@ -146,7 +165,8 @@ spoiler-determined t s x y (contract.accepted M r S d h A) (contract.refused g T
 spoiler-determined t s x y (contract.accepted M r S d h A) (contract.accepted N q T e i B) =
     ap₂ tellPage (same-model t S M N A B) (Option·some-injective r q (sym h ∙ i))
 
--- A call that writes a list, where its questions do not ask 11 and the list is determined by the model.
+-- A call that writes a list, where its questions do not ask 11 and the list is determined by the model: then so is its
+-- length, which tells whether the buffer is too short, and every entry of the buffer.
 module _ (qs : List Question) (other : every (λ k. not (eqb k 11)) (map (λ q. q .number) qs) ≡ true)
     (Is : AtomSet → List ℕ → Type 0) (alone : (M : AtomSet) (xs ys : List ℕ) → Is M xs → Is M ys → xs ≡ ys) where
   same-list :
@@ -181,7 +201,7 @@ module _ (qs : List Question) (other : every (λ k. not (eqb k 11)) (map (λ q. 
       let same = same-list t M N xs ys S A B X Y in
       (ap (λ (zs : List ℕ). listed.Count (length zs)) same, ap (λ (zs : List ℕ). zs ++ drop (length zs) b) same)
 
--- Each of the four.
+-- Each of the four: a set is written ascending in one way, a reason by depth and then by number in one way.
 
 pub justifications-determined :
     (t : Table) (a : ℕ) (b : List ℕ) (x y : ListAnswer) (c d : List ℕ) → JustificationsEnd t a b x c
@@ -218,6 +238,7 @@ pub save-determined :
 unfolding every
 save-determined t = list-determined [] refl _ (λ M xs ys X Y. X ∙ sym Y) t
 
+-- Bytes that are accepted record one list of pages, and these determine the table.
 pub load-determined :
     (bytes : List ℕ) (x y : ChangeAnswer) (u v : Table) → LoadEnds bytes x u → LoadEnds bytes y v → (x ≡ y) × (u ≡ v)
 unfolding every

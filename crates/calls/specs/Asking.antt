@@ -10,20 +10,20 @@ use Rattle.table.specs.Rules.{programOf}
 use Rattle.table.specs.Sound.{Sound}
 use Rattle.refusals.specs.declared.Refusal.{Refusal}
 use Rattle.refusals.specs.declared.Refusal.the-variants.{TableUnsound}
-use Rattle.calls.specs.declared.Asked.{Asked}
-use Rattle.calls.specs.declared.Asked.the-variants as asked
+use Rattle.calls.specs.declared.AskedAtom.{AskedAtom}
+use Rattle.calls.specs.declared.AskedAtom.the-variants as asked
 use Rattle.calls.specs.declared.AskedSlot.{AskedSlot}
 use Rattle.calls.specs.declared.AskedSlot.the-variants as asked-slot
 use Rattle.refusals.specs.Refusals.{numberOf}
 
 -- The table is not sound (15), the first question of the atom is answered no, or that atom passes.
-pub data AskEnds (t : Table) (a : ℕ) : Asked → Type 0 where
-  unsound : (Sound t → ⊥) → AskEnds t a (asked.Refused TableUnsound)
+pub data AskAtomEnds (t : Table) (a : ℕ) : AskedAtom → Type 0 where
+  unsound : (Sound t → ⊥) → AskAtomEnds t a (asked.Refused TableUnsound)
   refused :
       (f : Refusal) → Sound t → first-no (atom-questions document a) ≡ some (numberOf f)
-      → AskEnds t a (asked.Refused f)
+      → AskAtomEnds t a (asked.Refused f)
   passed :
-      Sound t → first-no (atom-questions document a) ≡ none → AskEnds t a (asked.Passed (record { 0 = a }))
+      Sound t → first-no (atom-questions document a) ≡ none → AskAtomEnds t a (asked.Passed (record { 0 = a }))
 
 -- The same of a slot: the slot that passes holds a rule.
 pub data AskSlotEnds (t : Table) (s : ℕ) : AskedSlot → Type 0 where

@@ -6,9 +6,8 @@ use sound::sound;
 use table::Atom;
 use table::Slot;
 use table::Table;
-ghost use Rattle.calls.specs.Asking.{AskEnds};
-
-pub mod slots; // slots.rt: the questions that a call on a slot asks first
+use table::parts::rule_in;
+ghost use Rattle.calls.specs.Asking.{AskAtomEnds, AskSlotEnds};
 
 // The slot that an addition took.
 pub enum AddAnswer {
@@ -57,7 +56,7 @@ pub enum ListAnswer {
 }
 
 // What questions 15 and 10 answer: the atom asked about, or the refusal.
-pub enum Asked {
+pub enum AskedAtom {
     Passed(Atom),
     Refused(Refusal),
 }
@@ -69,15 +68,34 @@ pub enum AskedSlot {
 }
 
 // Asks 15, then 10. Each call on an atom starts with it.
-pub fn ask(table: Table, atom: u32) -> Asked
-    ensures { λ r. ⌜ AskEnds table atom r ⌝ }
+pub fn ask_atom(table: Table, atom: u32) -> AskedAtom
+    ensures { λ r. ⌜ AskAtomEnds table atom r ⌝ }
 {
     if !sound(table) {
-        return Asked::Refused(Refusal::TableUnsound);
+        return AskedAtom::Refused(Refusal::TableUnsound);
     }
     if !head_fits(atom) {
-        return Asked::Refused(Refusal::AtomTooLarge);
+        return AskedAtom::Refused(Refusal::AtomTooLarge);
     }
     let a = atom as u16;
-    Asked::Passed(Atom(a))
+    AskedAtom::Passed(Atom(a))
+}
+
+// Asks 15, 8, 9. Each call on a slot starts with it.
+pub fn ask_slot(table: Table, slot: u32) -> AskedSlot
+    ensures { λ r. ⌜ AskSlotEnds table slot r ⌝ }
+{
+    if !sound(table) {
+        return AskedSlot::Refused(Refusal::TableUnsound);
+    }
+    if slot as usize >= Table::SLOTS {
+        return AskedSlot::Refused(Refusal::SlotTooLarge);
+    }
+    let s = slot as u16;
+    let rules = table.rules;
+    let held = rule_in(rules, Slot(s));
+    if held.state == 0 {
+        return AskedSlot::Refused(Refusal::SlotFree);
+    }
+    AskedSlot::Passed(Slot(s))
 }

@@ -1,7 +1,6 @@
 -- What request #108 asks to be shown (specification 9.5), of what the calls answer and hand back. (Demands 2 and 3 with
 -- mutings stand in crates/history.) Assumes nothing.
 use Prim.Native.Nat.{ℕ, _<_}
-use native.Mathlib.Omega.{arith}
 use mathlib.Core.Path.{_≡_, refl, sym, _∙_, ap, ap₂, subst}
 use mathlib.Core.Bool.{Bool, true, false}
 use mathlib.Core.List.{[], _∷_, map}
@@ -16,7 +15,7 @@ use Rattle.theory.specs.Derivations.{Depth}
 use Rattle.theory.specs.Labels.{Label, out, Labelled, is-absent, is-out, is-in, Supporting}
 use Rattle.theory.specs.Questions.{first-no, slot-questions}
 use Rattle.theory.specs.Limits.{document}
-use Rattle.theory.proofs.Lists.{unless}
+use Rattle.theory.proofs.Lists.{some-below, unless}
 use Rattle.theory.proofs.Rules.{rules-at}
 use Rattle.theory.proofs.Found.{ordered-rule}
 use Rattle.theory.proofs.Questions.{held-below, never-refused}
@@ -72,10 +71,6 @@ module _ (t : Table) (s : ℕ) (m : Bool) (p : Page) (h : getD (held t) s none �
   set-accepted u x (contract.refused f T e) = absurd (both _ _ e asked)
   set-accepted u x (contract.accepted w T e Z i U) = (refl, (U, Z, i))
 
--- A page that is held is one of the book's.
-page-below : (B : Pages) (s : ℕ) (p : Page) → getD B s none ≡ some p → s < length B
-page-below B s p h = omega (arith, held-below (all B) s (p .rule) (held-page B s p h), all-length B)
-
 -- What the page holds with the mark set.
 marked-there :
     (B : Pages) (s : ℕ) (m : Bool) (p : Page) → s < length B → getD B s none ≡ some p
@@ -96,7 +91,7 @@ pub marked-and-back :
     (t u v : Table) (s : ℕ) (p : Page) (m : Bool) (x : ChangeAnswer) → Sized t → getD (held t) s none ≡ some p
     → MuteEnds t s m changed.Accepted u → MuteEnds u s (p .muted) x v → (x ≡ changed.Accepted) × (v ≡ t)
 marked-and-back t u v s p m x Z h (contract.accepted w S d Y i W) E =
-    let below = page-below (held t) s p h in
+    let below = some-below (held t) s p h in
     let there : getD (held w) s none ≡ some (record { rule = p .rule; muted = m }) =
     ap (λ (B : Pages). getD B s none) i ∙ marked-there (held t) s m p below h in
     let g = set-accepted w s (p .muted) _ there W v x E in
@@ -215,7 +210,7 @@ pub muted-as-removed :
 muted-as-removed t u v s (contract.accepted w S d Y i W) (contract.accepted z T e Z j R) a l o =
     let old = old-rule document (all (held t)) s d in
     let k = page-held (held t) s (old .0) (old .1) in
-    let below = page-below (held t) s (k .0) (k .1) in
+    let below = some-below (held t) s (k .0) (k .1) in
     let there = ap (λ (B : Pages). getD B s none) i ∙ marked-there (held t) s true (k .0) below (k .1) in
     labels-without w z s _ there refl W R
     (j ∙ sym (set-set (held t) s _ none) ∙ ap (λ (B : Pages). set B s none) (sym i)) a l o

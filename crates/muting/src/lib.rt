@@ -3,7 +3,7 @@
 use calls::AskedSlot;
 use calls::ChangeAnswer;
 use calls::Changed;
-use calls::slots::ask_slot;
+use calls::ask_slot;
 use labels::labels_of;
 use table::Rule;
 use table::Table;

@@ -1,2 +1,2 @@
--- What the functions of this crate promise one another and `changes`.
+-- What the functions of this crate promise one another, `add_remove` and `replacing`.
 pub mod Parts

@@ -32,13 +32,13 @@ use Rattle.theory.proofs.Pages.{active-bounded, page-held}
 use Rattle.theory.proofs.Questions.{passed-bounded}
 use Rattle.sound.proofs.Soundness.{kept-certified, sound-kept, sound-occurrence}
 use Rattle.refusals.specs.declared.Refusal.{Refusal}
-use Rattle.calls.specs.declared.Asked.{Asked}
-use Rattle.calls.specs.declared.Asked.the-variants.{Passed, Refused}
+use Rattle.calls.specs.declared.AskedAtom.{AskedAtom}
+use Rattle.calls.specs.declared.AskedAtom.the-variants.{Passed, Refused}
 use Rattle.calls.specs.declared.ListAnswer.{ListAnswer}
 use Rattle.calls.specs.declared.ListAnswer.the-variants as listed
 use Rattle.calls.specs.declared.LabelAnswer.{LabelAnswer}
 use Rattle.calls.specs.declared.SpoilerAnswer.{SpoilerAnswer}
-use Rattle.calls.specs.Asking.{AskEnds}
+use Rattle.calls.specs.Asking.{AskAtomEnds}
 use Rattle.calls.specs.Answers.{tellLabel, tellPage}
 use Rattle.calls.specs.Contracts.{held, LabelEnds, SpoilerEnds, ListEnds}
 use Rattle.calls.specs.Contracts as contract
@@ -113,7 +113,7 @@ label-ends t a x l r Q e u =
 
 -- How a call ends that lists a set of an atom: it is refused as the questions before are, or what was found and written
 -- is the set, in the model M.
-module _ (t : Table) (a : ℕ) (r : Asked) (E : AskEnds t a r) (Is : AtomSet → ℕ → ℕ → Type 0) where
+module _ (t : Table) (a : ℕ) (r : AskedAtom) (E : AskAtomEnds t a r) (Is : AtomSet → ℕ → ℕ → Type 0) where
   pub set-refused :
       (f : Refusal) → r ≡ Refused f → (before : List ℕ)
       → ListEnds (atom-questions document a) (λ N xs. Lists xs (Is N a)) t before (listed.Refused f) before

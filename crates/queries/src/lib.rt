@@ -1,12 +1,12 @@
 // The calls that ask a table and change nothing. Each asks question 15 (specification 3.4) first, so that the kept
 // labels are the defined ones, then those of its argument; the first answered no is the refusal.
-use calls::Asked;
+use calls::AskedAtom;
 use calls::AskedSlot;
 use calls::LabelAnswer;
 use calls::ListAnswer;
 use calls::SpoilerAnswer;
-use calls::ask;
-use calls::slots::ask_slot;
+use calls::ask_atom;
+use calls::ask_slot;
 use relations::following;
 use relations::justifying;
 use repercussions::reached;
@@ -24,10 +24,10 @@ mod answers; // answers.rt: one kept label, one spoiler, told as an answer
 pub fn label(table: Table, atom: u32) -> LabelAnswer
     ensures { λ r. ⌜ LabelEnds table atom r ⌝ }
 {
-    let asked = ask(table, atom);
+    let asked = ask_atom(table, atom);
     match asked {
-        Asked::Refused(why) => LabelAnswer::Refused(why),
-        Asked::Passed(a) => {
+        AskedAtom::Refused(why) => LabelAnswer::Refused(why),
+        AskedAtom::Passed(a) => {
             let labels = table.labels;
             let kept = label_of(labels, a);
             answers::tell_label(kept)
@@ -58,10 +58,10 @@ pub fn spoiler(table: Table, slot: u32) -> SpoilerAnswer
 pub fn justifications(table: Table, atom: u32, buffer: &mut [u32]) -> ListAnswer
     ensures { λ r. ⌜ JustificationsEnd table atom (now (buffer .entry)) r (now (buffer .exit)) ⌝ }
 {
-    let asked = ask(table, atom);
+    let asked = ask_atom(table, atom);
     match asked {
-        Asked::Refused(why) => ListAnswer::Refused(why),
-        Asked::Passed(a) => {
+        AskedAtom::Refused(why) => ListAnswer::Refused(why),
+        AskedAtom::Passed(a) => {
             let rules = table.rules;
             let flags = justifying(rules, a);
             write_marked(&flags, buffer)
@@ -74,10 +74,10 @@ pub fn justifications(table: Table, atom: u32, buffer: &mut [u32]) -> ListAnswer
 pub fn consequences(table: Table, atom: u32, buffer: &mut [u32]) -> ListAnswer
     ensures { λ r. ⌜ ConsequencesEnd table atom (now (buffer .entry)) r (now (buffer .exit)) ⌝ }
 {
-    let asked = ask(table, atom);
+    let asked = ask_atom(table, atom);
     match asked {
-        Asked::Refused(why) => ListAnswer::Refused(why),
-        Asked::Passed(a) => {
+        AskedAtom::Refused(why) => ListAnswer::Refused(why),
+        AskedAtom::Passed(a) => {
             let rules = table.rules;
             let flags = following(rules, a);
             write_marked(&flags, buffer)
@@ -90,10 +90,10 @@ pub fn consequences(table: Table, atom: u32, buffer: &mut [u32]) -> ListAnswer
 pub fn repercussions(table: Table, atom: u32, buffer: &mut [u32]) -> ListAnswer
     ensures { λ r. ⌜ RepercussionsEnd table atom (now (buffer .entry)) r (now (buffer .exit)) ⌝ }
 {
-    let asked = ask(table, atom);
+    let asked = ask_atom(table, atom);
     match asked {
-        Asked::Refused(why) => ListAnswer::Refused(why),
-        Asked::Passed(a) => {
+        AskedAtom::Refused(why) => ListAnswer::Refused(why),
+        AskedAtom::Passed(a) => {
             let rules = table.rules;
             let labels = table.labels;
             let k = arrays_of(labels);

@@ -1,4 +1,5 @@
 // Questions 1 to 4 (specification 3.2), of the bare arguments of an addition, and of what a slot holds.
+use refusals::Refusal;
 use table::Table;
 ghost use mathlib.Core.Path.{_≡_};
 ghost use Prim.Native.Nat.{_+_};
@@ -7,9 +8,16 @@ ghost use lib.ListN.{length, drop};
 ghost use Rattle.theory.specs.Lists.{every, any, distinct};
 ghost use Rattle.theory.specs.Questions.{first-no, rule-questions};
 ghost use Rattle.theory.specs.Limits.{document};
-ghost use Rattle.table.specs.Questions.{ruleFrom, refusalNumber};
+ghost use Rattle.table.specs.Questions.{ruleFrom};
+ghost use Rattle.questions.specs.Asked.{firstNoTold};
 
 pub mod clean; // clean.rt: what holds nothing stands as in the empty table; well-formed slots
+
+// What questions 1 to 4 answer of a rule: that it passes, or the refusal.
+pub enum AskedRule {
+    Passed,
+    Refused(Refusal),
+}
 
 // 1: Is the head below the number of atoms?
 pub fn head_fits(head: u32) -> bool
@@ -76,28 +84,28 @@ pub fn no_repeat(list: &[u32]) -> bool
     true
 }
 
-// The first of questions 1 to 4 that is answered no, by its number; 0 where all are answered yes.
-pub fn first_no(head: u32, positives: &[u32], negatives: &[u32]) -> u32
-    ensures { λ r. ⌜ r ≡ refusalNumber (first-no
-        (rule-questions document (ruleFrom head (now (positives .entry)) (now (negatives .entry))))) ⌝ }
+// Asks 1 to 4 of the rule that the arguments name.
+pub fn ask_rule(head: u32, positives: &[u32], negatives: &[u32]) -> AskedRule
+    ensures { λ r. ⌜ firstNoTold r ≡ first-no
+        (rule-questions document (ruleFrom head (now (positives .entry)) (now (negatives .entry)))) ⌝ }
 {
     if !head_fits(head) {
-        return 1;
+        return AskedRule::Refused(Refusal::HeadTooLarge);
     }
     if !few_entries(positives, negatives) {
-        return 2;
+        return AskedRule::Refused(Refusal::TooManyEntries);
     }
     if !entries_fit(positives) {
-        return 3;
+        return AskedRule::Refused(Refusal::EntryTooLarge);
     }
     if !entries_fit(negatives) {
-        return 3;
+        return AskedRule::Refused(Refusal::EntryTooLarge);
     }
     if !no_repeat(positives) {
-        return 4;
+        return AskedRule::Refused(Refusal::RepeatedEntry);
     }
     if !no_repeat(negatives) {
-        return 4;
+        return AskedRule::Refused(Refusal::RepeatedEntry);
     }
-    0
+    AskedRule::Passed
 }

@@ -1,2 +1,2 @@
--- What the functions of this crate promise one another and `reasons`.
+-- What the functions of this crate promise one another and `reason_call`.
 pub mod Depths

@@ -58,7 +58,7 @@ fn has_entry(rule: Rule, a: Atom) -> bool
 }
 
 // If the slot holds a rule with this entry, its head comes into the set.
-fn follow(rule: Rule, a: Atom, flags: &mut [bool; Table::ATOMS])
+fn mark_head(rule: Rule, a: Atom, flags: &mut [bool; Table::ATOMS])
     ensures { λ _. ⌜ now (flags .exit) ≡ mark-if (passes (λ q. any (eqb (a .0)) (entries q)) (slotOf rule))
         (now (flags .entry)) (rule .head .0) ⌝ }
 {
@@ -78,7 +78,7 @@ pub fn following(rules: [Rule; Table::SLOTS], a: Atom) -> [bool; Table::ATOMS]
     let mut i: usize = 0;
     while i < Table::SLOTS {
         let rule = rules[i];
-        follow(rule, a, &mut flags);
+        mark_head(rule, a, &mut flags);
         i += 1;
     }
     flags

@@ -1,10 +1,10 @@
 -- How the replacement of a rule of a sound table ends, from the answers of its questions. Assumes nothing.
-use Prim.Native.Nat.{ℕ, _≤_, _<_}
+use Prim.Native.Nat.{ℕ, _<_}
 use mathlib.Core.Path.{_≡_, refl, sym, _∙_, ap, subst}
 use mathlib.Core.Logic.{_↔_}
 use mathlib.Core.Bool.{Bool, true, false, not}
 use mathlib.Core.List.{List, [], _∷_}
-use mathlib.Core.Option.{none}
+use mathlib.Core.Option.{none, some}
 use lib.ListN.{length, set}
 use lib.Seq.{set-set}
 use Rattle.theory.specs.Rules.{Program, all, Held, Ascending, Bounded, any-rule, same, kept}
@@ -21,7 +21,6 @@ use Rattle.theory.proofs.Sameness.{same-kept}
 use Rattle.table.specs.declared.Rule.{Rule}
 use Rattle.table.specs.declared.Table.{Table}
 use Rattle.table.specs.Rules.{bookOf, programOf, ruleOf}
-use Rattle.table.specs.Questions.{refusalNumber}
 use Rattle.table.specs.Clean.{freeRule}
 use Rattle.table.specs.Sound.{Sound}
 use Rattle.table.proofs.Programs.{program-set}
@@ -36,7 +35,7 @@ use Rattle.calls.proofs.Asking.{slot-low}
 use Rattle.labels.specs.declared.Labelling.{Labelling}
 use Rattle.labels.specs.Labelling.{LabellingOf}
 use Rattle.new_rule.specs.Parts.{SlotWith}
-use Rattle.add_remove.proofs.Putting.{same-told, rule-refused, book-put, bounded-put, put-cyclic, put-stratified}
+use Rattle.add_remove.proofs.Putting.{same-told, book-put, bounded-put, put-cyclic, put-stratified}
 use Rattle.add_remove.proofs.Putting.{put-sized, put-sound}
 
 -- A refusal that hands the table back as it came.
@@ -55,11 +54,11 @@ module _
     inside = slot-low t s (record { 0 = s }) (record { sound = S; yes = asked; slot = refl })
 
     pub refused-early :
-        (k : ℕ) → k ≡ refusalNumber (first-no (rule-questions document q)) → (k ≡ 0 → ⊥) → (f : Refusal)
-        → (0 < k → k ≤ 4 → numberOf f ≡ k) → ReplaceEnds t s q (changed.Refused f) t
-    refused-early k told n f number =
+        (f : Refusal) → some (numberOf f) ≡ first-no (rule-questions document q)
+        → ReplaceEnds t s q (changed.Refused f) t
+    refused-early f e =
         contract.refused f S (first-no-past (slot-questions document (all (held t)) s) _ asked
-        ∙ first-no-before (rule-questions document q) _ _ (rule-refused q k told n f number))
+        ∙ first-no-before (rule-questions document q) _ _ (sym e))
 
     module _ (pass : first-no (rule-questions document q) ≡ none) where
       four : first-no (replace-questions document (all (held t)) s q)

@@ -2,12 +2,12 @@
 use calls::AskedSlot;
 use calls::ChangeAnswer;
 use calls::Changed;
-use calls::slots::ask_slot;
+use calls::ask_slot;
 use labels::labels_of;
 use new_rule::holds_rule;
 use new_rule::make_rule;
-use new_rule::refusal_of;
-use questions::first_no;
+use questions::AskedRule;
+use questions::ask_rule;
 use refusals::Refusal;
 use table::Rule;
 use table::Slot;
@@ -24,7 +24,7 @@ ghost use Rattle.calls.specs.declared.ChangeAnswer.the-variants.{Refused};
 ghost use Rattle.calls.specs.Contracts.{held, ReplaceEnds};
 
 // The table handed back as it came.
-fn keep(table: Table, why: Refusal) -> Changed
+fn refuse(table: Table, why: Refusal) -> Changed
     ensures { λ r. ⌜ r ≡ record { answer = Refused why; table = table } ⌝ }
 {
     Changed {
@@ -46,22 +46,21 @@ fn replace_held(
     ensures { λ r. ⌜ ReplaceEnds table (slot .0)
         (ruleFrom head (now (positives .entry)) (now (negatives .entry))) (r .answer) (r .table) ⌝ }
 {
-    let k = first_no(head, positives, negatives);
-    if k != 0 {
-        let why = refusal_of(k);
-        return keep(table, why);
+    let asked = ask_rule(head, positives, negatives);
+    if let AskedRule::Refused(why) = asked {
+        return refuse(table, why);
     }
     let rule = make_rule(head, positives, negatives);
     let rules = table.rules;
     let free = Rule::free();
     let rest = with_rule(rules, slot, free);
     if holds_rule(rest, rule) {
-        return keep(table, Refusal::SameRule);
+        return refuse(table, Refusal::SameRule);
     }
     let changed = with_rule(rest, slot, rule);
     let found = labels_of(changed);
     if !found.acyclic {
-        return keep(table, Refusal::NegativeCycle);
+        return refuse(table, Refusal::NegativeCycle);
     }
     let labels = found.labels;
     Changed {
@@ -81,7 +80,7 @@ pub fn replace(table: Table, slot: u32, head: u32, positives: &[u32], negatives:
 {
     let asked = ask_slot(table, slot);
     match asked {
-        AskedSlot::Refused(why) => keep(table, why),
+        AskedSlot::Refused(why) => refuse(table, why),
         AskedSlot::Passed(s) => replace_held(table, s, head, positives, negatives),
     }
 }

@@ -379,3 +379,9 @@ least f s h = ⊎-elim
     (λ (w : LeastUpTo f s). w)
     (λ (n : (x : ℕ) → x ≤ s → f x ≡ false). absurd (clash h (n s (omega arith))))
     (scan f s)
+
+-- A place that holds something is one of the list's.
+pub some-below : {A : Type 0} (xs : List (Option A)) (i : ℕ) (x : A) → getD xs i none ≡ some x → i < length xs
+some-below [] i x h = absurd (Option·none-ne-some x h)
+some-below (o ∷ xs) zero x h = omega arith
+some-below (o ∷ xs) (suc i) x h = omega (arith, some-below xs i x h)

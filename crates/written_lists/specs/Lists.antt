@@ -12,3 +12,7 @@ listed-if false x = []
 unfoldable pub below : (ℕ → Bool) → ℕ → List ℕ
 below f zero = []
 below f (suc n) = below f n ++ listed-if (f n) n
+
+-- The most flags of which a list is written: as many as 16 bits number, which atoms and slots have.
+abbrev pub most-flags : ℕ
+most-flags = 65536

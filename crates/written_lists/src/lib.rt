@@ -5,7 +5,7 @@ ghost use mathlib.Core.Path.{_≡_};
 ghost use Prim.Native.Nat.{_≤_};
 ghost use lib.ListN.{length, set};
 ghost use Rattle.table.specs.Sets.{member, one-if};
-ghost use Rattle.written_lists.specs.Lists.{listed-if, below};
+ghost use Rattle.written_lists.specs.Lists.{listed-if, below, most-flags};
 ghost use Rattle.written_lists.specs.Written.{Appends, Written};
 
 // How many a flag counts for.
@@ -30,7 +30,7 @@ pub fn count_marked(flags: &[bool]) -> usize
 }
 
 // Writes a number at place n, if the buffer has that place.
-pub fn put(buffer: &mut [u32], n: usize, v: u32)
+pub fn write_at(buffer: &mut [u32], n: usize, v: u32)
     ensures { λ _. ⌜ now (buffer .exit) ≡ set (now (buffer .entry)) n v ⌝ }
 {
     if n < buffer.len() {
@@ -40,20 +40,20 @@ pub fn put(buffer: &mut [u32], n: usize, v: u32)
 
 // If the flag is true, writes its place at place n. Answers where the next one goes. There are at most as many before
 // it as places below it.
-fn put_if(buffer: &mut [u32], n: usize, place: u32, flag: bool) -> usize
+fn write_if(buffer: &mut [u32], n: usize, place: u32, flag: bool) -> usize
     requires { ⌜ n ≤ place ⌝ }
     ensures { λ r. ⌜ Appends (listed-if flag place) n r (now (buffer .entry)) (now (buffer .exit)) ⌝ }
 {
     if !flag {
         return n;
     }
-    put(buffer, n, place);
+    write_at(buffer, n, place);
     n + 1
 }
 
-// The places of the true flags, ascending, from the start of the buffer, if they fit. Atoms and slots have 16 bits.
+// The places of the true flags, ascending, from the start of the buffer, if they fit.
 pub fn write_marked(flags: &[bool], buffer: &mut [u32]) -> ListAnswer
-    requires { ⌜ length (now flags) ≤ 65536 ⌝ }
+    requires { ⌜ length (now flags) ≤ most-flags ⌝ }
     ensures { λ r. ⌜ Written (below (member (now (flags .entry))) (length (now (flags .entry))))
         (now (buffer .entry)) r (now (buffer .exit)) ⌝ }
 {
@@ -65,7 +65,7 @@ pub fn write_marked(flags: &[bool], buffer: &mut [u32]) -> ListAnswer
     let mut i: usize = 0;
     while i < flags.len() {
         let flag = flags[i];
-        n = put_if(buffer, n, i as u32, flag);
+        n = write_if(buffer, n, i as u32, flag);
         i += 1;
     }
     ListAnswer::Count(needed)

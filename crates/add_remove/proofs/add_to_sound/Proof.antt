@@ -1,15 +1,15 @@
 -- `add_remove::add_to_sound` puts the rule into the lowest free slot of a sound table, or refuses. Assumes nothing.
 -- Each return has the answers of the questions before it.
-use mathlib.Core.Path.{_≡_, sym, _∙_}
-use mathlib.Core.Bool.{false}
+use mathlib.Core.Path.{_≡_, sym, _∙_, ap}
+use mathlib.Core.Bool.{Bool, false}
 use mathlib.Core.Option.{none}
 use Rattle.theory.specs.Rules.{all, any-rule, same}
 use Rattle.theory.specs.Rules as theory
-use Rattle.theory.specs.Questions.{first-no, rule-questions, lowest-free}
+use Rattle.theory.specs.Questions.{first-no, rule-questions}
 use Rattle.theory.specs.Limits.{document}
 use Rattle.theory.proofs.Lists.{not-true, not-false}
 use Rattle.table.specs.Questions.{ruleFrom}
-use Rattle.questions.proofs.Refusals.{none-refused}
+use Rattle.questions.specs.Asked.{firstNoTold}
 use Rattle.calls.specs.Contracts.{held}
 use Rattle.new_rule.proofs.Slots.{lowest-at, lowest-none}
 use Rattle.add_remove.proofs.Putting.{same-told}
@@ -21,43 +21,71 @@ use borrow.Author.Needs.{needs}
 use Rattle.add_remove.proofs.add_to_sound.Statement.{statement}
 use Rattle.add_remove.proofs.add_to_sound.Tie as tie
 
--- The rule that the arguments name; that it passes questions 1 to 4; that it is not held; the slot found.
+-- The rule that the arguments name, and the places of the code, from the last to the first.
 abbrev named : tie.Start → theory.Rule
 named s = ruleFrom (s .args .head) (s .args .positives .now) (s .args .negatives .now)
 
-pass : (c : tie.Else1) → first-no (rule-questions document (named (c .before .before .before .before))) ≡ none
-pass c =
-    let a = c .before .before .before .before .args in
-    none-refused document (a .head) (a .positives .now) (a .negatives .now)
-    (sym (c .before .first-no .ensures) ∙ c .if1 .left)
+abbrev start-of : tie.After-ask-rule → tie.Start
+start-of c = c .before .before .before
+
+abbrev asked-of : tie.After-enum-told → tie.After-ask-rule
+asked-of c = c .before .before
+
+abbrev made-of : tie.After-holds-rule → tie.After-make-rule
+made-of c = c .before .before
+
+abbrev start : tie.After-holds-rule → tie.Start
+start c = start-of (asked-of (made-of c .before))
+
+abbrev lowest-of : tie.After-with-rule → tie.After-lowest
+lowest-of c = c .before .before
+
+abbrev holds-of : tie.After-lowest-free → tie.After-holds-rule
+holds-of c = c .before .before
+
+abbrev found-of : tie.After-with-rule → tie.After-lowest-free
+found-of c = lowest-of c .before .before
+
+abbrev begun : tie.After-with-rule → tie.Start
+begun c = start (holds-of (found-of c))
+
+-- The rule passes questions 1 to 4; whether a slot holds it.
+pass : (c : tie.After-enum-told) → first-no (rule-questions document (named (start-of (asked-of c)))) ≡ none
+pass c = sym (asked-of c .ask-rule .ensures) ∙ ap firstNoTold (c .enum-told .given .1)
+
+told :
+    (c : tie.After-holds-rule) (v : Bool) → c .holds-rule .result ≡ v
+    → any-rule (same (named (start c))) (all (held (start c .args .table))) ≡ v
+told c v e =
+    let made = made-of c in
+    same-told (all (held (start c .args .table))) (start c .pre .labels .ascending) (named (start c))
+    (pass (made .before)) (made .make-rule .result) (made .make-rule .ensures) _ v (c .holds-rule .ensures) e
 
 other :
-    (c : tie.Else2) → any-rule (same (named (c .before .before .before .before .before .before .before .before)))
-    (all (held (c .before .before .before .before .before .before .before .before .args .table)))
-    ≡ false
-other c =
-    let made = c .before .before .before in
-    let s = made .before .before .before .before .before in
-    same-told (all (held (s .args .table))) (s .pre .labels .ascending) (named s) (pass (made .before))
-    (made .make-rule .result) (made .make-rule .ensures) _ false (c .before .holds-rule .ensures) (c .if2 .left)
+    (c : tie.After-lowest-free)
+    → any-rule (same (named (start (holds-of c)))) (all (held (start (holds-of c) .args .table))) ≡ false
+other c = told (holds-of c) false (c .before .if1 .left)
 
-first-no-requires : tie.Need-first-no-requires
-first-no-requires c κs = tt
+ask-rule-requires : tie.Need-ask-rule-requires
+ask-rule-requires c κs = tt
 
-refusal-of-requires : tie.Need-refusal-of-requires
-refusal-of-requires c κs = tt
+enum-known-asked : tie.Need-enum-known-asked
+enum-known-asked c = search needs
 
 refuse-requires : tie.Need-refuse-requires
 refuse-requires c κs = tt
 
 returns : tie.Need-returns
 returns c =
-    let why = c .before in
-    let num = why .before .before in
-    let s = num .before .before .before in
+    let no = c .before .before in
+    let ask = no .before .before in
+    let s = start-of ask in
     handed-back (s .args .table) (named s) _ _ (c .refuse .ensures)
-    (refused-early (s .args .table) (s .pre) (named s) _ (num .first-no .ensures) (why .before .if1 .taken) _
-    (why .refusal-of .ensures))
+    (refused-early (s .args .table) (s .pre) (named s) _
+    (ap firstNoTold (sym (no .asked .given .1)) ∙ ask .ask-rule .ensures))
+
+enum-told : tie.Need-enum-told
+enum-told c = search needs
 
 make-rule-requires : tie.Need-make-rule-requires
 make-rule-requires c κs = pass c
@@ -71,12 +99,10 @@ refuse-requires-2 c κs = tt
 returns-2 : tie.Need-returns-2
 returns-2 c =
     let holds = c .before .before in
-    let made = holds .before .before in
-    let s = made .before .before .before .before .before in
+    let s = start holds in
     handed-back (s .args .table) (named s) _ _ (c .refuse2 .ensures)
-    (refused-same (s .args .table) (s .pre) (named s) (pass (made .before))
-    (same-told (all (held (s .args .table))) (s .pre .labels .ascending) (named s) (pass (made .before))
-    (made .make-rule .result) (made .make-rule .ensures) _ _ (holds .holds-rule .ensures) (c .before .if2 .taken)))
+    (refused-same (s .args .table) (s .pre) (named s) (pass (made-of holds .before))
+    (told holds _ (c .before .if1 .taken)))
 
 lowest-free-requires : tie.Need-lowest-free-requires
 lowest-free-requires c κs = tt
@@ -84,8 +110,8 @@ lowest-free-requires c κs = tt
 enum-known-lowest : tie.Need-enum-known-lowest
 enum-known-lowest c = search needs
 
-enum-told : tie.Need-enum-told
-enum-told c = search needs
+enum-told-2 : tie.Need-enum-told-2
+enum-told-2 c = search needs
 
 refuse-requires-3 : tie.Need-refuse-requires-3
 refuse-requires-3 c κs = tt
@@ -94,72 +120,70 @@ returns-3 : tie.Need-returns-3
 returns-3 c =
     let full = c .before in
     let low = full .before .before in
-    let made = low .before .before .before .before in
-    let s = made .before .before .before .before .before in
+    let holds = holds-of low in
+    let s = start holds in
     handed-back (s .args .table) (named s) _ _ (c .refuse3 .ensures)
-    (refused-full (s .args .table) (s .pre) (named s) (pass (made .before)) (other (low .before))
-    (lowest-none _ _ (low .lowest-free .ensures) (full .enum-told .given .1)))
+    (refused-full (s .args .table) (s .pre) (named s) (pass (made-of holds .before)) (other low)
+    (lowest-none _ _ (low .lowest-free .ensures) (full .enum-told2 .given .1)))
 
 with-rule-requires : tie.Need-with-rule-requires
 with-rule-requires c κs = tt
 
 labels-of-requires : tie.Need-labels-of-requires
 labels-of-requires c κs =
-    let at = c .before .before in
-    let low = at .before .before in
-    let free = lowest-at _ _ (low .lowest-free .ensures) _ (at .lowest .given .1) in
-    let made = low .before .before .before .before in
-    let s = made .before .before .before .before .before in
-    bounded-changed (s .args .table) (s .pre) (named s) (pass (made .before)) (other (low .before)) _ (free .0)
-    (free .1) (made .make-rule .result) (made .make-rule .ensures) _ (c .with-rule .ensures)
+    let low = found-of c in
+    let free = lowest-at _ _ (low .lowest-free .ensures) _ (lowest-of c .lowest .given .1) in
+    let made = made-of (holds-of low) in
+    let s = begun c in
+    bounded-changed (s .args .table) (s .pre) (named s) (pass (made .before)) (other low) _ (free .0) (free .1)
+    (made .make-rule .result) (made .make-rule .ensures) _ (c .with-rule .ensures)
 
 refuse-requires-4 : tie.Need-refuse-requires-4
 refuse-requires-4 c κs = tt
 
 returns-4 : tie.Need-returns-4
 returns-4 c =
-    let told = c .before .before .before in
-    let put = told .before in
-    let at = put .before .before in
-    let low = at .before .before in
-    let free = lowest-at _ _ (low .lowest-free .ensures) _ (at .lowest .given .1) in
-    let made = low .before .before .before .before in
-    let s = made .before .before .before .before .before in
+    let labelled = c .before .before .before in
+    let put = labelled .before in
+    let low = found-of put in
+    let free = lowest-at _ _ (low .lowest-free .ensures) _ (lowest-of put .lowest .given .1) in
+    let made = made-of (holds-of low) in
+    let s = begun put in
     handed-back (s .args .table) (named s) _ _ (c .refuse4 .ensures)
-    (refused-cycle (s .args .table) (s .pre) (named s) (pass (made .before)) (other (low .before)) _ (free .0)
-    (free .1) (made .make-rule .result) (made .make-rule .ensures) _ (put .with-rule .ensures)
-    (told .labels-of .result) (told .labels-of .ensures) (not-true _ (c .before .if3 .taken)))
+    (refused-cycle (s .args .table) (s .pre) (named s) (pass (made .before)) (other low) _ (free .0) (free .1)
+    (made .make-rule .result) (made .make-rule .ensures) _ (put .with-rule .ensures)
+    (labelled .labels-of .result) (labelled .labels-of .ensures) (not-true _ (c .before .if2 .taken)))
 
 returns-5 : tie.Need-returns-5
 returns-5 c =
-    let told = c .before .before .before in
-    let put = told .before in
-    let at = put .before .before in
-    let low = at .before .before in
-    let free = lowest-at _ _ (low .lowest-free .ensures) _ (at .lowest .given .1) in
-    let made = low .before .before .before .before in
-    let s = made .before .before .before .before .before in
-    add-ends (s .args .table) (s .pre) (named s) (pass (made .before)) (other (low .before)) _ (free .0)
-    (free .1) (made .make-rule .result) (made .make-rule .ensures) _ (put .with-rule .ensures)
-    (told .labels-of .result) (told .labels-of .ensures) (not-false _ (c .before .if3 .left))
+    let labelled = c .before .before .before in
+    let put = labelled .before in
+    let low = found-of put in
+    let free = lowest-at _ _ (low .lowest-free .ensures) _ (lowest-of put .lowest .given .1) in
+    let made = made-of (holds-of low) in
+    let s = begun put in
+    add-ends (s .args .table) (s .pre) (named s) (pass (made .before)) (other low) _ (free .0) (free .1)
+    (made .make-rule .result) (made .make-rule .ensures) _ (put .with-rule .ensures)
+    (labelled .labels-of .result) (labelled .labels-of .ensures) (not-false _ (c .before .if2 .left))
     (table-sized _ _ (s .good .0)) (rule-sized (made .make-rule .result) _ (made .make-rule .ok))
-    (labels-sized (told .labels-of .result) _ (told .labels-of .ok))
+    (labels-sized (labelled .labels-of .result) _ (labelled .labels-of .ok))
 
 pub add-to-sound-spec : {M : Type 1} → statement M
 add-to-sound-spec =
     tie.close
     (tie.spec
-    first-no-requires
-    refusal-of-requires
+    ask-rule-requires
+    enum-known-asked
     refuse-requires
     returns
+    enum-told
     make-rule-requires
     holds-rule-requires
     refuse-requires-2
     returns-2
     lowest-free-requires
     enum-known-lowest
-    enum-told
+    enum-told-2
     refuse-requires-3
     returns-3
     with-rule-requires

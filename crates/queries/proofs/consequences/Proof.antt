@@ -8,8 +8,8 @@ use borrow.Author.Needs.{needs}
 use Rattle.queries.proofs.consequences.Statement.{statement}
 use Rattle.queries.proofs.consequences.Tie as tie
 
-ask-requires : tie.Need-ask-requires
-ask-requires c κs = tt
+ask-atom-requires : tie.Need-ask-atom-requires
+ask-atom-requires c κs = tt
 
 enum-known-asked : tie.Need-enum-known-asked
 enum-known-asked c = search needs
@@ -22,7 +22,7 @@ following-requires c κs =
     let asked = c .before .before in
     let ask = asked .before .before in
     let t = ask .before .before .args .table in
-    sound-bounded t (ask-passed t _ _ (ask .ask .ensures) _ (asked .asked2 .given .1) .sound)
+    sound-bounded t (ask-passed t _ _ (ask .ask-atom .ensures) _ (asked .asked2 .given .1) .sound)
 
 slice-aggregate-write-marked : tie.Need-slice-aggregate-write-marked
 slice-aggregate-write-marked c = search needs
@@ -36,7 +36,7 @@ returns c =
     let ask = asked .before .before in
     let s = ask .before .before in
     let t = s .args .table in
-    set-refused t (s .args .atom) _ (ask .ask .ensures) (λ M. Consequence (all (held t))) _ (asked .asked .given .1) _
+    set-refused t (s .args .atom) _ (ask .ask-atom .ensures) (λ M. Consequence (all (held t))) _ (asked .asked .given .1) _
 
 same-length : tie.Need-same-length
 same-length c = search needs
@@ -49,8 +49,8 @@ returns-2 c =
     let ask = asked .before .before in
     let s = ask .before .before in
     let t = s .args .table in
-    let passes = ask-passed t (s .args .atom) _ (ask .ask .ensures) _ (asked .asked2 .given .1) in
-    set-ends t (s .args .atom) _ (ask .ask .ensures) (λ M. Consequence (all (held t))) _ (asked .asked2 .given .1) _
+    let passes = ask-passed t (s .args .atom) _ (ask .ask-atom .ensures) _ (asked .asked2 .given .1) in
+    set-ends t (s .args .atom) _ (ask .ask-atom .ensures) (λ M. Consequence (all (held t))) _ (asked .asked2 .given .1) _
     (passes .sound .labels .admissible) (find .following .result) (find .following .ensures) _ _ _
     (write .write-marked .ensures)
 
@@ -58,7 +58,7 @@ pub consequences-spec : {M : Type 1} → statement M
 consequences-spec =
     tie.close
     (tie.spec
-    ask-requires
+    ask-atom-requires
     enum-known-asked
     enum-known-asked-2
     following-requires

@@ -8,8 +8,8 @@ use borrow.Author.Needs.{needs}
 use Rattle.queries.proofs.justifications.Statement.{statement}
 use Rattle.queries.proofs.justifications.Tie as tie
 
-ask-requires : tie.Need-ask-requires
-ask-requires c κs = tt
+ask-atom-requires : tie.Need-ask-atom-requires
+ask-atom-requires c κs = tt
 
 enum-known-asked : tie.Need-enum-known-asked
 enum-known-asked c = search needs
@@ -32,7 +32,7 @@ returns c =
     let ask = asked .before .before in
     let s = ask .before .before in
     let t = s .args .table in
-    set-refused t (s .args .atom) _ (ask .ask .ensures) (λ M. Justification (all (held t))) _ (asked .asked .given .1) _
+    set-refused t (s .args .atom) _ (ask .ask-atom .ensures) (λ M. Justification (all (held t))) _ (asked .asked .given .1) _
 
 same-length : tie.Need-same-length
 same-length c = search needs
@@ -45,8 +45,8 @@ returns-2 c =
     let ask = asked .before .before in
     let s = ask .before .before in
     let t = s .args .table in
-    let passes = ask-passed t (s .args .atom) _ (ask .ask .ensures) _ (asked .asked2 .given .1) in
-    set-ends t (s .args .atom) _ (ask .ask .ensures) (λ M. Justification (all (held t))) _ (asked .asked2 .given .1) _
+    let passes = ask-passed t (s .args .atom) _ (ask .ask-atom .ensures) _ (asked .asked2 .given .1) in
+    set-ends t (s .args .atom) _ (ask .ask-atom .ensures) (λ M. Justification (all (held t))) _ (asked .asked2 .given .1) _
     (passes .sound .labels .admissible) (find .justifying .result) (find .justifying .ensures) _ _ _
     (write .write-marked .ensures)
 
@@ -54,7 +54,7 @@ pub justifications-spec : {M : Type 1} → statement M
 justifications-spec =
     tie.close
     (tie.spec
-    ask-requires
+    ask-atom-requires
     enum-known-asked
     enum-known-asked-2
     justifying-requires

@@ -5,8 +5,8 @@ use borrow.Author.Needs.{needs}
 use Rattle.queries.proofs.label.Statement.{statement}
 use Rattle.queries.proofs.label.Tie as tie
 
-ask-requires : tie.Need-ask-requires
-ask-requires c κs = tt
+ask-atom-requires : tie.Need-ask-atom-requires
+ask-atom-requires c κs = tt
 
 enum-known-asked : tie.Need-enum-known-asked
 enum-known-asked c = search needs
@@ -25,7 +25,7 @@ returns c =
     let asked = c .before in
     let ask = asked .before .before in
     let s = ask .before in
-    label-refused (s .args .table) (s .args .atom) _ (ask .ask .ensures) _ (asked .asked .given .1)
+    label-refused (s .args .table) (s .args .atom) _ (ask .ask-atom .ensures) _ (asked .asked .given .1)
 
 returns-2 : tie.Need-returns-2
 returns-2 c =
@@ -34,14 +34,14 @@ returns-2 c =
     let ask = asked .before .before in
     let s = ask .before in
     label-ends (s .args .table) (s .args .atom) _ _ _
-    (ask-passed _ _ _ (ask .ask .ensures) _ (asked .asked2 .given .1)) (read .label-of .ensures)
+    (ask-passed _ _ _ (ask .ask-atom .ensures) _ (asked .asked2 .given .1)) (read .label-of .ensures)
     (c .tell-label .ensures)
 
 pub label-spec : {M : Type 1} → statement M
 label-spec =
     tie.close
     (tie.spec
-    ask-requires
+    ask-atom-requires
     enum-known-asked
     enum-known-asked-2
     label-of-requires

@@ -18,8 +18,8 @@ rules-long s = simp length-map at (s .good .0 .1 .1 .0 .1 .0 .1)
 labels-long : (s : tie.Start) → length (s .args .table .labels) ≡ document .atoms
 labels-long s = simp length-map at (s .good .0 .1 .1 .1 .0 .1 .0 .1)
 
-ask-requires : tie.Need-ask-requires
-ask-requires c κs = tt
+ask-atom-requires : tie.Need-ask-atom-requires
+ask-atom-requires c κs = tt
 
 enum-known-asked : tie.Need-enum-known-asked
 enum-known-asked c = search needs
@@ -37,7 +37,7 @@ reached-requires c κs =
     let ask = asked .before .before in
     let s = ask .before .before in
     let t = s .args .table in
-    let is-sound = ask-passed t (s .args .atom) _ (ask .ask .ensures) _ (asked .asked2 .given .1) .sound in
+    let is-sound = ask-passed t (s .args .atom) _ (ask .ask-atom .ensures) _ (asked .asked2 .given .1) .sound in
     (active-low t is-sound, flags-supports t (rules-long s) (labels-long s) is-sound _ (arrays-of .arrays-of .ensures))
 
 slice-aggregate-write-marked : tie.Need-slice-aggregate-write-marked
@@ -52,7 +52,7 @@ returns c =
     let ask = asked .before .before in
     let s = ask .before .before in
     let t = s .args .table in
-    set-refused t (s .args .atom) _ (ask .ask .ensures) (λ M. Repercussion (active (held t)) M) _
+    set-refused t (s .args .atom) _ (ask .ask-atom .ensures) (λ M. Repercussion (active (held t)) M) _
     (asked .asked .given .1) _
 
 same-length : tie.Need-same-length
@@ -67,8 +67,8 @@ returns-2 c =
     let ask = asked .before .before in
     let s = ask .before .before in
     let t = s .args .table in
-    let passes = ask-passed t (s .args .atom) _ (ask .ask .ensures) _ (asked .asked2 .given .1) in
-    set-ends t (s .args .atom) _ (ask .ask .ensures) (λ M. Repercussion (active (held t)) M) _
+    let passes = ask-passed t (s .args .atom) _ (ask .ask-atom .ensures) _ (asked .asked2 .given .1) in
+    set-ends t (s .args .atom) _ (ask .ask-atom .ensures) (λ M. Repercussion (active (held t)) M) _
     (asked .asked2 .given .1) _
     (flags-model t (rules-long s) (labels-long s) (passes .sound) _ (arrays-of .arrays-of .ensures))
     (find .reached .result) (find .reached .ensures) _ _ _ (write .write-marked .ensures)
@@ -77,7 +77,7 @@ pub repercussions-spec : {M : Type 1} → statement M
 repercussions-spec =
     tie.close
     (tie.spec
-    ask-requires
+    ask-atom-requires
     enum-known-asked
     enum-known-asked-2
     arrays-of-requires

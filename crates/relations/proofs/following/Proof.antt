@@ -28,8 +28,8 @@ mul-rule c = search needs
 array-copy-out-rule : tie.Need-array-copy-out-rule Inv-loop μ-loop
 array-copy-out-rule c = search needs
 
-follow-requires : tie.Need-follow-requires Inv-loop μ-loop
-follow-requires c κs = tt
+mark-head-requires : tie.Need-mark-head-requires Inv-loop μ-loop
+mark-head-requires c κs = tt
 
 add-i : tie.Need-add-i Inv-loop μ-loop
 add-i c = search needs
@@ -42,7 +42,7 @@ loop-again c =
     let at = c .before .before .before .before .loop in
     let s = c .before .before .before .before .before in (
       omega arith,
-      following-next (s .args .t1) _ _ (at .i) _ _ (s .pre) (at .inv .1) (c .follow .ensures),
+      following-next (s .args .t1) _ _ (at .i) _ _ (s .pre) (at .inv .1) (c .mark-head .ensures),
     )
 
 returns : tie.Need-returns Inv-loop μ-loop
@@ -61,7 +61,7 @@ following-spec =
     loop-holds
     mul-rule
     array-copy-out-rule
-    follow-requires
+    mark-head-requires
     add-i
     loop-less
     loop-again

@@ -23,8 +23,8 @@ ask-slot-requires c κs = tt
 enum-known-asked : tie.Need-enum-known-asked
 enum-known-asked c = search needs
 
-keep-requires : tie.Need-keep-requires
-keep-requires c κs = tt
+refuse-requires : tie.Need-refuse-requires
+refuse-requires c κs = tt
 
 enum-known-asked-2 : tie.Need-enum-known-asked-2
 enum-known-asked-2 c = search needs
@@ -45,7 +45,7 @@ returns c =
     let refused = c .before .before in
     let ask = refused .before .before in
     let s = start ask in
-    handed-back (s .args .table) (s .args .slot) _ _ _ (c .keep .ensures)
+    handed-back (s .args .table) (s .args .slot) _ _ _ (c .refuse .ensures)
     (change-refused (s .args .table) (s .args .slot) _ (ask .ask-slot .ensures) _ (refused .asked .given .1) _ _
     (λ k no. first-no-before (slot-questions document (all (held (s .args .table))) (s .args .slot)) _ k no))
 
@@ -65,7 +65,7 @@ replace-spec =
     (tie.spec
     ask-slot-requires
     enum-known-asked
-    keep-requires
+    refuse-requires
     enum-known-asked-2
     replace-held-requires
     returns

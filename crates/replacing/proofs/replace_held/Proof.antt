@@ -1,6 +1,6 @@
 -- `replacing::replace_held` puts the rule into the slot in place of the one there, or refuses. Assumes nothing.
 -- Each return has the answers of the questions before it.
-use mathlib.Core.Path.{_≡_, sym, _∙_}
+use mathlib.Core.Path.{_≡_, sym, _∙_, ap}
 use mathlib.Core.Bool.{Bool, false}
 use mathlib.Core.Option.{none}
 use lib.ListN.{set}
@@ -11,12 +11,13 @@ use Rattle.theory.specs.Limits.{document}
 use Rattle.theory.proofs.Lists.{not-true, not-false}
 use Rattle.table.specs.declared.Rule.{Rule}
 use Rattle.table.specs.Questions.{ruleFrom}
-use Rattle.questions.proofs.Refusals.{none-refused}
+use Rattle.questions.specs.Asked.{firstNoTold}
 use Rattle.calls.specs.Contracts.{held}
 use Rattle.calls.proofs.Sizes.{table-sized, rule-sized}
 use Rattle.add_remove.proofs.Sizes.{labels-sized}
 use Rattle.replacing.proofs.Ends.{handed-back, refused-early, rest-told, put-behind, refused-same}
 use Rattle.replacing.proofs.Ends.{bounded-changed, refused-cycle, replace-ends}
+use borrow.Author.Needs.{needs}
 use Rattle.replacing.proofs.replace_held.Statement.{statement}
 use Rattle.replacing.proofs.replace_held.Tie as tie
 
@@ -24,17 +25,20 @@ use Rattle.replacing.proofs.replace_held.Tie as tie
 abbrev named : tie.Start → theory.Rule
 named s = ruleFrom (s .args .head) (s .args .positives .now) (s .args .negatives .now)
 
-pass : (c : tie.Else1) → first-no (rule-questions document (named (c .before .before .before .before))) ≡ none
-pass c =
-    let a = c .before .before .before .before .args in
-    none-refused document (a .head) (a .positives .now) (a .negatives .now)
-    (sym (c .before .first-no .ensures) ∙ c .if1 .left)
+abbrev start-of : tie.After-ask-rule → tie.Start
+start-of c = c .before .before .before
+
+abbrev asked-of : tie.After-enum-told → tie.After-ask-rule
+asked-of c = c .before .before
+
+pass : (c : tie.After-enum-told) → first-no (rule-questions document (named (start-of (asked-of c)))) ≡ none
+pass c = sym (asked-of c .ask-rule .ensures) ∙ ap firstNoTold (c .enum-told .given .1)
 
 abbrev made : tie.After-holds-rule → tie.After-make-rule
 made c = c .before .before .before .before
 
 abbrev start : tie.After-holds-rule → tie.Start
-start c = made c .before .before .before .before .before
+start c = start-of (asked-of (made c .before))
 
 held-elsewhere :
     (c : tie.After-holds-rule) (v : Bool) → c .holds-rule .result ≡ v
@@ -56,23 +60,26 @@ put-there c =
     put-behind (s .args .table) (s .pre .0) (s .args .slot .0) (s .pre .1) (named s) (pass (made holds .before)) _
     (holds .before .before .free .ensures) _ (holds .before .with-rule .ensures) _ _ (c .with-rule2 .ensures)
 
-first-no-requires : tie.Need-first-no-requires
-first-no-requires c κs = tt
+ask-rule-requires : tie.Need-ask-rule-requires
+ask-rule-requires c κs = tt
 
-refusal-of-requires : tie.Need-refusal-of-requires
-refusal-of-requires c κs = tt
+enum-known-asked : tie.Need-enum-known-asked
+enum-known-asked c = search needs
 
-keep-requires : tie.Need-keep-requires
-keep-requires c κs = tt
+refuse-requires : tie.Need-refuse-requires
+refuse-requires c κs = tt
 
 returns : tie.Need-returns
 returns c =
-    let why = c .before in
-    let num = why .before .before in
-    let s = num .before .before .before in
-    handed-back (s .args .table) (s .args .slot .0) (named s) _ _ (c .keep .ensures)
-    (refused-early (s .args .table) (s .pre .0) (s .args .slot .0) (s .pre .1) (named s) _ (num .first-no .ensures)
-    (why .before .if1 .taken) _ (why .refusal-of .ensures))
+    let no = c .before .before in
+    let ask = no .before .before in
+    let s = start-of ask in
+    handed-back (s .args .table) (s .args .slot .0) (named s) _ _ (c .refuse .ensures)
+    (refused-early (s .args .table) (s .pre .0) (s .args .slot .0) (s .pre .1) (named s) _
+    (ap firstNoTold (sym (no .asked .given .1)) ∙ ask .ask-rule .ensures))
+
+enum-told : tie.Need-enum-told
+enum-told c = search needs
 
 make-rule-requires : tie.Need-make-rule-requires
 make-rule-requires c κs = pass c
@@ -86,16 +93,16 @@ with-rule-requires c κs = tt
 holds-rule-requires : tie.Need-holds-rule-requires
 holds-rule-requires c κs = tt
 
-keep-requires-2 : tie.Need-keep-requires-2
-keep-requires-2 c κs = tt
+refuse-requires-2 : tie.Need-refuse-requires-2
+refuse-requires-2 c κs = tt
 
 returns-2 : tie.Need-returns-2
 returns-2 c =
     let holds = c .before .before in
     let s = start holds in
-    handed-back (s .args .table) (s .args .slot .0) (named s) _ _ (c .keep2 .ensures)
+    handed-back (s .args .table) (s .args .slot .0) (named s) _ _ (c .refuse2 .ensures)
     (refused-same (s .args .table) (s .pre .0) (s .args .slot .0) (s .pre .1) (named s) (pass (made holds .before))
-    (held-elsewhere holds _ (c .before .if2 .taken)))
+    (held-elsewhere holds _ (c .before .if1 .taken)))
 
 with-rule-requires-2 : tie.Need-with-rule-requires-2
 with-rule-requires-2 c κs = tt
@@ -105,11 +112,11 @@ labels-of-requires c κs =
     let holds = c .before .before in
     let s = start holds in
     bounded-changed (s .args .table) (s .pre .0) (s .args .slot .0) (s .pre .1) (named s) (pass (made holds .before))
-    (held-elsewhere holds false (c .before .if2 .left)) (made holds .make-rule .result)
+    (held-elsewhere holds false (c .before .if1 .left)) (made holds .make-rule .result)
     (made holds .make-rule .ensures) _ (put-there c)
 
-keep-requires-3 : tie.Need-keep-requires-3
-keep-requires-3 c κs = tt
+refuse-requires-3 : tie.Need-refuse-requires-3
+refuse-requires-3 c κs = tt
 
 returns-3 : tie.Need-returns-3
 returns-3 c =
@@ -117,11 +124,11 @@ returns-3 c =
     let put = cyclic .before in
     let holds = put .before .before in
     let s = start holds in
-    handed-back (s .args .table) (s .args .slot .0) (named s) _ _ (c .keep3 .ensures)
+    handed-back (s .args .table) (s .args .slot .0) (named s) _ _ (c .refuse3 .ensures)
     (refused-cycle (s .args .table) (s .pre .0) (s .args .slot .0) (s .pre .1) (named s) (pass (made holds .before))
-    (held-elsewhere holds false (put .before .if2 .left)) (made holds .make-rule .result)
+    (held-elsewhere holds false (put .before .if1 .left)) (made holds .make-rule .result)
     (made holds .make-rule .ensures) _ (put-there put) (cyclic .labels-of .result) (cyclic .labels-of .ensures)
-    (not-true _ (c .before .if3 .taken)))
+    (not-true _ (c .before .if2 .taken)))
 
 returns-4 : tie.Need-returns-4
 returns-4 c =
@@ -130,9 +137,9 @@ returns-4 c =
     let holds = put .before .before in
     let s = start holds in
     replace-ends (s .args .table) (s .pre .0) (s .args .slot .0) (s .pre .1) (named s) (pass (made holds .before))
-    (held-elsewhere holds false (put .before .if2 .left)) (made holds .make-rule .result)
+    (held-elsewhere holds false (put .before .if1 .left)) (made holds .make-rule .result)
     (made holds .make-rule .ensures) _ (put-there put) (told .labels-of .result) (told .labels-of .ensures)
-    (not-false _ (c .before .if3 .left)) (table-sized _ _ (s .good .0))
+    (not-false _ (c .before .if2 .left)) (table-sized _ _ (s .good .0))
     (rule-sized (made holds .make-rule .result) _ (made holds .make-rule .ok))
     (labels-sized (told .labels-of .result) _ (told .labels-of .ok))
 
@@ -140,18 +147,19 @@ pub replace-held-spec : {M : Type 1} → statement M
 replace-held-spec =
     tie.close
     (tie.spec
-    first-no-requires
-    refusal-of-requires
-    keep-requires
+    ask-rule-requires
+    enum-known-asked
+    refuse-requires
     returns
+    enum-told
     make-rule-requires
     free-requires
     with-rule-requires
     holds-rule-requires
-    keep-requires-2
+    refuse-requires-2
     returns-2
     with-rule-requires-2
     labels-of-requires
-    keep-requires-3
+    refuse-requires-3
     returns-3
     returns-4)

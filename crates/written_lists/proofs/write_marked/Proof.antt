@@ -31,11 +31,11 @@ loop-holds c = (omega arith, search needs, appends-start _ _ _)
 shared-slice-read-flag : tie.Need-shared-slice-read-flag Inv-loop μ-loop
 shared-slice-read-flag c = search needs
 
-cast-put-if : tie.Need-cast-put-if Inv-loop μ-loop
-cast-put-if c = search needs
+cast-write-if : tie.Need-cast-write-if Inv-loop μ-loop
+cast-write-if c = search needs
 
-put-if-requires : tie.Need-put-if-requires Inv-loop μ-loop
-put-if-requires c κs =
+write-if-requires : tie.Need-write-if-requires Inv-loop μ-loop
+write-if-requires c κs =
     let at = c .before .before .before .loop in
     omega (arith, appends-most _ (at .i) _ _ _ _ (at .inv .2))
 
@@ -47,11 +47,11 @@ loop-less c = search needs
 
 loop-again : tie.Need-loop-again Inv-loop μ-loop
 loop-again c =
-    let put = c .before .before in
-    let at = put .before .before .before .before .loop in (
+    let written = c .before .before in
+    let at = written .before .before .before .before .loop in (
       omega arith,
-      put .put-if .kept .0 ∙ at .inv .1,
-      appends-next _ (at .i) _ _ _ _ _ _ (at .inv .2) (put .put-if .ensures),
+      written .write-if .kept .0 ∙ at .inv .1,
+      appends-next _ (at .i) _ _ _ _ _ _ (at .inv .2) (written .write-if .ensures),
     )
 
 same-length : tie.Need-same-length Inv-loop μ-loop
@@ -76,8 +76,8 @@ write-marked-spec =
     returns
     loop-holds
     shared-slice-read-flag
-    cast-put-if
-    put-if-requires
+    cast-write-if
+    write-if-requires
     add-i
     loop-less
     loop-again

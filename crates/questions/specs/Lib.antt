@@ -1,0 +1,2 @@
+-- What questions 1 to 4 are answered, in the words of the theory.
+pub mod Asked
