@@ -20,8 +20,8 @@ use Rattle.calls.specs.declared.SpoilerAnswer.the-variants as spoilt
 use Rattle.calls.specs.declared.ListAnswer.{ListAnswer}
 use Rattle.calls.specs.declared.ListAnswer.the-variants as listed
 use Rattle.refusals.specs.Refusals.{numberOf, neededBy}
-use Rattle.checklist.specs.declared.CompleteAnswer.{CompleteAnswer}
-use Rattle.checklist.specs.declared.CompleteAnswer.the-variants as complete
+use Rattle.checklist_meaning.specs.declared.CompleteAnswer.{CompleteAnswer}
+use Rattle.checklist_meaning.specs.declared.CompleteAnswer.the-variants as complete
 use Rattle.refusals.proofs.Refusals.{Plain, plain-or-11}
 use Rattle.refusals.proofs.Refusal.{the-type}
 use Rattle.c_answers.specs.declared.Change.{Change}

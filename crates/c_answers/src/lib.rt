@@ -4,7 +4,7 @@ use calls::ChangeAnswer;
 use calls::LabelAnswer;
 use calls::ListAnswer;
 use calls::SpoilerAnswer;
-use checklist::CompleteAnswer;
+use checklist_meaning::CompleteAnswer;
 use refusals::Refusal;
 use refusals::refusal_number;
 use table::Table;

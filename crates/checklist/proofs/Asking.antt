@@ -6,13 +6,12 @@ use mathlib.Core.Logic.{⊎-elim}
 use mathlib.Core.Bool.{Bool, true, false, not, _&&_, _||_}
 use mathlib.Core.List.{List, [], _∷_}
 use mathlib.Core.Option.{Option, none, some}
-use lib.Dec.{leb}
 use lib.ListN.{length, set, replicate, length-set, length-replicate}
 use lib.Seq.{getD-set-same, getD-set-other}
 use Rattle.theory.specs.Models.{AtomSet}
 use Rattle.theory.specs.Questions.{asks, first-no, is-some}
 use Rattle.theory.specs.Limits.{document}
-use Rattle.theory.proofs.Lists.{unless, and-l, and-r, and-of, leb-le, le-leb, le-or-lt}
+use Rattle.theory.proofs.Lists.{unless, and-l, and-r, and-of, le-or-lt}
 use Rattle.theory.proofs.Labels.{label-in}
 use Rattle.theory.proofs.Questions.{first-no-yes}
 use Rattle.table.specs.declared.Slot.{Slot}
@@ -32,35 +31,37 @@ use Rattle.calls.specs.Contracts.{held, LabelEnds}
 use Rattle.written_lists.specs.Lists.{below}
 use Rattle.written_lists.specs.Written.{Written, short, fits}
 use Rattle.written_lists.proofs.Lists.{flags-list}
-use Rattle.checklist.specs.declared.CompleteAnswer.the-variants as told
-use Rattle.checklist_frame.specs.Frame.{Checklist, sent, skipped, good, is-mark, files-of, marked}
-use Rattle.checklist.specs.Questions.{on-list, lacks}
-use Rattle.checklist.specs.Contracts as ends
-use Rattle.checklist.specs.Contracts.{CompleteEnds, MissingEnds, tellComplete}
+use Rattle.checklist_meaning.specs.declared.CompleteAnswer.the-variants as told
+use Rattle.checklist_frame.specs.Frame.{Checklist, sent, skipped, good, on-list, is-mark, files-of, marked}
+use Rattle.checklist_meaning.specs.Questions.{lacks}
+use Rattle.checklist_meaning.specs.Contracts as ends
+use Rattle.checklist_meaning.specs.Contracts.{CompleteEnds, MissingEnds, tellComplete}
 use Rattle.checklist.specs.Parts.{Lacking}
-use Rattle.checklist_frame.proofs.Frames.{checklist-of, mark-below, sent-mark, skipped-mark}
-use Rattle.checklist.proofs.Model.{mark-in}
+use Rattle.checklist_frame.proofs.Frames.{listed-file, is-listed, checklist-of, mark-below, sent-mark, skipped-mark}
+use Rattle.checklist_meaning.proofs.Model.{mark-in}
 use Rattle.checklist.proofs.Labels.{Told, told-absent, told-out, told-in, told-refused, in?, model-in}
 
--- Complete is told as the label of the last file's good says.
-module _ (t : Table) (n : ℕ) (e : files-of (held t) ≡ some n) {x : LabelAnswer} (E : LabelEnds t (good n) x) where
-  complete-told : Told t (good n) x → {b : Bool} → in? x ≡ b → CompleteEnds t (tellComplete b)
+-- Complete is told as the label of the last file's good says: of the atom b, which is that good.
+module _
+    (t : Table) (n : ℕ) (e : files-of (held t) ≡ some n) (b : ℕ) (last : b ≡ good n) {x : LabelAnswer}
+    (E : LabelEnds t b x) where
+  complete-told : Told t b x → {y : Bool} → in? x ≡ y → CompleteEnds t (tellComplete y)
   complete-told T q =
-      subst (λ (b : Bool). CompleteEnds t (tellComplete b)) (model-in t (good n) T ∙ q)
+      subst (λ (y : Bool). CompleteEnds t (tellComplete y)) (ap (T .model) (sym last) ∙ model-in t b T ∙ q)
       (ends.accepted (T .model) n (T .sound) e (T .admissible))
 
   pub complete-in : {d : ℕ} {s : Slot} → x ≡ label.In d s → CompleteEnds t told.Complete
-  complete-in q = complete-told (told-in t (good n) E q) (ap in? q)
+  complete-in q = complete-told (told-in t b E q) (ap in? q)
 
   pub complete-absent : x ≡ label.Absent → CompleteEnds t told.Incomplete
-  complete-absent q = complete-told (told-absent t (good n) E q) (ap in? q)
+  complete-absent q = complete-told (told-absent t b E q) (ap in? q)
 
   pub complete-out : x ≡ label.Out → CompleteEnds t told.Incomplete
-  complete-out q = complete-told (told-out t (good n) E q) (ap in? q)
+  complete-out q = complete-told (told-out t b E q) (ap in? q)
 
   pub complete-refused : {f : Refusal} → x ≡ label.Refused f → CompleteEnds t (told.Refused f)
   complete-refused q =
-      let w = told-refused t (good n) (omega (arith, checklist-of (held t) n e .high)) E q in
+      let w = told-refused t b (omega (arith, checklist-of (held t) n e .high)) E q in
       subst (λ (g : Refusal). CompleteEnds t (told.Refused g)) (sym (w .0)) (ends.unsound (λ S. absurd (w .1 S)))
 
 -- Which of n files lack something, by the atoms that are in: told for the files below i, and of no other number yet.
@@ -76,7 +77,7 @@ pub lacking-start : (atoms : List Bool) (n : ℕ) → LackingTo atoms n 1 (repli
 lacking-start atoms n = record {
   size = length-replicate 61 false;
   below = λ j l. all-alike 61 j false
-      ∙ sym (unless _ (λ t. omega (arith, leb-le 1 j (and-l (leb 1 j) _ (and-l (on-list (some n) j) _ t)))));
+      ∙ sym (unless _ (λ t. omega (arith, listed-file n j (and-l (on-list (some n) j) _ t) .0)));
   above = λ j l. all-alike 61 j false;
 }
 
@@ -89,7 +90,7 @@ module _ (atoms : List Bool) (n i : ℕ) (lacks : List Bool) (L : LackingTo atom
         (λ (k : i ≤ j). let z : j ≡ i = omega arith in
         subst (λ (k : ℕ). member (set lacks i v) k ≡ (on-list (some n) k && lacking-in atoms k)) (sym z)
         (getD-set-same lacks i v false (omega (arith, L .size)) ∙ e
-        ∙ sym (ap (λ (b : Bool). b && lacking-in atoms i) (and-of _ _ (le-leb 1 i low) (le-leb i n high)))))
+        ∙ sym (ap (λ (b : Bool). b && lacking-in atoms i) (is-listed n i low high))))
         (λ (k : j < i). getD-set-other lacks i j v false (λ z. omega arith) ∙ L .below j k)
         (le-or-lt i j);
     above = λ j l. getD-set-other lacks i j v false (λ z. omega arith) ∙ L .above j (omega arith);
@@ -100,7 +101,7 @@ module _ (atoms : List Bool) (n i : ℕ) (lacks : List Bool) (L : LackingTo atom
     size = L .size;
     each = λ j. ⊎-elim
         (λ (k : i ≤ j). L .above j k
-        ∙ sym (unless _ (λ t. omega (arith, leb-le j n (and-r (leb 1 j) _ (and-l (on-list (some n) j) _ t))))))
+        ∙ sym (unless _ (λ t. omega (arith, listed-file n j (and-l (on-list (some n) j) _ t) .1))))
         (λ (k : j < i). L .below j k)
         (le-or-lt i j);
   }
@@ -125,10 +126,9 @@ module _ (t : Table) (S : Sound t) (n : ℕ) (e : files-of (held t) ≡ some n) 
   module _ (k : LabelArrays) (K : ArraysOf (t .labels) k) (flags : List Bool) (L : Lacking (k .flags) n flags) where
     listed-lacks : (i : ℕ) → on-list (some n) i ≡ true → lacking-in (k .flags) i ≡ lacks (held t) i
     listed-lacks i l =
-        let low = leb-le 1 i (and-l (leb 1 i) _ l) in
-        let high = leb-le i n (and-r (leb 1 i) _ l) in
-        ap₂ (λ (b c : Bool). not b || c) (kept-mark k K (sent i) (sent-mark n i low high))
-        (kept-mark k K (skipped i) (skipped-mark n i low high))
+        let b = listed-file n i l in
+        ap₂ (λ (b c : Bool). not b || c) (kept-mark k K (sent i) (sent-mark n i (b .0) (b .1)))
+        (kept-mark k K (skipped i) (skipped-mark n i (b .0) (b .1)))
 
     lacking-flags :
         Flags flags (λ i. (on-list (files-of (held t)) i ≡ true) × (lacks (held t) i ≡ true))

@@ -3,25 +3,26 @@ use Prim.Native.Nat.{ℕ, _≤_, _<_}
 use native.Mathlib.Omega.{arith}
 use mathlib.Core.Path.{_≡_, refl, sym, _∙_, ap, subst}
 use mathlib.Core.Logic.{⊎-elim}
-use mathlib.Core.Bool.{Bool, true, false, not, true≢false}
+use mathlib.Core.Bool.{Bool, true, false, not}
 use mathlib.Core.List.{[], _∷_}
 use mathlib.Core.Option.{Option, none, some, Option·none-ne-some, Option·some-injective}
-use lib.Dec.{leb}
 use lib.ListN.{set}
 use Rattle.theory.specs.Lists.{every, distinct, sort}
 use Rattle.theory.specs.Rules.{Pages, all, new-page, Held, any-rule, same}
 use Rattle.theory.specs.Questions.{asks, first-no, is-some, rule-questions, add-questions, slot-questions, with-added}
 use Rattle.theory.specs.Questions.{lowest-free, put-in, stratified}
 use Rattle.theory.specs.Limits.{document}
-use Rattle.theory.proofs.Lists.{test, unless, lt-ltb, same-test, and-l, and-r, and-of, leb-le, le-leb}
+use Rattle.theory.proofs.Lists.{test, unless, lt-ltb, same-test}
 use Rattle.theory.proofs.Sameness.{same-held}
 use Rattle.theory.proofs.Pages.{all-length}
 use Rattle.theory.proofs.Questions.{first-no-yes, first-no-here, held-below}
+use Rattle.table.specs.declared.Atom.{Atom}
 use Rattle.table.specs.declared.Slot.{Slot}
 use Rattle.table.specs.declared.Table.{Table}
 use Rattle.table.specs.Sound.{Sound}
 use Rattle.refusals.specs.declared.Refusal.{Refusal}
 use Rattle.refusals.specs.declared.Refusal.the-variants.{TableUnsound, FileNotListed, MarkUnchanged}
+use Rattle.refusals.specs.Refusals.{numberOf}
 use Rattle.calls.specs.declared.AddAnswer.{AddAnswer}
 use Rattle.calls.specs.declared.AddAnswer.the-variants as added
 use Rattle.calls.specs.declared.ChangeAnswer.{ChangeAnswer}
@@ -29,33 +30,27 @@ use Rattle.calls.specs.declared.ChangeAnswer.the-variants as change
 use Rattle.calls.specs.declared.Changed.{Changed}
 use Rattle.calls.specs.declared.LabelAnswer.{LabelAnswer}
 use Rattle.calls.specs.declared.LabelAnswer.the-variants as label
-use Rattle.refusals.specs.Refusals.{numberOf}
 use Rattle.calls.specs.Contracts as contract
 use Rattle.calls.specs.Contracts.{held, AddEnds, RemoveEnds, LabelEnds}
+use Rattle.checklist_frame.specs.declared.Mark.the-variants.{Sent, Skipped}
+use Rattle.checklist_frame.specs.Frame.{Checklist, most-files, sent, skipped, fact, on-list, is-mark, files-of, marked}
+use Rattle.checklist_frame.specs.Frame.{first-slot}
+use Rattle.checklist_frame.specs.Parts.{count-of}
+use Rattle.checklist_frame.proofs.Frames.{listed-file, checklist-of, mark-below, sent-mark, skipped-mark}
+use Rattle.checklist_meaning.specs.Questions.{FileCall, file-sent, file-skipped, skip-withdrawn, file, allowed}
+use Rattle.checklist_meaning.specs.Book.{with-fact, marks-changed}
+use Rattle.checklist_meaning.specs.Contracts as ends
+use Rattle.checklist_meaning.specs.Contracts.{FileEnds}
+use Rattle.checklist_meaning.proofs.Questions.{off-list, not-allowed, is-allowed}
+use Rattle.checklist_meaning.proofs.Marks.{marked-at, marked-of, checklist-stratified, free-slot, added-checklist}
+use Rattle.checklist_meaning.proofs.Marks.{rules-added, fact-slot}
+use Rattle.checklist_meaning.proofs.Model.{mark-in, mark-support}
 use Rattle.checklist.specs.declared.AskedFile.{AskedFile}
 use Rattle.checklist.specs.declared.AskedFile.the-variants as asked
-use Rattle.checklist_frame.specs.Frame.{Checklist, sent, skipped, fact, is-mark, files-of, marked, first-slot}
-use Rattle.checklist.specs.Questions.{FileCall, file-sent, file-skipped, skip-withdrawn, file, on-list, allowed}
-use Rattle.checklist.specs.Questions.{mark-questions}
-use Rattle.checklist.specs.Book.{with-fact, marks-changed}
-use Rattle.checklist.specs.Contracts as ends
-use Rattle.checklist.specs.Contracts.{FileEnds}
-use Rattle.checklist_frame.specs.Parts.{count-of}
-use Rattle.checklist.specs.Parts.{FileAsked, MarkAdded, taken, stands, other, MarkRemoved}
+use Rattle.checklist.specs.Parts.{FileAsked, FactAdded, taken, stands, other, FactRemoved, MarkAdded, MarkRemoved}
 use Rattle.checklist.specs.Parts as parts
-use Rattle.checklist_frame.proofs.Frames.{checklist-of, mark-below, sent-mark, skipped-mark}
-use Rattle.checklist.proofs.Marks.{marked-at, marked-of, checklist-stratified, free-slot, added-checklist}
-use Rattle.checklist.proofs.Marks.{rules-added, fact-slot}
-use Rattle.checklist.proofs.Model.{mark-in, mark-support}
 use Rattle.checklist.proofs.Labels.{Told, told-absent, told-out, told-in, told-refused}
 use Rattle.checklist.proofs.Labels.{in?, slot?, model-in, supporting-slot}
-
--- A file on the list is one of its numbers.
-pub listed-file : (n i : ℕ) → on-list (some n) i ≡ true → (1 ≤ i) × (i ≤ n)
-listed-file n i o = (leb-le 1 i (and-l (leb 1 i) _ o), leb-le i n (and-r (leb 1 i) _ o))
-
-pub is-listed : (n i : ℕ) → 1 ≤ i → i ≤ n → on-list (some n) i ≡ true
-is-listed n i l h = and-of _ _ (le-leb 1 i l) (le-leb i n h)
 
 -- The number that was counted is that of the files, and 0 says that there is no checklist.
 module _ (B : Pages) (n : ℕ) (e : n ≡ count-of (files-of B)) where
@@ -72,28 +67,12 @@ module _ (B : Pages) (n : ℕ) (e : n ≡ count-of (files-of B)) where
   pub counted-some : (n ≡ 0 → ⊥) → files-of B ≡ some n
   counted-some = counted (files-of B) refl .1
 
--- What a call on a file asks, one question after another.
-module _ (B : Pages) (c : FileCall) where
-  pub no-list : files-of B ≡ none → first-no (mark-questions B c) ≡ some 15
-  no-list e = first-no-here (asks 15 _) _ (ap is-some e)
-
-  module _ (n : ℕ) (e : files-of B ≡ some n) where
-    pub off-list : on-list (some n) (file c) ≡ false → first-no (mark-questions B c) ≡ some 20
-    off-list f =
-        first-no-yes (asks 15 _) _ (ap is-some e)
-        ∙ first-no-here (asks 20 _) _ (ap (λ (o : Option ℕ). on-list o (file c)) e ∙ f)
-
-    module _ (l : on-list (some n) (file c) ≡ true) where
-      listed-asks : first-no (mark-questions B c) ≡ first-no (asks 22 (allowed B c) ∷ [])
-      listed-asks =
-          first-no-yes (asks 15 _) _ (ap is-some e)
-          ∙ first-no-yes (asks 20 _) _ (ap (λ (o : Option ℕ). on-list o (file c)) e ∙ l)
-
-      pub not-allowed : allowed B c ≡ false → first-no (mark-questions B c) ≡ some 22
-      not-allowed f = listed-asks ∙ first-no-here (asks 22 _) [] f
-
-      pub is-allowed : allowed B c ≡ true → first-no (mark-questions B c) ≡ none
-      is-allowed t = listed-asks ∙ first-no-yes (asks 22 _) [] t ∙ (unfold first-no in refl)
+-- A file on the list is one of at most 60.
+pub listed-bounds :
+    (B : Pages) (n i : ℕ) → files-of B ≡ some n → on-list (some n) i ≡ true → (1 ≤ i) × (i ≤ most-files)
+listed-bounds B n i e l =
+    let b = listed-file n i l in
+    (b .0, omega (arith, b .1, checklist-of B n e .high))
 
 -- An answer and a table handed back together.
 pub handed :
@@ -101,16 +80,31 @@ pub handed :
     → r ≡ record { answer = x; table = u } → Q x u → Q (r .answer) (r .table)
 handed Q r e q = subst (λ (z : Changed). Q (z .answer) (z .table)) (sym e) q
 
+-- A refusal of the file is handed on; what passed is added, or removed.
+module _ (t : Table) {r : AskedFile} where
+  pub add-refused : {f : Refusal} → r ≡ asked.Refused f → MarkAdded t r (change.Refused f) t
+  add-refused {f} e = subst (λ (q : AskedFile). MarkAdded t q (change.Refused f) t) (sym e) (refl, refl)
+
+  pub remove-refused : {f : Refusal} → r ≡ asked.Refused f → MarkRemoved t r (change.Refused f) t
+  remove-refused {f} e = subst (λ (q : AskedFile). MarkRemoved t q (change.Refused f) t) (sym e) (refl, refl)
+
+  module _ {a : Atom} {x : ChangeAnswer} {u : Table} (e : r ≡ asked.Passed a) where
+    pub add-passed : FactAdded t (a .0) x u → MarkAdded t r x u
+    add-passed F = subst (λ (q : AskedFile). MarkAdded t q x u) (sym e) F
+
+    pub remove-passed : FactRemoved t (a .0) x u → MarkRemoved t r x u
+    remove-passed F = subst (λ (q : AskedFile). MarkRemoved t q x u) (sym e) F
+
 -- What add answered of a mark's fact, by the case that it is.
 module _ (t : Table) (a : ℕ) {x : AddAnswer} {u : Table} (E : AddEnds t (fact a) x u) where
-  pub mark-taken : {s : Slot} → x ≡ added.Taken s → MarkAdded t a change.Accepted u
+  pub mark-taken : {s : Slot} → x ≡ added.Taken s → FactAdded t a change.Accepted u
   mark-taken e = taken (subst (λ (y : AddAnswer). AddEnds t (fact a) y u) e E)
 
   module _ {f : Refusal} (e : x ≡ added.Refused f) (k : ℕ) (number : k ≡ numberOf f) where
-    pub mark-stands : k ≡ 5 → MarkAdded t a (change.Refused MarkUnchanged) u
+    pub mark-stands : k ≡ 5 → FactAdded t a (change.Refused MarkUnchanged) u
     mark-stands five = stands (subst (λ (y : AddAnswer). AddEnds t (fact a) y u) e E) (sym number ∙ five)
 
-    pub mark-other : (k ≡ 5 → ⊥) → MarkAdded t a (change.Refused f) u
+    pub mark-other : (k ≡ 5 → ⊥) → FactAdded t a (change.Refused f) u
     mark-other n = other (subst (λ (y : AddAnswer). AddEnds t (fact a) y u) e E) (λ q. n (number ∙ q))
 
 -- The same of label, where the mark is to be removed.
@@ -120,67 +114,17 @@ module _ (t : Table) (a : ℕ) {x : LabelAnswer} (E : LabelEnds t a x) where
 
   pub mark-freed :
       {d : ℕ} {s : Slot} → x ≡ label.In d s → {y : ChangeAnswer} {u : Table} → RemoveEnds t (s .0) y u
-      → MarkRemoved t a y u
+      → FactRemoved t a y u
   mark-freed e R = parts.removed (ends-as e) R
 
-  pub mark-out : x ≡ label.Out → MarkRemoved t a (change.Refused MarkUnchanged) t
+  pub mark-out : x ≡ label.Out → FactRemoved t a (change.Refused MarkUnchanged) t
   mark-out e = parts.out (ends-as e)
 
-  pub mark-absent : x ≡ label.Absent → MarkRemoved t a (change.Refused MarkUnchanged) t
+  pub mark-absent : x ≡ label.Absent → FactRemoved t a (change.Refused MarkUnchanged) t
   mark-absent e = parts.absent (ends-as e)
 
-  pub mark-unsound : {f : Refusal} → x ≡ label.Refused f → MarkRemoved t a (change.Refused f) t
+  pub mark-unsound : {f : Refusal} → x ≡ label.Refused f → FactRemoved t a (change.Refused f) t
   mark-unsound e = parts.refused (ends-as e)
-
-abbrev passed? : AskedFile → Bool
-passed? asked.Passed = true
-passed? (asked.Refused f) = false
-
-abbrev why-asked : AskedFile → Refusal
-why-asked asked.Passed = TableUnsound
-why-asked (asked.Refused f) = f
-
--- What the questions of a file say of the call.
-module _ (t : Table) (c : FileCall) where
-  pub asked-refused :
-      {r : AskedFile} → FileAsked t (file c) r → {f : Refusal} → r ≡ asked.Refused f
-      → FileEnds t c (change.Refused f) t
-  asked-refused (parts.unsound un) q =
-      subst (λ (g : Refusal). FileEnds t c (change.Refused g) t) (ap why-asked q) (ends.unsound un)
-  asked-refused (parts.off-list n S e l) q =
-      subst (λ (g : Refusal). FileEnds t c (change.Refused g) t) (ap why-asked q)
-      (ends.refused FileNotListed S (off-list (held t) c n e l))
-  asked-refused (parts.passed n e l) q = absurd (true≢false (ap passed? q))
-
-pub record Listed (t : Table) (i : ℕ) : Type 0 where
-  pub number : ℕ
-  pub files : files-of (held t) ≡ some number
-  pub listed : on-list (some number) i ≡ true
-
-pub asked-passed : {t : Table} {i : ℕ} {r : AskedFile} → FileAsked t i r → r ≡ asked.Passed → Listed t i
-asked-passed (parts.unsound un) q = absurd (true≢false (sym (ap passed? q)))
-asked-passed (parts.off-list n S e l) q = absurd (true≢false (sym (ap passed? q)))
-asked-passed (parts.passed n e l) q = record { number = n; files = e; listed = l }
-
--- The file is one of at most 60, and its marks are marks of the list.
-module _ {t : Table} {i : ℕ} (L : Listed t i) where
-  list : Checklist (held t) (L .number)
-  list = checklist-of (held t) (L .number) (L .files)
-
-  low : 1 ≤ i
-  low = listed-file (L .number) i (L .listed) .0
-
-  high : i ≤ L .number
-  high = listed-file (L .number) i (L .listed) .1
-
-  pub file-bounds : (1 ≤ i) × (i ≤ 60)
-  file-bounds = (low, omega (arith, high, list .high))
-
-  sent-listed : is-mark (L .number) (sent i) ≡ true
-  sent-listed = sent-mark (L .number) i low high
-
-  skipped-listed : is-mark (L .number) (skipped i) ≡ true
-  skipped-listed = skipped-mark (L .number) i low high
 
 -- A fact of an atom below the limit passes 1 to 4, and is kept as it is.
 fact-passes : (a : ℕ) → a < document .atoms → first-no (rule-questions document (fact a)) ≡ none
@@ -248,7 +192,7 @@ module _
 
   module _ (asks-mark : allowed (held t) c ≡ not (marked (held t) a)) where
     mark-added :
-        marks-changed (held t) c ≡ with-fact (held t) a → {x : ChangeAnswer} {u : Table} → MarkAdded t a x u
+        marks-changed (held t) c ≡ with-fact (held t) a → {x : ChangeAnswer} {u : Table} → FactAdded t a x u
         → FileEnds t c x u
     mark-added adds (taken (contract.accepted s u S q k Z h U)) =
         let free : marked (held t) a ≡ false =
@@ -287,7 +231,7 @@ module _
 
     mark-removed :
         marks-changed (held t) c ≡ set (held t) (first-slot (fact a) (all (held t))) none
-        → {x : ChangeAnswer} {u : Table} → MarkRemoved t a x u → FileEnds t c x u
+        → {x : ChangeAnswer} {u : Table} → FactRemoved t a x u → FileEnds t c x u
     mark-removed removes (parts.out E) = withdrawn-out (told-out t a E refl) refl
     mark-removed removes (parts.absent E) = withdrawn-out (told-absent t a E refl) refl
     mark-removed removes (parts.refused E) =
@@ -303,21 +247,44 @@ module _
         (h ∙ sym (removes
         ∙ ap (λ (k : ℕ). set (held t) k none) (fact-slot (all (held t)) (S .labels .single) a (s .0) (w .0)))) U
 
--- File sent, file skipped, skip withdrawn, of a file on the list.
-pub sent-ends :
-    (t : Table) (i : ℕ) → Listed t i → {x : ChangeAnswer} {u : Table} → MarkAdded t (sent i) x u
-    → FileEnds t (file-sent i) x u
-sent-ends t i L E =
-    mark-added t (file-sent i) (L .number) (sent i) (L .files) (L .listed) (sent-listed L) refl refl E
+-- File sent, file skipped, skip withdrawn: 15 and 20 as they were asked, or the mark added or removed.
+module _ (t : Table) (i : ℕ) where
+  -- the table handed back with a refusal
+  refused-ends :
+      (c : FileCall) {f : Refusal} {x : ChangeAnswer} {u : Table} → (x ≡ change.Refused f) × (u ≡ t)
+      → FileEnds t c (change.Refused f) t → FileEnds t c x u
+  refused-ends c {x = x} (d, e) E =
+      subst (λ (z : Table). FileEnds t c x z) (sym e) (subst (λ (y : ChangeAnswer). FileEnds t c y t) (sym d) E)
 
-pub skipped-ends :
-    (t : Table) (i : ℕ) → Listed t i → {x : ChangeAnswer} {u : Table} → MarkAdded t (skipped i) x u
-    → FileEnds t (file-skipped i) x u
-skipped-ends t i L E =
-    mark-added t (file-skipped i) (L .number) (skipped i) (L .files) (L .listed) (skipped-listed L) refl refl E
+  pub sent-ends :
+      {r : AskedFile} {x : ChangeAnswer} {u : Table} → FileAsked t i Sent r → MarkAdded t r x u
+      → FileEnds t (file-sent i) x u
+  sent-ends (parts.unsound un) E = refused-ends (file-sent i) E (ends.unsound un)
+  sent-ends (parts.off-list n S e l) E =
+      refused-ends (file-sent i) E (ends.refused FileNotListed S (off-list (held t) (file-sent i) n e l))
+  sent-ends {x = x} {u = u} (parts.passed n a e l q) E =
+      let b = listed-file n i l in
+      mark-added t (file-sent i) n (sent i) e l (sent-mark n i (b .0) (b .1)) refl refl
+      (subst (λ (k : ℕ). FactAdded t k x u) q E)
 
-pub withdrawn-ends :
-    (t : Table) (i : ℕ) → Listed t i → {x : ChangeAnswer} {u : Table} → MarkRemoved t (skipped i) x u
-    → FileEnds t (skip-withdrawn i) x u
-withdrawn-ends t i L E =
-    mark-removed t (skip-withdrawn i) (L .number) (skipped i) (L .files) (L .listed) (skipped-listed L) refl refl E
+  pub skipped-ends :
+      {r : AskedFile} {x : ChangeAnswer} {u : Table} → FileAsked t i Skipped r → MarkAdded t r x u
+      → FileEnds t (file-skipped i) x u
+  skipped-ends (parts.unsound un) E = refused-ends (file-skipped i) E (ends.unsound un)
+  skipped-ends (parts.off-list n S e l) E =
+      refused-ends (file-skipped i) E (ends.refused FileNotListed S (off-list (held t) (file-skipped i) n e l))
+  skipped-ends {x = x} {u = u} (parts.passed n a e l q) E =
+      let b = listed-file n i l in
+      mark-added t (file-skipped i) n (skipped i) e l (skipped-mark n i (b .0) (b .1)) refl refl
+      (subst (λ (k : ℕ). FactAdded t k x u) q E)
+
+  pub withdrawn-ends :
+      {r : AskedFile} {x : ChangeAnswer} {u : Table} → FileAsked t i Skipped r → MarkRemoved t r x u
+      → FileEnds t (skip-withdrawn i) x u
+  withdrawn-ends (parts.unsound un) E = refused-ends (skip-withdrawn i) E (ends.unsound un)
+  withdrawn-ends (parts.off-list n S e l) E =
+      refused-ends (skip-withdrawn i) E (ends.refused FileNotListed S (off-list (held t) (skip-withdrawn i) n e l))
+  withdrawn-ends {x = x} {u = u} (parts.passed n a e l q) E =
+      let b = listed-file n i l in
+      mark-removed t (skip-withdrawn i) n (skipped i) e l (skipped-mark n i (b .0) (b .1)) refl refl
+      (subst (λ (k : ℕ). FactRemoved t k x u) q E)

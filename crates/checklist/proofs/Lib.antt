@@ -1,10 +1,4 @@
--- The laws of the checklist: of its marks and its model, of what its functions do, that each contract determines its
--- result, and that the list of files is empty exactly if complete is in.
-pub mod Marks
-pub mod Model
+-- How the calls on a checklist end, from what the table's calls answered.
 pub mod Labels
 pub mod Ends
 pub mod Asking
-pub mod Opened
-pub mod Determined
-pub mod Shown

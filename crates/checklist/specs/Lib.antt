@@ -1,6 +1,2 @@
--- The calls of the deposit checklist (request #106). A reader of them believes these, the definitions of `frame` and
--- those of `calls`; Parts is private.
-pub mod Questions
-pub mod Book
-pub mod Contracts
+-- What the functions behind the checklist's calls tell each other; the contracts stand in `checklist_meaning`.
 pub mod Parts

@@ -1,6 +1,6 @@
-// The deposit checklist, a library above the table: it reads the slots, and the labels that a sound table keeps, and
-// what it asks and changes it does by the calls label, add and remove. Its list is written as those of the calls are.
-// Arguments are bare numbers; no call asks anything of its caller.
+// The calls on a deposit checklist, a library above the table: it reads the slots, and the labels that a sound table
+// keeps, and what it asks and changes it does by the calls label, add and remove. Its list is written as those of the
+// calls are. Arguments are bare numbers; no call asks anything of its caller.
 use add_remove::add;
 use add_remove::remove;
 use calls::AddAnswer;
@@ -9,37 +9,35 @@ use calls::Changed;
 use calls::LabelAnswer;
 use calls::ListAnswer;
 use checklist_frame::MOST;
+use checklist_frame::Mark;
 use checklist_frame::file_count;
+use checklist_frame::good_atom;
+use checklist_frame::listed;
+use checklist_frame::mark_atom;
+use checklist_meaning::CompleteAnswer;
 use queries::label;
 use refusals::Refusal;
 use refusals::refusal_number;
+use table::Atom;
 use table::Table;
 use table::arrays::arrays_of;
+use table::sets::has;
 use written_lists::write_marked;
 ghost use mathlib.Core.Path.{_≡_};
 ghost use mathlib.Core.Bool.{true};
 ghost use mathlib.Core.Logic.{_↔_};
-ghost use mathlib.Core.Option.{some};
 ghost use Prim.Native.Nat.{_≤_};
 ghost use Rattle.table.specs.Sound.{Sound};
 ghost use Rattle.checklist_frame.specs.Frame.{most-files};
 ghost use Rattle.calls.specs.declared.ChangeAnswer.the-variants.{Refused};
-ghost use Rattle.checklist.specs.Questions.{file-sent, file-skipped, skip-withdrawn, on-list};
-ghost use Rattle.checklist.specs.Contracts.{OpenEnds, FileEnds, MissingEnds, CompleteEnds};
+ghost use Rattle.checklist_meaning.specs.Questions.{file-sent, file-skipped, skip-withdrawn};
+ghost use Rattle.checklist_meaning.specs.Contracts.{FileEnds, MissingEnds, CompleteEnds};
 ghost use Rattle.checklist.specs.Parts.{FileAsked, MarkAdded, MarkRemoved, Lacking};
 
-mod opening; // opening.rt: the frame, added rule by rule
-
-// Is every file good?
-pub enum CompleteAnswer {
-    Complete,
-    Incomplete,
-    Refused(Refusal),
-}
-
-// What questions 15 (specification 8.4), as far as the rules go, and 20 answer.
+// What questions 15 (specification 8.4), as far as the rules go, and 20 answer: the atom of the file's mark, or the
+// refusal.
 enum AskedFile {
-    Passed,
+    Passed(Atom),
     Refused(Refusal),
 }
 
@@ -66,24 +64,10 @@ fn is_sound(table: Table) -> bool
     }
 }
 
-// Is the file one of n?
-fn listed(file: u32, n: usize) -> bool
-    requires { ⌜ n ≤ most-files ⌝ }
-    ensures { λ r. ⌜ r ≡ on-list (some n) file ⌝ }
-{
-    if file == 0 {
-        return false;
-    }
-    if file as usize > n {
-        return false;
-    }
-    true
-}
-
 // Asks whether the rules are a checklist's (15), and 20. Where 20 is the refusal, the table is asked first whether it
 // is sound (15); where the file passes, the call that follows asks it.
-fn ask_file(table: Table, file: u32) -> AskedFile
-    ensures { λ r. ⌜ FileAsked table file r ⌝ }
+fn ask_file(table: Table, file: u32, mark: Mark) -> AskedFile
+    ensures { λ r. ⌜ FileAsked table file mark r ⌝ }
 {
     let rules = table.rules;
     let n = file_count(rules);
@@ -91,7 +75,7 @@ fn ask_file(table: Table, file: u32) -> AskedFile
         return AskedFile::Refused(Refusal::TableUnsound);
     }
     if listed(file, n) {
-        return AskedFile::Passed;
+        return AskedFile::Passed(mark_atom(mark, file as u16));
     }
     if !is_sound(table) {
         return AskedFile::Refused(Refusal::TableUnsound);
@@ -99,40 +83,48 @@ fn ask_file(table: Table, file: u32) -> AskedFile
     AskedFile::Refused(Refusal::FileNotListed)
 }
 
-// Adds a mark's fact. That the table has it already (5) is told as 22.
-fn add_mark(table: Table, atom: u32) -> Changed
-    ensures { λ r. ⌜ MarkAdded table atom (r .answer) (r .table) ⌝ }
+// Adds the fact of the mark that passed. That the table has it already (5) is told as 22.
+fn add_mark(table: Table, asked: AskedFile) -> Changed
+    ensures { λ r. ⌜ MarkAdded table asked (r .answer) (r .table) ⌝ }
 {
-    let none: [u32; 0] = [];
-    let done = add(table, atom, &none, &none);
-    let answer = done.answer;
-    let after = done.table;
-    match answer {
-        AddAnswer::Taken(s) => Changed {
-            answer: ChangeAnswer::Accepted,
-            table: after,
-        },
-        AddAnswer::Refused(why) => {
-            if refusal_number(why) == 5 {
-                return refuse(after, Refusal::MarkUnchanged);
+    match asked {
+        AskedFile::Refused(why) => refuse(table, why),
+        AskedFile::Passed(atom) => {
+            let none: [u32; 0] = [];
+            let done = add(table, atom.0 as u32, &none, &none);
+            let answer = done.answer;
+            let after = done.table;
+            match answer {
+                AddAnswer::Taken(s) => Changed {
+                    answer: ChangeAnswer::Accepted,
+                    table: after,
+                },
+                AddAnswer::Refused(why) => {
+                    if refusal_number(why) == 5 {
+                        return refuse(after, Refusal::MarkUnchanged);
+                    }
+                    refuse(after, why)
+                }
             }
-            refuse(after, why)
         }
     }
 }
 
-// Opens a checklist for some files, or refuses and hands back the empty table. Asks 21.
-pub fn open(files: u32) -> Changed
-    ensures { λ r. ⌜ OpenEnds files (r .answer) (r .table) ⌝ }
+// Removes the fact of the mark that passed. It stands in the slot that supports its atom.
+fn remove_mark(table: Table, asked: AskedFile) -> Changed
+    ensures { λ r. ⌜ MarkRemoved table asked (r .answer) (r .table) ⌝ }
 {
-    if !listed(files, MOST) {
-        let nothing = Table::empty();
-        return refuse(nothing, Refusal::WrongFileCount);
-    }
-    let table = opening::framed(files);
-    Changed {
-        answer: ChangeAnswer::Accepted,
-        table: table,
+    match asked {
+        AskedFile::Refused(why) => refuse(table, why),
+        AskedFile::Passed(atom) => {
+            let told = label(table, atom.0 as u32);
+            match told {
+                LabelAnswer::In(d, s) => remove(table, s.0 as u32),
+                LabelAnswer::Refused(why) => refuse(table, why),
+                LabelAnswer::Absent => refuse(table, Refusal::MarkUnchanged),
+                LabelAnswer::Out => refuse(table, Refusal::MarkUnchanged),
+            }
+        }
     }
 }
 
@@ -140,47 +132,24 @@ pub fn open(files: u32) -> Changed
 pub fn file_sent(table: Table, file: u32) -> Changed
     ensures { λ r. ⌜ FileEnds table (file-sent file) (r .answer) (r .table) ⌝ }
 {
-    let asked = ask_file(table, file);
-    match asked {
-        AskedFile::Refused(why) => refuse(table, why),
-        AskedFile::Passed => add_mark(table, 3 * file - 2),
-    }
+    let asked = ask_file(table, file, Mark::Sent);
+    add_mark(table, asked)
 }
 
-// The file was skipped. Asks 15, 20, 22. (Not one function with the mark as an argument: a call more would hold two more
-// tables on the stack.)
+// The file was skipped. Asks 15, 20, 22.
 pub fn file_skipped(table: Table, file: u32) -> Changed
     ensures { λ r. ⌜ FileEnds table (file-skipped file) (r .answer) (r .table) ⌝ }
 {
-    let asked = ask_file(table, file);
-    match asked {
-        AskedFile::Refused(why) => refuse(table, why),
-        AskedFile::Passed => add_mark(table, 3 * file - 1),
-    }
-}
-
-// Removes a mark's fact. It stands in the slot that supports its atom.
-fn remove_mark(table: Table, atom: u32) -> Changed
-    ensures { λ r. ⌜ MarkRemoved table atom (r .answer) (r .table) ⌝ }
-{
-    let told = label(table, atom);
-    match told {
-        LabelAnswer::In(d, s) => remove(table, s.0 as u32),
-        LabelAnswer::Refused(why) => refuse(table, why),
-        LabelAnswer::Absent => refuse(table, Refusal::MarkUnchanged),
-        LabelAnswer::Out => refuse(table, Refusal::MarkUnchanged),
-    }
+    let asked = ask_file(table, file, Mark::Skipped);
+    add_mark(table, asked)
 }
 
 // The skip of the file is withdrawn. Asks 15, 20, 22.
 pub fn skip_withdrawn(table: Table, file: u32) -> Changed
     ensures { λ r. ⌜ FileEnds table (skip-withdrawn file) (r .answer) (r .table) ⌝ }
 {
-    let asked = ask_file(table, file);
-    match asked {
-        AskedFile::Refused(why) => refuse(table, why),
-        AskedFile::Passed => remove_mark(table, 3 * file - 1),
-    }
+    let asked = ask_file(table, file, Mark::Skipped);
+    remove_mark(table, asked)
 }
 
 // Which of n files are unsent or have a skip standing, by the atoms that are in.
@@ -191,7 +160,9 @@ fn lacking(flags: &[bool; Table::ATOMS], n: usize) -> [bool; MOST + 1]
     let mut lacks: [bool; MOST + 1] = [false; MOST + 1];
     let mut i: usize = 1;
     while i <= n {
-        lacks[i] = !flags[3 * i - 2] | flags[3 * i - 1];
+        let sent = mark_atom(Mark::Sent, i as u16);
+        let skipped = mark_atom(Mark::Skipped, i as u16);
+        lacks[i] = !has(flags, sent) | has(flags, skipped);
         i += 1;
     }
     lacks
@@ -226,7 +197,8 @@ pub fn complete(table: Table) -> CompleteAnswer
     if n == 0 {
         return CompleteAnswer::Refused(Refusal::TableUnsound);
     }
-    let told = label(table, 3 * n as u32);
+    let last = good_atom(n as u16);
+    let told = label(table, last.0 as u32);
     match told {
         LabelAnswer::In(d, s) => CompleteAnswer::Complete,
         LabelAnswer::Refused(why) => CompleteAnswer::Refused(why),

@@ -25,23 +25,22 @@ use Rattle.calls.specs.declared.ListAnswer.{ListAnswer}
 use Rattle.calls.specs.declared.ListAnswer.the-variants.{Count}
 use Rattle.calls.specs.Answers.{bookChange}
 use Rattle.calls.specs.Contracts.{held}
-use Rattle.checklist.specs.declared.CompleteAnswer.{CompleteAnswer}
-use Rattle.checklist.specs.declared.CompleteAnswer.the-variants.{Complete}
-use Rattle.checklist_frame.specs.Frame.{Checklist, most-files, sent, skipped, is-mark, files-of, marked}
-use Rattle.checklist.specs.Questions.{FileCall, file-sent, file-skipped, skip-withdrawn, file, on-list, allowed}
-use Rattle.checklist.specs.Questions.{mark-questions, open-questions}
-use Rattle.checklist.specs.Book.{opening, of-file, marks-changed, opened}
-use Rattle.checklist.specs.Contracts as list
-use Rattle.checklist.specs.Contracts.{OpenEnds, FileEnds, MissingEnds, CompleteEnds}
+use Rattle.checklist_meaning.specs.declared.CompleteAnswer.{CompleteAnswer}
+use Rattle.checklist_meaning.specs.declared.CompleteAnswer.the-variants.{Complete}
+use Rattle.checklist_frame.specs.Frame.{Checklist, most-files, sent, skipped, on-list, is-mark, files-of, marked}
+use Rattle.checklist_meaning.specs.Questions.{FileCall, file-sent, file-skipped, skip-withdrawn, file, allowed}
+use Rattle.checklist_meaning.specs.Questions.{mark-questions, open-questions}
+use Rattle.checklist_meaning.specs.Book.{opening, of-file, marks-changed, opened}
+use Rattle.checklist_meaning.specs.Contracts as list
+use Rattle.checklist_meaning.specs.Contracts.{OpenEnds, FileEnds, MissingEnds, CompleteEnds}
 use Rattle.checklist_deposits.specs.Standing.{was-accepted, sent-by, standing-by, unless-refused, after-calls}
 use Rattle.checklist_deposits.specs.Standing.{been-sent, skip-standing}
-use Rattle.checklist_frame.proofs.Frames.{of-checklist, sent-mark, skipped-mark}
-use Rattle.checklist.proofs.Marks.{Single, free-slot, added-checklist, added-marked, removed-checklist, removed-marked}
-use Rattle.checklist.proofs.Model.{complete-iff}
-use Rattle.checklist.proofs.Ends.{listed-file, is-listed}
-use Rattle.checklist.proofs.Shown.{AllClear, Missing, counted, count-clear, clear-count}
-use Rattle.checklist.proofs.Shown.{complete-clear, clear-complete, no-checklist-file, empty-no-files}
-use Rattle.checklist.proofs.Opened.{opened-checklist, opened-unmarked}
+use Rattle.checklist_frame.proofs.Frames.{listed-file, is-listed, of-checklist, sent-mark, skipped-mark}
+use Rattle.checklist_meaning.proofs.Marks.{Single, free-slot, added-checklist, added-marked, removed-checklist, removed-marked}
+use Rattle.checklist_meaning.proofs.Model.{complete-iff}
+use Rattle.checklist_meaning.proofs.Shown.{AllClear, Missing, counted, count-clear, clear-count}
+use Rattle.checklist_meaning.proofs.Shown.{complete-clear, clear-complete, no-checklist-file, empty-no-files}
+use Rattle.checklist_meaning.proofs.Opened.{opened-checklist, opened-unmarked}
 use Rattle.history.specs.Calls.{Call, checklist, callsAnswers, callsAfter}
 use Rattle.history.specs.Claim.{Step, adds, removes, replaces, mutes, loads, opens, marks, Trace, stop, call}
 use Rattle.checklist_deposits.specs.Deposits.{file-calls, deposit-calls, NoneMissing, MissingFile, Deposit}

@@ -18,12 +18,12 @@ use Rattle.table.specs.Sound.{Sound}
 use Rattle.calls.specs.declared.ListAnswer.{ListAnswer}
 use Rattle.calls.specs.declared.ListAnswer.the-variants.{Count}
 use Rattle.calls.specs.Contracts.{held}
-use Rattle.checklist.specs.declared.CompleteAnswer.{CompleteAnswer}
-use Rattle.checklist.specs.declared.CompleteAnswer.the-variants.{Complete}
+use Rattle.checklist_meaning.specs.declared.CompleteAnswer.{CompleteAnswer}
+use Rattle.checklist_meaning.specs.declared.CompleteAnswer.the-variants.{Complete}
 use Rattle.checklist_frame.specs.Frame.{sent, skipped, good, files-of, marked}
-use Rattle.checklist.specs.Questions.{FileCall}
-use Rattle.checklist.specs.Book.{opening, of-file, opened}
-use Rattle.checklist.specs.Contracts.{MissingEnds, CompleteEnds}
+use Rattle.checklist_meaning.specs.Questions.{FileCall}
+use Rattle.checklist_meaning.specs.Book.{opening, of-file, opened}
+use Rattle.checklist_meaning.specs.Contracts.{MissingEnds, CompleteEnds}
 use Rattle.checklist_deposits.specs.Standing.{been-sent, skip-standing}
 use Rattle.history.specs.Calls.{Call, checklist, callsAnswers, callsAfter}
 

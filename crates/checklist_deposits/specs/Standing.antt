@@ -4,7 +4,7 @@ use mathlib.Core.Bool.{Bool, true, false, not, _&&_, _||_}
 use mathlib.Core.List.{List, [], _∷_}
 use lib.Dec.{eqb}
 use Rattle.theory.specs.Book.{Answer, refused, slot, accepted}
-use Rattle.checklist.specs.Questions.{FileCall, file-sent, file-skipped, skip-withdrawn}
+use Rattle.checklist_meaning.specs.Questions.{FileCall, file-sent, file-skipped, skip-withdrawn}
 
 abbrev pub was-accepted : Answer → Bool
 was-accepted (refused k) = false

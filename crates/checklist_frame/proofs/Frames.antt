@@ -16,7 +16,7 @@ use Rattle.theory.proofs.Lists.{and-l, and-r, and-of, or-cases, or-l, or-r, unl
 use Rattle.theory.proofs.Lists.{ltb-lt, lt-ltb, leb-le, le-leb, le-or-lt, any-at, any-of}
 use Rattle.theory.proofs.Lists.{first-place, first-in, first-exists, first-of}
 use Rattle.checklist_frame.specs.Frame.{Checklist, most-files, sent, skipped, good, fact, frame, files, is-mark, equal-lists}
-use Rattle.checklist_frame.specs.Frame.{equal, free-or-mark, fits, fits-from, files-of, none-muted}
+use Rattle.checklist_frame.specs.Frame.{equal, free-or-mark, fits, fits-from, files-of, none-muted, on-list}
 use Rattle.checklist_frame.proofs.Unmuted.{unmuted-page}
 
 -- Lists that are told equal are; so are rules, and each is equal to itself.
@@ -78,6 +78,13 @@ file-of i (suc n) l k = ⊎-elim
 
 pub in-files : (n i : ℕ) → i ∈ files n ↔ ((1 ≤ i) × (i ≤ n))
 in-files n i = (file-at i n, λ l. file-of i n (l .0) (l .1))
+
+-- A file on the list is one of its numbers.
+pub listed-file : (n i : ℕ) → on-list (some n) i ≡ true → (1 ≤ i) × (i ≤ n)
+listed-file n i o = (leb-le 1 i (and-l (leb 1 i) _ o), leb-le i n (and-r (leb 1 i) _ o))
+
+pub is-listed : (n i : ℕ) → 1 ≤ i → i ≤ n → on-list (some n) i ≡ true
+is-listed n i l h = and-of _ _ (le-leb 1 i l) (le-leb i n h)
 
 -- The atom a is a mark of one of n files.
 pub record MarkOf (n a : ℕ) : Type 0 where

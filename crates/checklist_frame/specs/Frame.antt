@@ -38,6 +38,11 @@ unfoldable pub files : ℕ → List ℕ
 files zero = []
 files (suc n) = files n ++ (suc n ∷ [])
 
+-- Is the file on the list of n files, if there is one? Files are numbered from 1.
+abbrev pub on-list : Option ℕ → ℕ → Bool
+on-list none i = false
+on-list (some n) i = leb 1 i && leb i n
+
 -- The atoms of the marks that n files can have: sent and skipped.
 unfoldable pub is-mark : ℕ → ℕ → Bool
 is-mark n a = any (λ i. eqb a (sent i) || eqb a (skipped i)) (files n)

@@ -7,7 +7,14 @@ use mathlib.Core.Logic.{_↔_}
 use mathlib.Core.Option.{Option, none, some}
 use lib.ListN.{getD}
 use Rattle.theory.specs.Rules.{Program, Page, Pages, Held}
-use Rattle.checklist_frame.specs.Frame.{most-files, frame, MarkFact}
+use Rattle.checklist_frame.specs.declared.Mark.{Mark}
+use Rattle.checklist_frame.specs.declared.Mark.the-variants as mark
+use Rattle.checklist_frame.specs.Frame.{most-files, sent, skipped, frame, MarkFact}
+
+-- The atom of a mark of file i.
+abbrev pub mark-atom : Mark → ℕ → ℕ
+mark-atom mark.Sent i = sent i
+mark-atom mark.Skipped i = skipped i
 
 -- How many files, 0 where there is no checklist.
 abbrev pub count-of : Option ℕ → ℕ

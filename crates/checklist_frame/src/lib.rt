@@ -1,4 +1,5 @@
-// Are a table's rules those of a checklist, and of how many files? Only these leaves read its slots.
+// The files of a checklist and their atoms; are a table's rules those of a checklist, and of how many files? Only these
+// leaves take an atom apart, and only these read a table's slots.
 use table::Atom;
 use table::Rule;
 use table::Table;
@@ -10,17 +11,56 @@ ghost use lib.ListN.{take};
 ghost use mathlib.Core.Option.{some};
 ghost use Rattle.theory.specs.Rules.{entries};
 ghost use Rattle.table.specs.Rules.{numbers, pageOf, activeIn, bookOf, activeOf};
-ghost use Rattle.checklist_frame.specs.Frame.{most-files, fact, frame, is-mark, files-of};
-ghost use Rattle.checklist_frame.specs.Parts.{FreeOrMark, FrameRun, MarksBehind, count-of};
+ghost use Rattle.checklist_frame.specs.Frame.{most-files, good, fact, frame, on-list, is-mark, files-of};
+ghost use Rattle.checklist_frame.specs.Parts.{mark-atom, FreeOrMark, FrameRun, MarksBehind, count-of};
 
 // The most files of a checklist.
 pub const MOST: usize = 60;
 
-// Does the slot hold this atom as a fact, unmuted?
-fn holds_fact(rule: Rule, atom: u16) -> bool
-    ensures { λ r. ⌜ (r ≡ true) ↔ (activeIn rule ≡ some (fact atom)) ⌝ }
+// The two marks that a file can have.
+pub enum Mark {
+    Sent,
+    Skipped,
+}
+
+// The atom of a mark of file i, from 1.
+pub fn mark_atom(mark: Mark, i: u16) -> Atom
+    requires { ⌜ (1 ≤ i) × (i ≤ most-files) ⌝ }
+    ensures { λ r. ⌜ r .0 ≡ mark-atom mark i ⌝ }
 {
-    if rule.head.0 != atom {
+    match mark {
+        Mark::Sent => Atom(3 * i - 2),
+        Mark::Skipped => Atom(3 * i - 1),
+    }
+}
+
+// The atom of file i's good; that of file 0 is the start.
+pub fn good_atom(i: u16) -> Atom
+    requires { ⌜ i ≤ most-files ⌝ }
+    ensures { λ r. ⌜ r .0 ≡ good i ⌝ }
+{
+    Atom(3 * i)
+}
+
+// Is the file one of n?
+pub fn listed(file: u32, n: usize) -> bool
+    requires { ⌜ n ≤ most-files ⌝ }
+    ensures { λ r. ⌜ r ≡ on-list (some n) file ⌝ }
+{
+    if file == 0 {
+        return false;
+    }
+    if file as usize > n {
+        return false;
+    }
+    true
+}
+
+// Does the slot hold this atom as a fact, unmuted?
+fn holds_fact(rule: Rule, atom: Atom) -> bool
+    ensures { λ r. ⌜ (r ≡ true) ↔ (activeIn rule ≡ some (fact (atom .0))) ⌝ }
+{
+    if rule.head.0 != atom.0 {
         return false;
     }
     if rule.positives != 0 {
@@ -71,14 +111,14 @@ fn holds_file(rule: Rule, i: u16) -> bool
 }
 
 // Is the atom a mark of one of n files?
-fn is_mark(atom: u16, n: u16) -> bool
+fn is_mark(atom: Atom, n: u16) -> bool
     requires { ⌜ n ≤ most-files ⌝ }
-    ensures { λ r. ⌜ r ≡ is-mark n atom ⌝ }
+    ensures { λ r. ⌜ r ≡ is-mark n (atom .0) ⌝ }
 {
-    if atom >= 3 * n {
+    if atom.0 >= 3 * n {
         return false;
     }
-    if atom % 3 == 0 {
+    if atom.0 % 3 == 0 {
         return false;
     }
     true
@@ -92,7 +132,7 @@ fn free_or_mark(rule: Rule, n: u16) -> bool
     if rule.state == 0 {
         return true;
     }
-    let atom = rule.head.0;
+    let atom = rule.head;
     if !is_mark(atom, n) {
         return false;
     }
@@ -104,7 +144,7 @@ fn frame_run(rules: [Rule; Table::SLOTS]) -> usize
     ensures { λ r. ⌜ FrameRun (activeOf rules) r ⌝ }
 {
     let start = rules[0];
-    if !holds_fact(start, 0) {
+    if !holds_fact(start, Atom(0)) {
         return 0;
     }
     let mut n: usize = 0;

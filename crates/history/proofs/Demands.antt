@@ -40,9 +40,9 @@ use Rattle.refusals.specs.Refusals.{numberOf}
 use Rattle.calls.specs.Contracts as contract
 use Rattle.calls.specs.Contracts.{held, AddEnds, ChangeEnds, RemoveEnds, ReplaceEnds, MuteEnds, LoadEnds}
 use Rattle.refusals.proofs.Refusals.{refusalOf, refusal-number}
-use Rattle.checklist.specs.Questions.{FileCall}
-use Rattle.checklist.specs.Contracts as list
-use Rattle.checklist.specs.Contracts.{OpenEnds, FileEnds}
+use Rattle.checklist_meaning.specs.Questions.{FileCall}
+use Rattle.checklist_meaning.specs.Contracts as list
+use Rattle.checklist_meaning.specs.Contracts.{OpenEnds, FileEnds}
 use Rattle.history.specs.Claim.{InModel}
 use Rattle.history.proofs.Sequence.{sound-model}
 

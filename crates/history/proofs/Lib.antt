@@ -1,6 +1,3 @@
 -- The claim, proved over any trace of calls that each meet their contract.
 pub mod Sequence
 pub mod Demands
-pub mod Reading
-pub mod Replaying
-pub mod Written

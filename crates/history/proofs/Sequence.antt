@@ -43,10 +43,10 @@ use Rattle.calls.specs.Contracts.{held, ChangeEnds, LabelEnds, SpoilerEnds}
 use Rattle.calls.proofs.Asking.{slot-asked}
 use Rattle.calls.proofs.OneTable.{one-model}
 use Rattle.calls.proofs.Determined.{label-determined, spoiler-determined}
-use Rattle.checklist.specs.Book.{opening, of-file, checklistAnswer, checklistAfter}
-use Rattle.checklist.specs.Book as list-book
-use Rattle.checklist.specs.Contracts as list-contract
-use Rattle.checklist.proofs.Ends.{no-list}
+use Rattle.checklist_meaning.specs.Book.{opening, of-file, checklistAnswer, checklistAfter}
+use Rattle.checklist_meaning.specs.Book as list-book
+use Rattle.checklist_meaning.specs.Contracts as list-contract
+use Rattle.checklist_meaning.proofs.Questions.{no-list}
 use Rattle.history.specs.Calls.{Call, change, callAnswer, callAfter, callsAnswers, callsAfter}
 use Rattle.history.specs.Claim.{Step, adds, removes, replaces, mutes, loads, opens, marks, Trace, stop, call}
 use Rattle.history.specs.Claim.{bookAnswers, bookAfter, Supported, History}

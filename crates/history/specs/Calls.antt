@@ -7,8 +7,8 @@ use Rattle.theory.specs.Limits.{Limits}
 use Rattle.theory.specs.Book as book
 use Rattle.theory.specs.Book.{Answer, answer, after}
 use Rattle.file_blocks.specs.Book.{loadAnswer, loadPages}
-use Rattle.checklist.specs.Book as list
-use Rattle.checklist.specs.Book.{checklistAnswer, checklistAfter}
+use Rattle.checklist_meaning.specs.Book as list
+use Rattle.checklist_meaning.specs.Book.{checklistAnswer, checklistAfter}
 
 -- An addition, a removal, a replacement or a muting, which changes the table that it gets; a load of some bytes, which
 -- gets none and hands one back; a call of a checklist: its opening, which gets no table either, or a call on a file,

@@ -25,9 +25,9 @@ use Rattle.calls.specs.declared.LabelAnswer.{LabelAnswer}
 use Rattle.calls.specs.declared.SpoilerAnswer.{SpoilerAnswer}
 use Rattle.calls.specs.Answers.{bookAdd, bookChange, tellLabel, tellPage}
 use Rattle.calls.specs.Contracts.{held, AddEnds, RemoveEnds, ReplaceEnds, MuteEnds, LabelEnds, SpoilerEnds, LoadEnds}
-use Rattle.checklist.specs.Questions.{FileCall}
-use Rattle.checklist.specs.Book.{opening, of-file}
-use Rattle.checklist.specs.Contracts.{OpenEnds, FileEnds}
+use Rattle.checklist_meaning.specs.Questions.{FileCall}
+use Rattle.checklist_meaning.specs.Book.{opening, of-file}
+use Rattle.checklist_meaning.specs.Contracts.{OpenEnds, FileEnds}
 use Rattle.history.specs.Calls.{Call, change, load, checklist, callsAnswers, callsAfter}
 
 -- A call that meets its contract: on the table t it answers and hands back a table. A load and the opening of a

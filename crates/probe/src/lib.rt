@@ -1,6 +1,6 @@
 // The engine's phases, exported for comparison runs and benchmarks. Not part of the library's interface.
-use history::Replayed;
-use history::replay;
+use history_replay::Replayed;
+use history_replay::replay;
 use labels::labels_of;
 use model::Search;
 use model::in_atoms;
@@ -12,7 +12,7 @@ use well_formed::slots_well_formed;
 ghost use mathlib.Core.Path.{_≡_};
 ghost use mathlib.Core.Bool.{true};
 ghost use mathlib.Core.Logic.{_↔_};
-ghost use Rattle.history.specs.Replays.{Replays};
+ghost use Rattle.history_replay.specs.Replays.{Replays};
 ghost use Rattle.probe.specs.Probes.{RulesFit, SoundProbe, LabelsProbe, RoundsProbe, no-rounds};
 
 // The table with the labels that its rules give, or as it came: `refused` is 0, or the number of the question that the

@@ -10,8 +10,8 @@ use Rattle.calls.specs.declared.LabelAnswer.{LabelAnswer}
 use Rattle.calls.specs.declared.SpoilerAnswer.{SpoilerAnswer}
 use Rattle.calls.specs.declared.ListAnswer.{ListAnswer}
 use Rattle.calls.specs.Contracts.{AddEnds, RemoveEnds, LabelEnds, SpoilerEnds}
-use Rattle.checklist.specs.declared.CompleteAnswer.{CompleteAnswer}
-use Rattle.checklist.specs.Contracts.{CompleteEnds}
+use Rattle.checklist_meaning.specs.declared.CompleteAnswer.{CompleteAnswer}
+use Rattle.checklist_meaning.specs.Contracts.{CompleteEnds}
 use Rattle.c_answers.specs.declared.Change.{Change}
 use Rattle.c_answers.specs.declared.AtomLabel.{AtomLabel}
 use Rattle.c_answers.specs.declared.RuleSpoiler.{RuleSpoiler}

@@ -1,9 +1,21 @@
--- `checklist::add_mark` adds a mark's fact. Assumes nothing.
+-- `checklist::add_mark` adds the fact of the mark that passed. Assumes nothing.
 use Rattle.checklist.specs.Parts.{MarkAdded}
-use Rattle.checklist.proofs.Ends.{handed, mark-taken, mark-stands, mark-other}
+use Rattle.checklist.proofs.Ends.{handed, add-refused, add-passed, mark-taken, mark-stands, mark-other}
 use borrow.Author.Needs.{needs}
 use Rattle.checklist.proofs.add_mark.Statement.{statement}
 use Rattle.checklist.proofs.add_mark.Tie as tie
+
+enum-known-asked : tie.Need-enum-known-asked
+enum-known-asked c = search needs
+
+refuse-requires : tie.Need-refuse-requires
+refuse-requires c κs = search needs
+
+enum-known-asked-2 : tie.Need-enum-known-asked-2
+enum-known-asked-2 c = search needs
+
+cast-add : tie.Need-cast-add
+cast-add c = search needs
 
 slice-aggregate-add : tie.Need-slice-aggregate-add
 slice-aggregate-add c = search needs
@@ -23,53 +35,72 @@ enum-known-answer-2 c = search needs
 refusal-number-requires : tie.Need-refusal-number-requires
 refusal-number-requires c κs = search needs
 
-refuse-requires : tie.Need-refuse-requires
-refuse-requires c κs = search needs
+refuse-requires-2 : tie.Need-refuse-requires-2
+refuse-requires-2 c κs = search needs
 
+refuse-requires-3 : tie.Need-refuse-requires-3
+refuse-requires-3 c κs = search needs
+
+-- the addition of the mark that passed, and what it answered
 returns : tie.Need-returns
 returns c =
     let five = c .before in
     let number = five .before in
     let answer = number .before .before in
     let add = answer .before .before .before in
-    let a = add .before .before .before .args in
-    let ends = mark-stands (a .table) (a .atom) (add .add .ensures) (answer .answer2 .given .1) _
+    let passed = add .before .before .before .before .before in
+    let a = passed .before .before .args in
+    let ends = mark-stands (a .table) _ (add .add .ensures) (answer .answer2 .given .1) _
     (number .refusal-number .ensures) (five .if1 .taken) in
-    handed (MarkAdded (a .table) (a .atom)) _ (c .refuse .ensures) ends
-
-refuse-requires-2 : tie.Need-refuse-requires-2
-refuse-requires-2 c κs = search needs
+    handed (MarkAdded (a .table) (a .asked)) _ (c .refuse2 .ensures)
+    (add-passed (a .table) (passed .asked2 .given .1) ends)
 
 returns-2 : tie.Need-returns-2
 returns-2 c =
-    let answer = c .before in
-    let add = answer .before .before .before in
-    let a = add .before .before .before .args in
-    mark-taken (a .table) (a .atom) (add .add .ensures) (answer .answer .given .1)
+    let told = c .before .before in
+    let a = told .before .before .args in
+    handed (MarkAdded (a .table) (a .asked)) _ (c .refuse .ensures)
+    (add-refused (a .table) (told .asked .given .1))
 
 returns-3 : tie.Need-returns-3
 returns-3 c =
-    let other = c .before in
-    let number = other .before in
+    let answer = c .before in
+    let add = answer .before .before .before in
+    let passed = add .before .before .before .before .before in
+    let a = passed .before .before .args in
+    add-passed (a .table) (passed .asked2 .given .1)
+    (mark-taken (a .table) _ (add .add .ensures) (answer .answer .given .1))
+
+returns-4 : tie.Need-returns-4
+returns-4 c =
+    let not-five = c .before in
+    let number = not-five .before in
     let answer = number .before .before in
     let add = answer .before .before .before in
-    let a = add .before .before .before .args in
-    handed (MarkAdded (a .table) (a .atom)) _ (c .refuse2 .ensures)
-    (mark-other (a .table) (a .atom) (add .add .ensures) (answer .answer2 .given .1) _ (number .refusal-number .ensures)
-    (other .if1 .left))
+    let passed = add .before .before .before .before .before in
+    let a = passed .before .before .args in
+    let ends = mark-other (a .table) _ (add .add .ensures) (answer .answer2 .given .1) _
+    (number .refusal-number .ensures) (not-five .if1 .left) in
+    handed (MarkAdded (a .table) (a .asked)) _ (c .refuse3 .ensures)
+    (add-passed (a .table) (passed .asked2 .given .1) ends)
 
 pub add-mark-spec : {M : Type 1} → statement M
 add-mark-spec =
     tie.close
     (tie.spec
+    enum-known-asked
+    refuse-requires
+    enum-known-asked-2
+    cast-add
     slice-aggregate-add
     slice-aggregate-add-2
     add-requires
     enum-known-answer
     enum-known-answer-2
     refusal-number-requires
-    refuse-requires
-    returns
     refuse-requires-2
+    returns
+    refuse-requires-3
     returns-2
-    returns-3)
+    returns-3
+    returns-4)

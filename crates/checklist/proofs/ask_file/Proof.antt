@@ -1,13 +1,28 @@
 -- `checklist::ask_file` asks whether the rules are a checklist's, and 20. Assumes nothing.
-use mathlib.Core.Path.{sym, _∙_}
+use Prim.Native.Nat.{ℕ}
+use native.Mathlib.Omega.{arith}
+use mathlib.Core.Path.{_≡_, sym, _∙_}
+use mathlib.Core.Option.{some}
 use Rattle.theory.proofs.Lists.{clash, not-true, not-false}
 use Rattle.calls.specs.Contracts.{held}
-use Rattle.checklist.specs.Parts.{unsound, off-list, passed}
+use Rattle.checklist_frame.specs.Frame.{files-of}
 use Rattle.checklist_frame.proofs.Frames.{checklist-of}
-use Rattle.checklist.proofs.Ends.{counted-none, counted-some}
+use Rattle.checklist.specs.Parts.{unsound, off-list, passed}
+use Rattle.checklist.proofs.Ends.{counted-none, counted-some, listed-bounds}
 use borrow.Author.Needs.{needs}
 use Rattle.checklist.proofs.ask_file.Statement.{statement}
 use Rattle.checklist.proofs.ask_file.Tie as tie
+
+-- where a number of files was counted, it is that of the rules
+files :
+    (c : tie.Else1)
+    → files-of (held (c .before .before .before .args .table)) ≡ some (c .before .file-count .result)
+files c =
+    let f = c .before in
+    counted-some (held (f .before .before .args .table)) _ (f .file-count .ensures) (c .if1 .left)
+
+abbrev file : tie.After-listed → ℕ
+file c = c .before .before .before .before .args .file
 
 file-count-requires : tie.Need-file-count-requires
 file-count-requires c κs = search needs
@@ -18,17 +33,24 @@ returns c =
     unsound (λ S. counted-none (held (f .before .before .args .table)) _ (f .file-count .ensures) (c .if1 .taken))
 
 listed-requires : tie.Need-listed-requires
-listed-requires c κs =
-    let f = c .before in
-    let e = counted-some (held (f .before .before .args .table)) _ (f .file-count .ensures) (c .if1 .left) in
-    checklist-of _ _ e .high
+listed-requires c κs = checklist-of _ _ (files c) .high
+
+cast-mark-atom : tie.Need-cast-mark-atom
+cast-mark-atom c =
+    let l = c .before in
+    let b = listed-bounds _ _ (file l) (files (l .before)) (sym (l .listed .ensures) ∙ c .if2 .taken) in
+    record { fits = omega (arith, b .1) }
+
+mark-atom-requires : tie.Need-mark-atom-requires
+mark-atom-requires c κs =
+    let l = c .before in
+    listed-bounds _ _ (file l) (files (l .before)) (sym (l .listed .ensures) ∙ c .if2 .taken)
 
 returns-2 : tie.Need-returns-2
 returns-2 c =
-    let l = c .before in
-    let f = l .before .before in
-    passed _ (counted-some (held (f .before .before .args .table)) _ (f .file-count .ensures) (l .before .if1 .left))
-    (sym (l .listed .ensures) ∙ c .if2 .taken)
+    let on = c .before in
+    let l = on .before in
+    passed _ _ (files (l .before)) (sym (l .listed .ensures) ∙ on .if2 .taken) (c .mark-atom .ensures)
 
 is-sound-requires : tie.Need-is-sound-requires
 is-sound-requires c κs = search needs
@@ -42,9 +64,7 @@ returns-4 : tie.Need-returns-4
 returns-4 c =
     let s = c .before in
     let l = s .before .before in
-    let f = l .before .before in
-    off-list _ (s .is-sound .ensures .0 (not-false _ (c .if3 .left)))
-    (counted-some (held (f .before .before .args .table)) _ (f .file-count .ensures) (l .before .if1 .left))
+    off-list _ (s .is-sound .ensures .0 (not-false _ (c .if3 .left))) (files (l .before))
     (sym (l .listed .ensures) ∙ s .before .if2 .left)
 
 pub ask-file-spec : {M : Type 1} → statement M
@@ -54,6 +74,8 @@ ask-file-spec =
     file-count-requires
     returns
     listed-requires
+    cast-mark-atom
+    mark-atom-requires
     returns-2
     is-sound-requires
     returns-3

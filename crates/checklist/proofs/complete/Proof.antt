@@ -1,13 +1,28 @@
 -- `checklist::complete` meets its contract. Assumes nothing.
 use native.Mathlib.Omega.{arith}
+use mathlib.Core.Path.{_≡_}
+use mathlib.Core.Option.{some}
+use Rattle.table.specs.declared.Table.{Table}
 use Rattle.calls.specs.Contracts.{held}
-use Rattle.checklist.specs.Contracts.{unsound}
+use Rattle.checklist_frame.specs.Frame.{files-of}
 use Rattle.checklist_frame.proofs.Frames.{checklist-of}
+use Rattle.checklist_meaning.specs.Contracts.{unsound}
 use Rattle.checklist.proofs.Ends.{counted-none, counted-some}
 use Rattle.checklist.proofs.Asking.{complete-in, complete-absent, complete-out, complete-refused}
 use borrow.Author.Needs.{needs}
 use Rattle.checklist.proofs.complete.Statement.{statement}
 use Rattle.checklist.proofs.complete.Tie as tie
+
+-- where a number of files was counted, it is that of the rules
+files :
+    (c : tie.Else1)
+    → files-of (held (c .before .before .before .args .table)) ≡ some (c .before .file-count .result)
+files c =
+    let f = c .before in
+    counted-some (held (f .before .before .args .table)) _ (f .file-count .ensures) (c .if1 .left)
+
+abbrev table : tie.After-good-atom → Table
+table c = c .before .before .before .before .args .table
 
 file-count-requires : tie.Need-file-count-requires
 file-count-requires c κs = search needs
@@ -17,17 +32,14 @@ returns c =
     let f = c .before in
     unsound (λ S. counted-none (held (f .before .before .args .table)) _ (f .file-count .ensures) (c .if1 .taken))
 
-cast-label : tie.Need-cast-label
-cast-label c =
-    let f = c .before in
-    let e = counted-some (held (f .before .before .args .table)) _ (f .file-count .ensures) (c .if1 .left) in
-    record { fits = omega (arith, checklist-of _ _ e .high) }
+cast-good-atom : tie.Need-cast-good-atom
+cast-good-atom c = record { fits = omega (arith, checklist-of _ _ (files c) .high) }
 
-mul-label : tie.Need-mul-label
-mul-label c =
-    let f = c .before in
-    let e = counted-some (held (f .before .before .args .table)) _ (f .file-count .ensures) (c .if1 .left) in
-    record { fits = omega (arith, checklist-of _ _ e .high) }
+good-atom-requires : tie.Need-good-atom-requires
+good-atom-requires c κs = checklist-of _ _ (files c) .high
+
+cast-label : tie.Need-cast-label
+cast-label c = search needs
 
 label-requires : tie.Need-label-requires
 label-requires c κs = search needs
@@ -48,35 +60,29 @@ returns-2 : tie.Need-returns-2
 returns-2 c =
     let told = c .before in
     let l = told .before .before in
-    let f = l .before .before in
-    let t = f .before .before .args .table in
-    complete-in t _ (counted-some (held t) _ (f .file-count .ensures) (l .before .if1 .left)) (l .label .ensures)
-    (told .told .given .1)
+    let last = l .before .before in
+    complete-in (table last) _ (files (last .before)) _ (last .good-atom .ensures) (l .label .ensures) (told .told .given .1)
 
 returns-3 : tie.Need-returns-3
 returns-3 c =
     let told = c .before in
     let l = told .before .before in
-    let f = l .before .before in
-    let t = f .before .before .args .table in
-    complete-refused t _ (counted-some (held t) _ (f .file-count .ensures) (l .before .if1 .left)) (l .label .ensures)
-    (told .told2 .given .1)
+    let last = l .before .before in
+    complete-refused (table last) _ (files (last .before)) _ (last .good-atom .ensures) (l .label .ensures) (told .told2 .given .1)
 
 returns-4 : tie.Need-returns-4
 returns-4 c =
-    let l = c .before .before in
-    let f = l .before .before in
-    let t = f .before .before .args .table in
-    complete-absent t _ (counted-some (held t) _ (f .file-count .ensures) (l .before .if1 .left)) (l .label .ensures)
-    (c .enum-told .given .1)
+    let told = c in
+    let l = told .before .before in
+    let last = l .before .before in
+    complete-absent (table last) _ (files (last .before)) _ (last .good-atom .ensures) (l .label .ensures) (told .enum-told .given .1)
 
 returns-5 : tie.Need-returns-5
 returns-5 c =
-    let l = c .before .before in
-    let f = l .before .before in
-    let t = f .before .before .args .table in
-    complete-out t _ (counted-some (held t) _ (f .file-count .ensures) (l .before .if1 .left)) (l .label .ensures)
-    (c .enum-told2 .given .1)
+    let told = c in
+    let l = told .before .before in
+    let last = l .before .before in
+    complete-out (table last) _ (files (last .before)) _ (last .good-atom .ensures) (l .label .ensures) (told .enum-told2 .given .1)
 
 pub complete-spec : {M : Type 1} → statement M
 complete-spec =
@@ -84,8 +90,9 @@ complete-spec =
     (tie.spec
     file-count-requires
     returns
+    cast-good-atom
+    good-atom-requires
     cast-label
-    mul-label
     label-requires
     enum-known-told
     enum-known-told-2

@@ -1,63 +1,19 @@
 -- `checklist::file_sent` meets its contract. Assumes nothing.
-use native.Mathlib.Omega.{arith}
-use Rattle.checklist.specs.Questions.{file-sent}
-use Rattle.checklist.specs.Contracts.{FileEnds}
-use Rattle.checklist.proofs.Ends.{handed, asked-refused, asked-passed, file-bounds, sent-ends}
 use borrow.Author.Needs.{needs}
+use Rattle.checklist.proofs.Ends.{sent-ends}
 use Rattle.checklist.proofs.file_sent.Statement.{statement}
 use Rattle.checklist.proofs.file_sent.Tie as tie
 
 ask-file-requires : tie.Need-ask-file-requires
 ask-file-requires c κs = search needs
 
-enum-known-asked : tie.Need-enum-known-asked
-enum-known-asked c = search needs
-
-refuse-requires : tie.Need-refuse-requires
-refuse-requires c κs = search needs
-
-enum-told : tie.Need-enum-told
-enum-told c = search needs
-
-mul-add-mark : tie.Need-mul-add-mark
-mul-add-mark c =
-    let b = file-bounds (asked-passed (c .before .before .ask-file .ensures) (c .enum-told .given .1)) in
-    record { fits = omega (arith, b .1) }
-
-sub-add-mark : tie.Need-sub-add-mark
-sub-add-mark c =
-    let b = file-bounds (asked-passed (c .before .before .ask-file .ensures) (c .enum-told .given .1)) in
-    omega (arith, b .0)
-
 add-mark-requires : tie.Need-add-mark-requires
 add-mark-requires c κs = search needs
 
 returns : tie.Need-returns
 returns c =
-    let told = c .before .before in
-    let ask = told .before .before in
-    let a = ask .before .args in
-    handed (FileEnds (a .table) (file-sent (a .file))) _ (c .refuse .ensures)
-    (asked-refused (a .table) (file-sent (a .file)) (ask .ask-file .ensures) (told .asked .given .1))
-
-returns-2 : tie.Need-returns-2
-returns-2 c =
-    let told = c .before in
-    let ask = told .before .before in
-    let a = ask .before .args in
-    let l = asked-passed (ask .ask-file .ensures) (told .enum-told .given .1) in
-    sent-ends (a .table) (a .file) l (c .add-mark .ensures)
+    let ask = c .before in
+    sent-ends (ask .before .args .table) (ask .before .args .file) (ask .ask-file .ensures) (c .add-mark .ensures)
 
 pub file-sent-spec : {M : Type 1} → statement M
-file-sent-spec =
-    tie.close
-    (tie.spec
-    ask-file-requires
-    enum-known-asked
-    refuse-requires
-    enum-told
-    mul-add-mark
-    sub-add-mark
-    add-mark-requires
-    returns
-    returns-2)
+file-sent-spec = tie.close (tie.spec ask-file-requires add-mark-requires returns)

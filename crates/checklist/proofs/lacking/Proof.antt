@@ -1,7 +1,9 @@
 -- `checklist::lacking` tells which files lack something, by the atoms that are in. Assumes nothing.
-use Prim.Native.Nat.{_+_, _-_, _≤_}
+use Prim.Native.Nat.{ℕ, _+_, _-_, _≤_}
 use native.Mathlib.Omega.{arith}
-use mathlib.Core.Path.{refl}
+use mathlib.Core.Path.{_∙_, ap, ap₂}
+use mathlib.Core.Bool.{Bool, not, _||_}
+use Rattle.table.specs.Sets.{member}
 use borrow.Author.Needs.{needs}
 use Rattle.checklist.proofs.Asking.{LackingTo, lacking-start, lacking-next, lacking-end}
 use Rattle.checklist.proofs.lacking.Statement.{statement}
@@ -16,23 +18,23 @@ abbrev μ-loop : tie.MeasureT-loop
 loop-holds : tie.Need-loop-holds Inv-loop μ-loop
 loop-holds c = (omega arith, omega arith, lacking-start (c .args .flags .now) (c .args .n))
 
-mul-lacks : tie.Need-mul-lacks Inv-loop μ-loop
-mul-lacks c = search needs
+cast-mark-atom : tie.Need-cast-mark-atom Inv-loop μ-loop
+cast-mark-atom c = search needs
 
-sub-lacks : tie.Need-sub-lacks Inv-loop μ-loop
-sub-lacks c = omega (arith, c .before .loop .inv .0)
+mark-atom-requires : tie.Need-mark-atom-requires Inv-loop μ-loop
+mark-atom-requires c κs = search needs
 
-element-copy-out-lacks : tie.Need-element-copy-out-lacks Inv-loop μ-loop
-element-copy-out-lacks c = search needs
+cast-mark-atom-2 : tie.Need-cast-mark-atom-2 Inv-loop μ-loop
+cast-mark-atom-2 c = search needs
 
-mul-lacks-2 : tie.Need-mul-lacks-2 Inv-loop μ-loop
-mul-lacks-2 c = search needs
+mark-atom-requires-2 : tie.Need-mark-atom-requires-2 Inv-loop μ-loop
+mark-atom-requires-2 c κs = search needs
 
-sub-lacks-2 : tie.Need-sub-lacks-2 Inv-loop μ-loop
-sub-lacks-2 c = omega (arith, c .before .before .loop .inv .0)
+has-requires : tie.Need-has-requires Inv-loop μ-loop
+has-requires c κs = search needs
 
-element-copy-out-lacks-2 : tie.Need-element-copy-out-lacks-2 Inv-loop μ-loop
-element-copy-out-lacks-2 c = search needs
+has-requires-2 : tie.Need-has-requires-2 Inv-loop μ-loop
+has-requires-2 c κs = search needs
 
 array-write-lacks : tie.Need-array-write-lacks Inv-loop μ-loop
 array-write-lacks c = search needs
@@ -45,12 +47,22 @@ loop-less c = search needs
 
 loop-again : tie.Need-loop-again Inv-loop μ-loop
 loop-again c =
-    let l = c .before .before .before in
-    let high = c .before .before .loop-test .taken in (
+    let skip-has = c in
+    let sent-has = skip-has .before in
+    let skip = sent-has .before in
+    let sent = skip .before in
+    let test = sent .before in
+    let l = test .before in
+    let s = l .before in
+    let flags = s .args .flags .now in
+    let high = test .loop-test .taken in (
       omega (arith, l .loop .inv .0),
       omega (arith, high),
-      lacking-next (l .before .args .flags .now) (l .before .args .n) (l .loop .i) (l .loop .lacks) (l .loop .inv .2)
-          (l .loop .inv .0) (omega (arith, high)) (l .before .pre) _ refl,
+      lacking-next flags (s .args .n) (l .loop .i) (l .loop .lacks) (l .loop .inv .2) (l .loop .inv .0)
+          (omega (arith, high)) (s .pre) _
+          (ap₂ (λ (x y : Bool). not x || y)
+          (sent-has .has .ensures ∙ ap (member flags) (sent .mark-atom .ensures))
+          (skip-has .has2 .ensures ∙ ap (member flags) (skip .mark-atom2 .ensures))),
     )
 
 returns : tie.Need-returns Inv-loop μ-loop
@@ -66,12 +78,12 @@ lacking-spec =
     Inv-loop
     μ-loop
     loop-holds
-    mul-lacks
-    sub-lacks
-    element-copy-out-lacks
-    mul-lacks-2
-    sub-lacks-2
-    element-copy-out-lacks-2
+    cast-mark-atom
+    mark-atom-requires
+    cast-mark-atom-2
+    mark-atom-requires-2
+    has-requires
+    has-requires-2
     array-write-lacks
     add-i
     loop-less

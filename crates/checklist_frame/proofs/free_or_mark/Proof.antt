@@ -15,7 +15,7 @@ is-mark-requires c κs = search needs
 returns-2 : tie.Need-returns-2
 returns-2 c =
     let m = c .before in
-    let e1 = m .before in
+    let e1 = m .before .before in
     let a = e1 .before .before .args in
     told-no (no-mark (a .n) (a .rule) (e1 .if1 .left) (sym (m .is-mark .ensures) ∙ not-true _ (c .if2 .taken)))
 
@@ -25,7 +25,7 @@ holds-fact-requires c κs = search needs
 returns-3 : tie.Need-returns-3
 returns-3 c =
     let m = c .before .before in
-    let e1 = m .before in
+    let e1 = m .before .before in
     let a = e1 .before .before .args in
     mark-told (a .n) (a .rule) (e1 .if1 .left) _ (sym (m .is-mark .ensures) ∙ not-false _ (c .before .if2 .left))
     (c .holds-fact .ensures)

@@ -1,0 +1,2 @@
+-- The frame added rule by rule.
+pub mod Opening
