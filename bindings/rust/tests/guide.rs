@@ -33,10 +33,11 @@ fn blocks(kind: &str) -> Vec<String> {
 
 #[test]
 fn the_programs_of_the_guide_are_the_files() {
-    let rust = ["checklist", "guide", "restart"];
+    let rust = ["checklist", "guide", "restart", "shared"];
     let rust = rust.map(|name| file(&format!("bindings/rust/examples/{name}.rs")));
     assert_eq!(blocks("rust"), rust);
-    let c = ["deposit", "guide", "restart"].map(|name| file(&format!("bindings/c/{name}.c")));
+    let c = ["deposit", "guide", "restart", "shared"];
+    let c = c.map(|name| file(&format!("bindings/c/{name}.c")));
     assert_eq!(blocks("c"), c);
 }
 
@@ -46,7 +47,7 @@ fn the_programs_of_the_guide_are_the_files() {
 fn the_commands_of_the_guide_print_what_it_says() {
     let shown = blocks("text");
     let commands = blocks("sh");
-    assert_eq!((shown.len(), commands.len()), (3, 7));
+    assert_eq!((shown.len(), commands.len()), (4, 9));
     assert_eq!(shown[0], file("examples/checklist.out"));
     assert_eq!(commands[0], "rt staticlib yeqontur\n");
     for (i, command) in commands[1..].iter().enumerate() {
