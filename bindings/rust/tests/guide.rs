@@ -158,6 +158,39 @@ fn the_refusals_of_the_crate_are_those_of_the_header() {
     }
 }
 
+/// The names that a source gives to numbers, an arm of a `match` for each: `Refusal::HeadTooLarge => 1,`, or
+/// `Line::NotACommand => Err(13),`.
+fn numbered(path: &str, of: &str) -> Vec<(u32, String)> {
+    let text = file(path);
+    let arm = |line: &str| {
+        let (name, number) = line.trim().strip_prefix(of)?.split_once(" => ")?;
+        let end = name.find([' ', '(']).unwrap_or(name.len()); // 11 has a field
+        let number = number
+            .trim_start_matches("Err(")
+            .trim_end_matches([')', ',']);
+        Some((number.parse().ok()?, name[..end].to_string()))
+    };
+    let mut arms: Vec<(u32, String)> = text.lines().filter_map(arm).collect();
+    arms.sort();
+    arms
+}
+
+#[test]
+fn a_refusal_has_one_name_and_number_in_header_crate_slow_engine_and_proved_code() {
+    let named = |listed: Listed| (listed.number, in_rust(&listed.name));
+    let all = listed().into_iter().map(named);
+    let (of_sheets, of_calls): (Vec<_>, Vec<_>) =
+        all.partition(|(number, _)| OF_SHEETS.contains(number));
+    for path in [
+        "bindings/rust/src/refusal.rs",
+        "oracle/src/questions.rs",
+        "crates/refusals/src/lib.rt",
+    ] {
+        assert_eq!(numbered(path, "Refusal::"), of_calls, "{path}");
+    }
+    assert_eq!(numbered("oracle/src/sheet.rs", "Line::"), of_sheets);
+}
+
 #[test]
 fn words_and_advice_of_a_number_are_those_of_the_header() {
     for listed in listed() {
