@@ -1,15 +1,22 @@
 /*
  * Yeqontur: the rule table behind status labels, and the deposit checklist above it. docs/GUIDE.md is the guide.
- * Whole programs: bindings/c/deposit.c has a checklist, bindings/c/guide.c rules of its own, and bindings/c/restart.c
- * keeps its table in a file.
+ * Whole programs: bindings/c/deposit.c has a checklist, bindings/c/guide.c rules of its own, bindings/c/restart.c keeps
+ * its table in a file, and in bindings/c/shared.c two threads share one.
  *
  * Every call takes any numbers, lists, lengths and bytes of a table or a file, and answers a result or one numbered
  * refusal. A refused call hands the table back as it came, or the empty one where it takes none, and writes no buffer
- * entry. A list or buffer has the entries that its length says; of length 0 it may be NULL. A list that makes a rule
- * too long (refusal 2) is not read, whatever its length says, nor is a file whose length is wrong (refusal 16).
+ * entry. A list or buffer has the entries that its length says; of length 0 it may be NULL. Where the two lengths of a
+ * rule together pass 8, neither list is read, whatever is answered; nor is a file whose length is wrong (refusal 16).
  *
- * Nothing is allocated or kept, so any number of threads may call at once; a thread with 128 KB of stack can make any
- * call (tried with gcc, and with clang from -O1 on).
+ * Nothing is allocated or kept, so any number of threads may call at once, each with a table of its own. A table in
+ * memory belongs to one thread at a time. Where two change it in place, or one reads it while the other changes it, a
+ * change is lost and nothing tells: a checklist may say that it is complete while a skip stands. Threads that share a
+ * table hold a lock for each call, as bindings/c/shared.c does.
+ *
+ * A thread with 128 KB of stack can make any one call from a function of its own (tried with gcc, and with clang from
+ * -O1 on). What the caller keeps comes on top: 7 KB for each table, and a compiler keeps a place for each answer of a
+ * function, so eight calls by value in one function take some 65 KB more. The calls in place (yeqontur_add_to and those
+ * behind it) take no more for many calls than for one.
  *
  * The library is for x86-64. Build with `pkg-config --cflags --libs yeqontur` where it is installed (./install PREFIX);
  * in the repository with -Iinclude and target/staticlib/libyeqontur.a, which `rt staticlib yeqontur` makes.
@@ -68,7 +75,7 @@ typedef struct {
 /* What `state` of a label can be: the atom stands in no rule, or is out, or in. */
 enum { YEQONTUR_LABEL_ABSENT = 0, YEQONTUR_LABEL_OUT = 1, YEQONTUR_LABEL_IN = 2 };
 
-/* What is kept of an atom; of one that is in, its depth and the supporting slot. */
+/* What is kept of an atom; of one that is in, its depth and the supporting slot, which are 0 of any other. */
 typedef struct {
     uint16_t state;
     uint16_t depth;
@@ -85,7 +92,8 @@ typedef struct {
     yeqontur_kept_label labels[YEQONTUR_ATOMS];
 } yeqontur_table;
 
-/* In every answer `refused` is YEQONTUR_ACCEPTED, which is 0, or the number of a refusal.
+/* In every answer `refused` is YEQONTUR_ACCEPTED, which is 0, or the number of a refusal. Where a call is refused,
+ * every other number of its answer is 0; with 11 alone `count` is not.
  *
  * The refusals: number, name (YEQONTUR_REFUSED_HEAD_TOO_LARGE is 1), what is the matter, and what to do about it. The
  * list is a macro: the names, yeqontur_words and yeqontur_advice come from it, and so can a table of your own.
@@ -210,9 +218,9 @@ typedef struct {
 
 typedef struct {
     uint32_t refused;
-    uint32_t state; /* YEQONTUR_LABEL_ABSENT, _OUT or _IN */
-    uint32_t depth;
-    uint32_t slot;
+    uint32_t state; /* YEQONTUR_LABEL_ABSENT, _OUT or _IN; 0 where refused */
+    uint32_t depth; /* of an atom that is in; else 0 */
+    uint32_t slot;  /* the supporting slot of an atom that is in; else 0 */
 } yeqontur_label_answer;
 
 /* A rule is valid; or it needs an atom, which is out; or it is blocked by one, which is in; or it is muted. */
@@ -225,16 +233,17 @@ enum {
 
 typedef struct {
     uint32_t refused;
-    uint32_t spoiled; /* one of these */
-    uint32_t atom;    /* which it needs, or is blocked by */
+    uint32_t spoiled; /* one of these; 0 where refused */
+    uint32_t atom;    /* which it needs, or is blocked by; else 0 */
     uint32_t place;   /* of that entry in the positive list (needs) or the negative one (blocked by), as the slot keeps
-                         it, from 0 */
+                         it, from 0; else 0 */
 } yeqontur_spoiler_answer;
 
 /* To be read by its fields: 4 bytes between these two are padding. */
 typedef struct {
     uint32_t refused;
-    size_t count; /* how many entries or bytes were written, from the start of the buffer; later ones stay */
+    size_t count; /* how many entries or bytes were written, from the start of the buffer; later ones stay. Where it
+                     was refused by 11, how many are needed; by any other number, 0 */
 } yeqontur_list_answer;
 
 /* That a call was accepted: the answer where a table is changed or handed back and nothing else is to be told. */
@@ -292,7 +301,7 @@ YEQONTUR_KEEP
 yeqontur_accepted yeqontur_mute(yeqontur_table table, uint32_t slot, uint32_t muted);
 
 /* The label of an atom: absent, out, or in with its least depth and supporting slot, which is never that of a muted
- * rule. Asks 15, 10. */
+ * rule. For an atom that is not in, `depth` and `slot` are 0, and for a refusal `state` too. Asks 15, 10. */
 yeqontur_label_answer yeqontur_label(yeqontur_table table, uint32_t atom);
 
 /* Whether the rule in a slot is valid, or its first entry that spoils it, positive list first and each list ascending:
@@ -303,7 +312,8 @@ yeqontur_label_answer yeqontur_label(yeqontur_table table, uint32_t atom);
 yeqontur_spoiler_answer yeqontur_spoiler(yeqontur_table table, uint32_t slot);
 
 /* The slots of the rules with this head, and the heads of the rules with this entry, muted rules among them; all atoms
- * whose label rests on this one, directly or through others. Each ascending, without repeats. Each asks 15, 10, 11. */
+ * whose label rests on this one, directly or through others. Each ascending, without repeats. Refused, `count` is 0,
+ * but with 11 it is the number of entries needed; so it is for every call with a buffer. Each asks 15, 10, 11. */
 yeqontur_list_answer yeqontur_justifications(yeqontur_table table, uint32_t atom, uint32_t *buffer, size_t length);
 yeqontur_list_answer yeqontur_consequences(yeqontur_table table, uint32_t atom, uint32_t *buffer, size_t length);
 yeqontur_list_answer yeqontur_repercussions(yeqontur_table table, uint32_t atom, uint32_t *buffer, size_t length);
@@ -367,7 +377,8 @@ yeqontur_list_answer yeqontur_checklist_missing(yeqontur_table table, uint32_t *
 yeqontur_complete_answer yeqontur_checklist_complete(yeqontur_table table);
 
 /* The calls that change a table or hand one back, on a table in place. Each answers `refused`. Accepted, `*table` is
- * the new one; refused, `*table` stays as it is, also where a file is loaded or a checklist opened. */
+ * the new one; refused, `*table` stays as it is, also where a file is loaded or a checklist opened: what the caller has
+ * is worth more than the empty table. Each reads the table, and then writes it; it belongs to one thread at a time. */
 
 /* Not to be called by clients: what they have in common. */
 static inline uint32_t yeqontur_kept(yeqontur_table *table, uint32_t refused, const yeqontur_table *after) {
@@ -377,7 +388,8 @@ static inline uint32_t yeqontur_kept(yeqontur_table *table, uint32_t refused, co
     return refused;
 }
 
-/* `slot` gets the slot that the rule took; it may be NULL, and stays where the call is refused. */
+/* yeqontur_add in place. `slot` gets the slot that the rule took; it may be NULL, and stays where the call is refused.
+ * The table belongs to one thread at a time. */
 YEQONTUR_KEEP
 static inline uint32_t yeqontur_add_to(yeqontur_table *table, uint32_t head, const uint32_t *positives,
                                        size_t positive_count, const uint32_t *negatives, size_t negative_count,
@@ -389,12 +401,14 @@ static inline uint32_t yeqontur_add_to(yeqontur_table *table, uint32_t head, con
     return yeqontur_kept(table, answer.refused, &answer.table);
 }
 
+/* yeqontur_remove in place. The table belongs to one thread at a time. */
 YEQONTUR_KEEP
 static inline uint32_t yeqontur_remove_from(yeqontur_table *table, uint32_t slot) {
     const yeqontur_change answer = yeqontur_remove(*table, slot);
     return yeqontur_kept(table, answer.refused, &answer.table);
 }
 
+/* yeqontur_replace in place. The table belongs to one thread at a time. */
 YEQONTUR_KEEP
 static inline uint32_t yeqontur_replace_in(yeqontur_table *table, uint32_t slot, uint32_t head,
                                            const uint32_t *positives, size_t positive_count,
@@ -404,36 +418,42 @@ static inline uint32_t yeqontur_replace_in(yeqontur_table *table, uint32_t slot,
     return yeqontur_kept(table, answer.refused, &answer.table);
 }
 
+/* yeqontur_mute in place. The table belongs to one thread at a time. */
 YEQONTUR_KEEP
 static inline uint32_t yeqontur_mute_in(yeqontur_table *table, uint32_t slot, uint32_t muted) {
     const yeqontur_accepted answer = yeqontur_mute(*table, slot, muted);
     return yeqontur_kept(table, answer.refused, &answer.table);
 }
 
+/* yeqontur_load in place. The table belongs to one thread at a time. */
 YEQONTUR_KEEP
 static inline uint32_t yeqontur_load_into(yeqontur_table *table, const uint8_t *bytes, size_t length) {
     const yeqontur_loaded answer = yeqontur_load(bytes, length);
     return yeqontur_kept(table, answer.refused, &answer.table);
 }
 
+/* yeqontur_checklist_open in place. The table belongs to one thread at a time. */
 YEQONTUR_KEEP
 static inline uint32_t yeqontur_checklist_open_into(yeqontur_table *table, uint32_t files) {
     const yeqontur_accepted answer = yeqontur_checklist_open(files);
     return yeqontur_kept(table, answer.refused, &answer.table);
 }
 
+/* yeqontur_checklist_sent in place. The table belongs to one thread at a time. */
 YEQONTUR_KEEP
 static inline uint32_t yeqontur_checklist_sent_in(yeqontur_table *table, uint32_t file) {
     const yeqontur_accepted answer = yeqontur_checklist_sent(*table, file);
     return yeqontur_kept(table, answer.refused, &answer.table);
 }
 
+/* yeqontur_checklist_skipped in place. The table belongs to one thread at a time. */
 YEQONTUR_KEEP
 static inline uint32_t yeqontur_checklist_skipped_in(yeqontur_table *table, uint32_t file) {
     const yeqontur_accepted answer = yeqontur_checklist_skipped(*table, file);
     return yeqontur_kept(table, answer.refused, &answer.table);
 }
 
+/* yeqontur_checklist_withdraw in place. The table belongs to one thread at a time. */
 YEQONTUR_KEEP
 static inline uint32_t yeqontur_checklist_withdraw_in(yeqontur_table *table, uint32_t file) {
     const yeqontur_accepted answer = yeqontur_checklist_withdraw(*table, file);

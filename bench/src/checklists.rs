@@ -97,8 +97,8 @@ pub fn bench() {
 #[cfg(test)]
 mod tests {
     use super::{sent_up_to, FILES};
-    use crate::boundary::from_slow;
     use crate::plain::checklist;
+    use compare::boundary::from_slow;
     use oracle::calls::Call;
     use oracle::generate::checklists::Checklists;
     use oracle::generate::damage::{damaged, FIELDS};

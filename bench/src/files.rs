@@ -68,8 +68,8 @@ pub fn bench() {
 
 #[cfg(test)]
 mod tests {
-    use crate::boundary::from_slow;
     use crate::{plain, shapes};
+    use compare::boundary::from_slow;
     use oracle::generate::files::{file, KINDS};
     use oracle::generate::marks::{marked, MARKS};
     use oracle::generate::programs::crowded;

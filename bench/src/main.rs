@@ -1,26 +1,21 @@
-//! The proved engine beside plain Rust of the same algorithm and clingo, and against the slow engine.
+//! The proved engine beside plain Rust of the same algorithm and clingo.
 //!
 //!     bench                     tables of times and ratios, all measured in this run
 //!     bench TABLE               one of them alone: calls, replacements, mutings, phases, files, checklists
 //!     bench sheet PROGRAM       lines per second of the sheet program, beside plain Rust's and the slow engine's
 //!     bench plain-sheet         plain Rust's sheet program
 //!     bench slow-sheet          the slow engine's
-//!     bench compare SEED COUNT  COUNT tables of every kind: verdict, labels and rounds against the slow engine
-//!     bench replay SEED COUNT   COUNT lists of calls written as numbers: answers and table against the slow book
 
-mod boundary;
 mod calls;
 mod checklists;
 mod churn;
 mod clingo;
 mod clock;
-mod compare;
 mod files;
 mod mutings;
 mod phases;
 mod plain;
 mod replacements;
-mod replay;
 mod shapes;
 mod sheet;
 
@@ -29,8 +24,7 @@ use std::process::ExitCode;
 
 const USAGE: &str =
     "bench | bench calls | bench replacements | bench mutings | bench phases | bench files | bench checklists
-    | bench sheet PROGRAM | bench plain-sheet | bench slow-sheet | bench compare SEED COUNT
-    | bench replay SEED COUNT";
+    | bench sheet PROGRAM | bench plain-sheet | bench slow-sheet";
 
 /// The tables of times by name, in the order in which all are printed.
 const TABLES: [(&str, fn()); 6] = [
@@ -52,15 +46,14 @@ fn all_tables() {
     }
 }
 
-fn code(good: bool) -> ExitCode {
-    ExitCode::from(u8::from(!good))
-}
-
 fn done(outcome: io::Result<()>) -> ExitCode {
-    if let Err(error) = &outcome {
-        eprintln!("bench: {error}");
+    match outcome {
+        Ok(()) => ExitCode::SUCCESS,
+        Err(error) => {
+            eprintln!("bench: {error}");
+            ExitCode::FAILURE
+        }
     }
-    code(outcome.is_ok())
 }
 
 fn main() -> ExitCode {
@@ -78,14 +71,6 @@ fn main() -> ExitCode {
         ["sheet", program] => done(sheet::bench(program)),
         ["plain-sheet"] => done(plain::sheet::run(io::stdin().lock(), io::stdout().lock())),
         ["slow-sheet"] => done(sheet::slow()),
-        ["compare", seed, count] => code(compare::compare(
-            seed.parse().expect("a seed"),
-            count.parse().expect("a count"),
-        )),
-        ["replay", seed, count] => code(replay::compare(
-            seed.parse().expect("a seed"),
-            count.parse().expect("a count"),
-        )),
         _ => {
             eprintln!("{USAGE}");
             ExitCode::from(2)

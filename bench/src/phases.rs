@@ -1,7 +1,8 @@
 //! The engine's phases: the labels of a list of rules, and question 15; and how many rounds find the in atoms.
 
 use crate::clock::Pair;
-use crate::{boundary, plain, shapes};
+use crate::{plain, shapes};
+use compare::boundary;
 use std::hint::black_box;
 use yeqontur::raw::Table;
 
@@ -37,5 +38,26 @@ pub fn bench() {
             sound.shown(),
             rounds(&table)
         );
+    }
+}
+
+#[cfg(test)]
+mod tests {
+    use crate::plain;
+    use compare::boundary::{self, from_slow};
+    use oracle::generate::mixed_table;
+    use oracle::random::Random;
+
+    #[test]
+    fn plain_rust_finds_the_same_tables_sound() {
+        let mut random = Random::seeded(1);
+        let mut counts = [0; 2];
+        for _ in 0..20_000 {
+            let table = from_slow(&mixed_table(&mut random));
+            let sound = plain::sound(&table);
+            assert_eq!(sound, boundary::sound(&table));
+            counts[usize::from(sound)] += 1;
+        }
+        assert!(counts.iter().all(|&count| count > 2_000), "{counts:?}");
     }
 }

@@ -132,8 +132,8 @@ pub fn bench() {
 #[cfg(test)]
 mod tests {
     use super::{shapes, Case};
-    use crate::boundary::from_slow;
     use crate::plain;
+    use compare::boundary::from_slow;
     use oracle::calls::Call;
     use oracle::generate::again::pages_of;
     use oracle::generate::lists::follow_lists;

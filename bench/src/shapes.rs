@@ -1,6 +1,6 @@
 //! The tables that are timed.
 
-use crate::boundary::from_slow;
+use compare::boundary::from_slow;
 use oracle::generate::table_of;
 use oracle::limits::SLOTS;
 use oracle::loops::has_loop_through_negation;

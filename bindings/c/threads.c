@@ -11,9 +11,9 @@
 #define STACK (128 * 1024)
 #define LENGTH 256
 
-/* What a thread works on: a table of its own, a buffer, a file, and whether all answers were right. */
+/* What a thread works on: a table and a checklist of its own, a buffer, a file, and whether all answers were right. */
 typedef struct {
-    yeqontur_table table;
+    yeqontur_table table, checklist;
     uint32_t buffer[256];
     uint8_t file[YEQONTUR_FILE_BYTES];
     uint32_t number;
@@ -116,6 +116,21 @@ static void checklist(work *w) {
     w->right &= answer.refused == 0 && yeqontur_checklist_complete(answer.table).complete == 1;
 }
 
+/* Many calls in place in one function take no more stack than one. */
+static void in_place(work *w) {
+    yeqontur_table *table = &w->checklist;
+    w->right &= yeqontur_checklist_open_into(table, 3) == 0;
+    w->right &= yeqontur_checklist_sent_in(table, 1) == 0;
+    w->right &= yeqontur_checklist_skipped_in(table, 2) == 0;
+    w->right &= yeqontur_checklist_sent_in(table, 2) == 0;
+    w->right &= yeqontur_checklist_withdraw_in(table, 2) == 0;
+    w->right &= yeqontur_checklist_sent_in(table, 3) == 0;
+    w->right &= yeqontur_mute_in(table, 1, 1) == 0;
+    w->right &= yeqontur_mute_in(table, 1, 0) == 0;
+    w->right &= yeqontur_remove_from(table, 3) == 0;
+    w->right &= yeqontur_checklist_sent_in(table, 3) == YEQONTUR_REFUSED_TABLE_UNSOUND;
+}
+
 /* Every call, on the longest chain and the longest checklist. */
 static void *run(void *given) {
     work *w = given;
@@ -135,6 +150,7 @@ static void *run(void *given) {
     muting(w);
     removal(w);
     checklist(w);
+    in_place(w);
     return NULL;
 }
 

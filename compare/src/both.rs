@@ -1,6 +1,6 @@
 //! One call on both sides, the proved library and the slow engine: answer, table and every entry of a lent buffer.
 
-use crate::boundary::to_raw;
+use compare::boundary::from_slow;
 use oracle::calls::{Answer, Call, Lent, Validity};
 use oracle::labels::Label;
 use oracle::questions::Refusal;
@@ -183,7 +183,7 @@ fn buffers(random: &mut Random) -> Lent {
 
 /// One call on both sides: the number of its refusal, 0 where it was accepted; or what differs.
 pub fn made(call: &Call, table: &mut RawTable, random: &mut Random) -> Result<u32, String> {
-    let mut mine = to_raw(table);
+    let mut mine = from_slow(table);
     let mut lent = buffers(random);
     let mut also = lent.clone();
     let answer = call.make(table, &mut lent);
@@ -195,7 +195,7 @@ pub fn made(call: &Call, table: &mut RawTable, random: &mut Random) -> Result<u3
     if also != lent {
         return Err(format!("{call:?}: another buffer"));
     }
-    if mine != to_raw(table) {
+    if mine != from_slow(table) {
         return Err(format!("{call:?}: another table"));
     }
     Ok(answer.err().map_or(0, Refusal::number))

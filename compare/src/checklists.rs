@@ -3,7 +3,7 @@
 //! whether all is complete are also read off the calls and answers.
 
 use crate::both;
-use crate::boundary::to_raw;
+use compare::boundary::from_slow;
 use oracle::calls::Call;
 use oracle::generate::again::pages_of;
 use oracle::generate::checklists::Checklists;
@@ -97,7 +97,7 @@ impl Seen {
     /// Does the library say of the table what the calls and answers say, or 15 where they say that there is no
     /// checklist? Counts the question.
     fn read_off(&mut self, standing: &Standing, table: &RawTable) -> bool {
-        let table = to_raw(table);
+        let table = from_slow(table);
         let complete = standing.complete();
         let number = if complete.is_none() { 15 } else { 0 };
         let mut buffer = [UNWRITTEN; 61];

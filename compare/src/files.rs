@@ -1,6 +1,6 @@
 //! Random files loaded, and random tables saved, on both sides: every answer, table and byte of a lent buffer.
 
-use crate::boundary::to_raw;
+use compare::boundary::from_slow;
 use oracle::calls;
 use oracle::generate::files::{file, Kind, KINDS};
 use oracle::generate::mixed_table;
@@ -34,7 +34,7 @@ fn loaded(bytes: &[u8]) -> Result<(u32, bool), &'static str> {
     if told.refused != expected {
         return Err("load: another answer");
     }
-    if told.table.as_bytes() != to_raw(&table).as_bytes() {
+    if told.table.as_bytes() != from_slow(&table).as_bytes() {
         return Err("load: another table");
     }
     if expected == 0 {
@@ -70,7 +70,7 @@ fn saved(random: &mut Random, table: &RawTable) -> Result<(u32, bool), &'static 
         Err(Refusal::BufferTooShort { needed }) => (11, needed),
         Err(refusal) => (refusal.number(), 0),
     };
-    let told = raw::save(&to_raw(table), &mut written);
+    let told = raw::save(&from_slow(table), &mut written);
     if (told.refused, told.count) != (number, count as usize) {
         return Err("save: another answer");
     }

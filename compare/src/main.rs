@@ -1,5 +1,7 @@
 //! What is proved against the slow engine.
 //!
+//!     compare tables SEED COUNT               COUNT tables of every kind: verdict, labels and rounds
+//!     compare replay SEED COUNT               COUNT lists of calls written as numbers: answers and table
 //!     compare calls SEED COUNT                COUNT random calls on the library
 //!     compare checklists SEED COUNT           COUNT random calls, most of them on a checklist
 //!     compare files SEED COUNT                COUNT random files loaded, COUNT random tables saved by the library
@@ -12,7 +14,6 @@
 //!     compare broken-files SAVE LOAD          reads and writes that fail, on the programs that save and load
 
 mod both;
-mod boundary;
 mod broken;
 mod broken_files;
 mod calls;
@@ -21,14 +22,16 @@ mod cut;
 mod files;
 mod program;
 mod programs;
+mod replay;
 mod sheets;
 mod stream;
+mod tables;
 mod why;
 
 use std::process::ExitCode;
 
-const USAGE: &str =
-    "compare calls SEED COUNT | compare checklists SEED COUNT | compare files SEED COUNT
+const USAGE: &str = "compare tables SEED COUNT | compare replay SEED COUNT
+    | compare calls SEED COUNT | compare checklists SEED COUNT | compare files SEED COUNT
     | compare sheets PROGRAM SEED COUNT | compare why SHEET WHY SEED COUNT
     | compare programs SEED COUNT SAVE LOAD | compare stream PROGRAM
     | compare cut SEED COUNT PROGRAM.. | compare broken PROGRAM.. | compare broken-files SAVE LOAD";
@@ -36,6 +39,8 @@ const USAGE: &str =
 /// Runs what the words name and answers how many comparisons failed; `None` if they name nothing.
 fn obey(words: &[&str]) -> Option<usize> {
     match words {
+        ["tables", seed, count] => Some(tables::compare(seed.parse().ok()?, count.parse().ok()?)),
+        ["replay", seed, count] => Some(replay::compare(seed.parse().ok()?, count.parse().ok()?)),
         ["calls", seed, count] => Some(calls::compare(seed.parse().ok()?, count.parse().ok()?)),
         ["checklists", seed, count] => {
             Some(checklists::compare(seed.parse().ok()?, count.parse().ok()?))

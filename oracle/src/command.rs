@@ -8,9 +8,9 @@ pub enum Line {
     /// Prints nothing.
     Blank,
     /// Question 14 is answered "no".
-    TooLong,
+    LineTooLong,
     /// Question 13 is answered "no".
-    Formless,
+    NotACommand,
     Command(Command),
 }
 
@@ -70,7 +70,7 @@ impl Command {
 /// asked first and blankness only of what is short enough.
 pub fn read_line(line: &[u8]) -> Line {
     if line.len() > LINE_BYTES {
-        return Line::TooLong;
+        return Line::LineTooLong;
     }
     let tokens: Vec<&[u8]> = line
         .split(|&byte| byte == b' ')
@@ -79,7 +79,7 @@ pub fn read_line(line: &[u8]) -> Line {
     if tokens.is_empty() {
         return Line::Blank;
     }
-    read_command(&tokens).map_or(Line::Formless, Line::Command)
+    read_command(&tokens).map_or(Line::NotACommand, Line::Command)
 }
 
 fn read_command(tokens: &[&[u8]]) -> Option<Command> {

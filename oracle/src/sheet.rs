@@ -81,8 +81,8 @@ impl Sheet {
     fn obey(&mut self, line: Line) -> Result<(), u32> {
         match line {
             Line::Blank => Ok(()),
-            Line::TooLong => Err(14),
-            Line::Formless => Err(13),
+            Line::LineTooLong => Err(14),
+            Line::NotACommand => Err(13),
             Line::Command(Command::Add {
                 head,
                 positives,

@@ -9,8 +9,8 @@ pub const ROOM: usize = LINE / 2;
 /// What a line is. The lists of a rule stand in the room lent for them.
 pub enum Line<'a> {
     Blank,
-    TooLong,
-    NoCommand,
+    LineTooLong,
+    NotACommand,
     Add(u32, &'a [u32], &'a [u32]),
     Remove(u32),
     Replace(u32, u32, &'a [u32], &'a [u32]),
@@ -96,11 +96,11 @@ fn command<'l, 'a>(
 /// What a line is. Any bytes may come in.
 pub fn read<'a>(line: &[u8], room: &'a mut [u32; ROOM]) -> Line<'a> {
     if line.len() > LINE {
-        return Line::TooLong;
+        return Line::LineTooLong;
     }
     let mut tokens = line.split(|&b| b == b' ').filter(|token| !token.is_empty());
     match tokens.next() {
         None => Line::Blank,
-        Some(word) => command(word, tokens, room).unwrap_or(Line::NoCommand),
+        Some(word) => command(word, tokens, room).unwrap_or(Line::NotACommand),
     }
 }

@@ -49,8 +49,8 @@ fn write_label(out: &mut Vec<u8>, atom: usize, label: &Label) {
 fn obey(table: &mut Table, line: Line, out: &mut Vec<u8>) -> Result<(), u32> {
     match line {
         Line::Blank => {}
-        Line::TooLong => return Err(14),
-        Line::NoCommand => return Err(13),
+        Line::LineTooLong => return Err(14),
+        Line::NotACommand => return Err(13),
         Line::Add(head, positives, negatives) => {
             let slot = add(table, head, positives, negatives)?;
             write_line(out, b"slot", &[slot]);

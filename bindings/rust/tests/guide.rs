@@ -33,10 +33,11 @@ fn blocks(kind: &str) -> Vec<String> {
 
 #[test]
 fn the_programs_of_the_guide_are_the_files() {
-    let rust = ["checklist", "guide", "restart"];
+    let rust = ["checklist", "guide", "restart", "shared"];
     let rust = rust.map(|name| file(&format!("bindings/rust/examples/{name}.rs")));
     assert_eq!(blocks("rust"), rust);
-    let c = ["deposit", "guide", "restart"].map(|name| file(&format!("bindings/c/{name}.c")));
+    let c = ["deposit", "guide", "restart", "shared"];
+    let c = c.map(|name| file(&format!("bindings/c/{name}.c")));
     assert_eq!(blocks("c"), c);
 }
 
@@ -46,7 +47,7 @@ fn the_programs_of_the_guide_are_the_files() {
 fn the_commands_of_the_guide_print_what_it_says() {
     let shown = blocks("text");
     let commands = blocks("sh");
-    assert_eq!((shown.len(), commands.len()), (3, 7));
+    assert_eq!((shown.len(), commands.len()), (4, 9));
     assert_eq!(shown[0], file("examples/checklist.out"));
     assert_eq!(commands[0], "rt staticlib yeqontur\n");
     for (i, command) in commands[1..].iter().enumerate() {
@@ -155,6 +156,39 @@ fn the_refusals_of_the_crate_are_those_of_the_header() {
         let (name, _) = name.split_once(' ').unwrap_or((&name, "")); // 11 has a field
         assert_eq!(name, in_rust(&listed.name));
     }
+}
+
+/// The names that a source gives to numbers, an arm of a `match` for each: `Refusal::HeadTooLarge => 1,`, or
+/// `Line::NotACommand => Err(13),`.
+fn numbered(path: &str, of: &str) -> Vec<(u32, String)> {
+    let text = file(path);
+    let arm = |line: &str| {
+        let (name, number) = line.trim().strip_prefix(of)?.split_once(" => ")?;
+        let end = name.find([' ', '(']).unwrap_or(name.len()); // 11 has a field
+        let number = number
+            .trim_start_matches("Err(")
+            .trim_end_matches([')', ',']);
+        Some((number.parse().ok()?, name[..end].to_string()))
+    };
+    let mut arms: Vec<(u32, String)> = text.lines().filter_map(arm).collect();
+    arms.sort();
+    arms
+}
+
+#[test]
+fn a_refusal_has_one_name_and_number_in_header_crate_slow_engine_and_proved_code() {
+    let named = |listed: Listed| (listed.number, in_rust(&listed.name));
+    let all = listed().into_iter().map(named);
+    let (of_sheets, of_calls): (Vec<_>, Vec<_>) =
+        all.partition(|(number, _)| OF_SHEETS.contains(number));
+    for path in [
+        "bindings/rust/src/refusal.rs",
+        "oracle/src/questions.rs",
+        "crates/refusals/src/lib.rt",
+    ] {
+        assert_eq!(numbered(path, "Refusal::"), of_calls, "{path}");
+    }
+    assert_eq!(numbered("oracle/src/sheet.rs", "Line::"), of_sheets);
 }
 
 #[test]

@@ -131,8 +131,8 @@ impl Seen {
                     change.iter().for_each(|call| self.follow(&mut book, call));
                     continue;
                 }
-                Line::Formless => 13,
-                Line::TooLong => 14,
+                Line::NotACommand => 13,
+                Line::LineTooLong => 14,
                 Line::Blank => continue,
             };
             if line.trim_ascii_start().starts_with(b"P") {

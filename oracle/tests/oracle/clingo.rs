@@ -1,4 +1,5 @@
-//! Admissible models against the answer sets of clingo, where it is installed.
+//! Admissible models against the answer sets of clingo. The gate runs this test where clingo is installed, and counts
+//! nothing where it is not.
 
 use oracle::generate::marks::any_marked;
 use oracle::generate::programs::unlayered;
@@ -20,33 +21,29 @@ fn written(program: &[Option<Page>]) -> String {
         .collect()
 }
 
-/// All answer sets, or `None` if clingo is not there.
-fn answer_sets(program: &str) -> Option<Vec<Vec<u32>>> {
+/// All answer sets, each ascending.
+fn answer_sets(program: &str) -> Vec<Vec<u32>> {
     let mut clingo = Command::new("clingo")
         .args(["0", "--verbose=0", "--warn=none", "-"])
         .stdin(Stdio::piped())
         .stdout(Stdio::piped())
         .stderr(Stdio::null())
         .spawn()
-        .ok()?;
-    clingo.stdin.take()?.write_all(program.as_bytes()).ok()?;
-    let output = String::from_utf8(clingo.wait_with_output().ok()?.stdout).ok()?;
-    let verdict = output.lines().last()?;
+        .expect("clingo");
+    let mut input = clingo.stdin.take().expect("its input");
+    input.write_all(program.as_bytes()).expect("it reads");
+    drop(input);
+    let output = clingo.wait_with_output().expect("it ends");
+    let output = String::from_utf8(output.stdout).expect("a text");
+    let mut lines: Vec<&str> = output.lines().collect();
+    let verdict = lines.pop();
     assert!(
-        ["SATISFIABLE", "UNSATISFIABLE"].contains(&verdict),
+        matches!(verdict, Some("SATISFIABLE" | "UNSATISFIABLE")),
         "clingo says {output}"
     );
-    let sets = output.lines().take(output.lines().count() - 1);
-    Some(
-        sets.map(|line| {
-            sorted(
-                line.split_whitespace()
-                    .map(|atom| atom[1..].parse().unwrap())
-                    .collect(),
-            )
-        })
-        .collect(),
-    )
+    let atom = |word: &str| word[1..].parse().expect(word);
+    let set = |line: &str| sorted(line.split_whitespace().map(atom).collect());
+    lines.into_iter().map(set).collect()
 }
 
 fn sorted<T: Ord>(mut list: Vec<T>) -> Vec<T> {
@@ -55,11 +52,8 @@ fn sorted<T: Ord>(mut list: Vec<T>) -> Vec<T> {
 }
 
 #[test]
+#[ignore = "it asks clingo"]
 fn admissible_models_are_the_answer_sets() {
-    if answer_sets("a1 :- .\n") != Some(vec![vec![1]]) {
-        println!("clingo not found: skipped");
-        return;
-    }
     let mut random = Random::seeded(91);
     for _ in 0..200 {
         let program = unlayered(&mut random, 7, 10);
@@ -68,10 +62,7 @@ fn admissible_models_are_the_answer_sets() {
             .iter()
             .map(|m| m.ascending().collect())
             .collect();
-        assert_eq!(
-            Some(sorted(models)),
-            answer_sets(&written(&program)).map(sorted),
-            "{program:?}"
-        );
+        let expected = answer_sets(&written(&program));
+        assert_eq!(sorted(models), sorted(expected), "{program:?}");
     }
 }

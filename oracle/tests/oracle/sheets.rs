@@ -157,8 +157,8 @@ fn printed_by_calls(input: &[u8]) -> String {
     for (place, line) in lines.into_iter().enumerate() {
         let answer = match read_line(line) {
             Line::Blank => Ok(String::new()),
-            Line::TooLong => Err(14),
-            Line::Formless => Err(13),
+            Line::LineTooLong => Err(14),
+            Line::NotACommand => Err(13),
             Line::Command(command) => called(&mut table, &command).map_err(Refusal::number),
         };
         output += &answer.unwrap_or_else(|number| format!("line {} refused {number}\n", place + 1));

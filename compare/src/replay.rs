@@ -2,7 +2,7 @@
 //! against the slow engine's book. What replacements and mutings came to is counted, and what other calls met of muted
 //! rules: each kind must come up.
 
-use crate::boundary::{self, from_slow};
+use compare::boundary::{self, from_slow};
 use oracle::book::Book;
 use oracle::generate::muting_kinds::{self, BY_CHANGES};
 use oracle::generate::replacement_kinds;
@@ -63,9 +63,9 @@ fn made(list: &List, room: usize) -> Result<usize, &'static str> {
     Ok(told.count)
 }
 
-/// Replays `count` lists on both sides and answers whether all agree, and whether replacements and mutings came often
-/// enough to each of their ends.
-pub fn compare(seed: u64, count: usize) -> bool {
+/// Replays `count` lists on both sides. Answers how many differ; replacements or mutings that came too rarely to one of
+/// their ends count as one.
+pub fn compare(seed: u64, count: usize) -> usize {
     let mut random = Random::seeded(seed);
     let (mut failed, mut calls) = (0, 0);
     let mut seen = Seen::default();
@@ -92,5 +92,5 @@ pub fn compare(seed: u64, count: usize) -> bool {
     println!(
         "lists of {calls} calls replayed beside the slow engine's book: {passed} passed, {failed} failed"
     );
-    failed == 0
+    failed
 }

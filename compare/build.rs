@@ -1,4 +1,4 @@
-//! Links the proved engine: the static library that `rt staticlib probe` writes.
+//! Links the proved engine's phases: the static library that `rt staticlib probe` writes.
 
 use std::path::Path;
 

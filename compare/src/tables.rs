@@ -1,7 +1,6 @@
 //! Tables of every kind: the proved engine's verdict, labels and rounds against the slow engine's.
 
-use crate::boundary::{self, from_slow, Rounds, LAYERS};
-use crate::plain;
+use compare::boundary::{self, from_slow, Rounds, LAYERS};
 use oracle::atoms::AtomSet;
 use oracle::generate;
 use oracle::labels::{Label, Labelled};
@@ -92,7 +91,7 @@ fn refusal(raw: &RawTable, expected: Option<&Expected>) -> u32 {
 fn compared(raw: &RawTable) -> Result<Option<Expected>, String> {
     let table = from_slow(raw);
     let verdict = sound::sound(raw);
-    if boundary::sound(&table) != verdict || plain::sound(&table) != verdict {
+    if boundary::sound(&table) != verdict {
         return Err(format!("sound: the slow engine says {verdict}"));
     }
     let told = boundary::labels(&table);
@@ -160,7 +159,9 @@ impl Reached {
     }
 }
 
-pub fn compare(seed: u64, count: usize) -> bool {
+/// Compares `count` tables. Answers how many differ; too few tables with a muted rule, or with a state past 2, count as
+/// one.
+pub fn compare(seed: u64, count: usize) -> usize {
     let mut random = Random::seeded(seed);
     let mut failed = 0;
     let (mut reached, mut muted) = (Reached::default(), Muted::default());
@@ -189,13 +190,13 @@ pub fn compare(seed: u64, count: usize) -> bool {
         failed += 1;
     }
     println!("tables compared with the slow engine: {passed} passed, {failed} failed");
-    failed == 0
+    failed
 }
 
 #[cfg(test)]
 mod tests {
     use super::{rounds_differ, Expected};
-    use crate::boundary::{Rounds, LAYERS};
+    use compare::boundary::{Rounds, LAYERS};
     use oracle::rules::{Page, Rule};
 
     /// A chain along the slots, above it a layer in which nothing is in, and above that a chain against the slots.
