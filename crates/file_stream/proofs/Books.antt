@@ -38,7 +38,7 @@ use Rattle.history.proofs.Sequence.{sound-model}
 use Rattle.sheet_meaning.specs.Sheets.{MOST, cut}
 use Rattle.sheet_meaning.specs.Calls.{callsOf}
 use Rattle.sheet_meaning.specs.Seen.{SeesLabels}
-use Rattle.stream.proofs.Joined.{fedBytes, program-history}
+use Rattle.stream.proofs.Joined.{readBytes, fedBytes, program-history, program-read, program-silent}
 use Rattle.file_stream.specs.declared.Saved.{Saved}
 use Rattle.file_stream.specs.Saves.{LONGEST, countOf, SavesInput}
 use Rattle.file_stream.specs.Loads.{KEPT, refusedLine, tellLoad, LoadPrints, LoadSeen, BookLoads}
@@ -140,6 +140,14 @@ saved-book {r} s =
     ap (λ (n : ℕ). take n (r .bytes)) (s .count)
     ∙ saved-file (r .last .reply .table) _ (r .bytes) (s .answer) (claim .sound) room-lent (s .saves)
     ∙ ap fileOf (claim .slots)
+
+-- No byte is lost on the way, so these are the calls of all the input that was read.
+pub saved-whole :
+    {r : Saved} (s : SavesInput r)
+    → take (r .count) (r .bytes) ≡ fileOf (bookAfter (callsOf (readBytes (s .sheet))))
+saved-whole s =
+    let whole = program-read (s .sheet) (program-silent (s .sheet) .1) in
+    saved-book s ∙ ap (λ (bs : List ℕ). fileOf (bookAfter (callsOf bs))) (whole .0)
 
 -- And of that file the labels are printed that the book shows of these pages.
 pub saved-loaded :

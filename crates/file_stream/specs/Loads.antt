@@ -1,5 +1,5 @@
--- What the program that loads a file prints, and what can be said of its run. What was read and written no contract can
--- say. Assumes nothing.
+-- What the program that loads a file prints, and what can be said of its run. The bytes that a read gives, and those that
+-- a write takes, no contract can name. Assumes nothing.
 use Prim.Native.Nat.{ℕ, _+_, _≤_, _<_}
 use mathlib.Core.Path.{_≡_}
 use mathlib.Core.List.{List}
@@ -62,16 +62,26 @@ pub record LoadWrites (file before after : List ℕ) (printed : ℕ) : Type 0 wh
 abbrev pub KEPT : ℕ
 KEPT = LONGEST + 1
 
--- An input was read into a buffer of so many bytes. Where they are fewer, the last read gave none: the input had ended,
--- or the read failed.
+-- More of an input was read behind the first so many bytes of a buffer, which stay. Where the buffer is not full, the
+-- last read gave nothing: the input had ended, or the read failed.
+pub record ReadsOn (before after : List ℕ) (count₀ count got : ℕ) : Type 0 where
+  pub same-length : length after ≡ length before
+  pub stay : take count₀ after ≡ take count₀ before
+  pub more : count₀ ≤ count
+  pub few : count ≤ KEPT
+  pub last : got ≤ count
+  pub ended : count < KEPT → got ≡ 0
+
+-- An input was read into a buffer of so many bytes. Where they are fewer, the last read gave none.
 pub record ReadsInput (g : Given) : Type 0 where
   pub room : length (g .bytes) ≡ KEPT
   pub few : g .count ≤ KEPT
   pub last : g .got ≤ g .count
   pub ended : g .count < KEPT → g .got ≡ 0
 
--- And this is printed of the bytes that were read.
+-- And this is printed of the bytes that were read: as many bytes were shown, or lost because they could not be written.
 pub record LoadsInput (r : Listed) : Type 0 where
   pub read : ReadsInput (r .given)
   pub few : r .printed ≤ length (r .out)
   pub lines : LoadPrints (take (r .given .count) (r .given .bytes)) (take (r .printed) (r .out))
+  pub told : r .shown + r .lost ≡ r .printed

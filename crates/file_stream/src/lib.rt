@@ -12,16 +12,21 @@ use stream::Last;
 use stream::leave_input;
 use stream::read_some;
 use stream::write_out;
+ghost use Prim.Native.Nat.{_≤_, _<_};
 ghost use mathlib.Core.Path.{_≡_};
+ghost use lib.ListN.{length, take};
 ghost use Rattle.file_stream.specs.Saves.{countOf, SavesInput};
-ghost use Rattle.file_stream.specs.Loads.{LoadWrites, ReadsInput, LoadsInput};
+ghost use Rattle.file_stream.specs.Loads.{KEPT, LoadWrites, ReadsOn, LoadsInput};
 
 // What a sheet left and what was saved of it: the reply to its last line, with the table after it; a buffer, and how
-// many of its bytes are that table's file.
+// many of its bytes are that table's file; how many were shown, and how many were lost because they could not be
+// written.
 pub struct Saved {
     pub last: Last,
     pub bytes: [u8; LONGEST],
     pub count: usize,
+    pub shown: usize,
+    pub lost: usize,
 }
 
 // An input as far as it was read: a buffer, how many of its bytes were read, and how many of these the last read gave.
@@ -36,11 +41,14 @@ impl Given {
     pub const KEPT: usize = LONGEST + 1;
 }
 
-// What was printed of an input: a buffer, and how many of its bytes these are.
+// What was printed of an input: a buffer, and how many of its bytes these are; how many were shown, and how many were
+// lost because they could not be written.
 pub struct Listed {
     pub given: Given,
     pub out: [u8; Listed::ROOM],
     pub printed: usize,
+    pub shown: usize,
+    pub lost: usize,
 }
 
 impl Listed {
@@ -59,7 +67,8 @@ fn count_of(answer: ListAnswer) -> usize
 }
 
 // Reads a sheet to its end, showing no reply, and saves the table after its last line. By the law `saved-book`
-// (proofs/Books.antt) that is the file of the plain book's pages after the calls that the sheet's lines are.
+// (proofs/Books.antt) that is the file of the plain book's pages after the calls that the sheet's lines are. It is
+// written on standard output, and nothing else is.
 pub fn save_input() -> Saved
     ensures { λ r. ⌜ SavesInput r ⌝ }
 {
@@ -69,20 +78,21 @@ pub fn save_input() -> Saved
     let mut bytes: [u8; LONGEST] = [0; LONGEST];
     let answer = save(table, &mut bytes);
     let count = count_of(answer);
+    let mut shown: usize = 0;
+    let mut lost: usize = 0;
+    write_out(&bytes[..count], &mut shown, &mut lost);
     Saved {
         last: last,
         bytes: bytes,
         count: count,
+        shown: shown,
+        lost: lost,
     }
 }
 
-// The whole of the saving program: the file on standard output. No contract can say that these bytes are written, and
-// nothing else.
+// The whole of the saving program: what `save_input` hands back is for its contract alone.
 pub fn save_run() {
-    let saved = save_input();
-    let bytes = saved.bytes;
-    let n = saved.count;
-    write_out(&bytes[..n]);
+    save_input();
 }
 
 // What is printed of any bytes, from the start of the buffer: the labels of the table that they record, or `refused`
@@ -103,45 +113,55 @@ pub fn load_lines(bytes: &[u8], out: &mut [u8]) -> usize
     }
 }
 
-// Reads until the buffer is full, the input ends or a read fails.
-fn read_input() -> Given
-    ensures { λ r. ⌜ ReadsInput r ⌝ }
+// Reads on behind the bytes that were read before, until the buffer is full, the input ends or a read fails.
+fn read_on(bytes: &mut [u8], count: &mut usize, got: &mut usize)
+    requires { ⌜ (length (now bytes) ≡ KEPT) × (now count ≤ KEPT) × (0 < now got) × (now got ≤ KEPT) ⌝ }
+    ensures { λ _. ⌜ ReadsOn (now (bytes .entry)) (now (bytes .exit)) (now (count .entry)) (now (count .exit)) (now (got .exit)) ⌝ }
+{
+    while *got > 0 && *count < Given::KEPT {
+        let n = *count;
+        read_some(&mut bytes[n..], Given::KEPT, count, got);
+    }
+}
+
+// Reads on, and says what is printed of all that was read.
+fn load_on(bytes: &mut [u8], count: &mut usize, got: &mut usize, out: &mut [u8]) -> usize
+    requires { ⌜ (length (now bytes) ≡ KEPT) × (now count ≤ KEPT) × (0 < now got) × (now got ≤ KEPT) ⌝ }
+    ensures { λ _. ⌜ ReadsOn (now (bytes .entry)) (now (bytes .exit)) (now (count .entry)) (now (count .exit)) (now (got .exit)) ⌝ }
+    ensures { λ r. ⌜ LoadWrites (take (now (count .exit)) (now (bytes .exit))) (now (out .entry)) (now (out .exit)) r ⌝ }
+{
+    read_on(bytes, count, got);
+    let all = *count;
+    load_lines(&bytes[..all], out)
+}
+
+// Reads an input and prints the lines of it on standard output. Of an input longer than a file no more is read than
+// shows that: what is printed is the same, `refused 16` (the laws `longer-16` and `first-bytes`, proofs/Books.antt).
+pub fn load_input() -> Listed
+    ensures { λ r. ⌜ LoadsInput r ⌝ }
 {
     let mut bytes: [u8; Given::KEPT] = [0; Given::KEPT];
     let mut count: usize = 0;
     let mut got: usize = 1;
-    while got > 0 && count < Given::KEPT {
-        got = read_some(&mut bytes[count..], Given::KEPT);
-        count += got;
-    }
-    Given {
-        bytes: bytes,
-        count: count,
-        got: got,
-    }
-}
-
-// Reads an input and says what is printed of it. Of an input longer than a file no more is read than shows that: what
-// is printed is the same, `refused 16` (the laws `longer-16` and `first-bytes`, proofs/Books.antt).
-pub fn load_input() -> Listed
-    ensures { λ r. ⌜ LoadsInput r ⌝ }
-{
-    let given = read_input();
-    let bytes = given.bytes;
-    let n = given.count;
     let mut out: [u8; Listed::ROOM] = [0; Listed::ROOM];
-    let printed = load_lines(&bytes[..n], &mut out);
+    let printed = load_on(&mut bytes, &mut count, &mut got, &mut out);
+    let mut shown: usize = 0;
+    let mut lost: usize = 0;
+    write_out(&out[..printed], &mut shown, &mut lost);
     Listed {
-        given: given,
+        given: Given {
+            bytes: bytes,
+            count: count,
+            got: got,
+        },
         out: out,
         printed: printed,
+        shown: shown,
+        lost: lost,
     }
 }
 
-// The whole of the loading program: the lines on standard output. No contract can say that they are written.
+// The whole of the loading program: what `load_input` hands back is for its contract alone.
 pub fn load_run() {
-    let listed = load_input();
-    let out = listed.out;
-    let n = listed.printed;
-    write_out(&out[..n]);
+    load_input();
 }

@@ -3,29 +3,34 @@
 use Prim.Native.Nat.{ℕ, _-_, _≤_, _<_}
 use native.Mathlib.Omega.{arith}
 use mathlib.Core.Path.{_≡_, refl, sym, _∙_}
-use mathlib.Core.List.{List, []}
 use lib.ListN.{length, take, drop}
-use Rattle.judging.specs.Judging.{ROOM}
-use Rattle.feed.specs.Sheets.{Pieces, none}
-use Rattle.passing.proofs.Keeping.{apart}
-use Rattle.stream.proofs.Parts.{first-part, part-length, pieces-more}
+use Rattle.stream.proofs.Parts.{PieceSoFar, part-length, piece-start, piece-more, piece-over}
 use borrow.Author.Needs.{needs}
 use borrow.Author.Tests.{ltb-true, ltb-false}
 use Rattle.stream.proofs.answer.Statement.{statement}
 use Rattle.stream.proofs.answer.Tie as tie
 
 abbrev Inv-loop : tie.InvT-loop
-Inv-loop input out₀ shown s₀ from₀ written₀ out s from written =
-    (from ≤ length input) × (ROOM ≤ length out) × (length out ≡ length out₀)
-    × ((printed : List ℕ) × Pieces s₀ (take from input) printed s)
+Inv-loop input out₀ showing shown₀ lost₀ s₀ from₀ out shown lost s from =
+    (length out ≡ length out₀) × PieceSoFar s₀ showing input (length out) shown₀ shown lost s from
 
 abbrev μ-loop : tie.MeasureT-loop
-μ-loop input out₀ shown s₀ from₀ written₀ out s from written = length input - from
+μ-loop input out₀ showing shown₀ lost₀ s₀ from₀ out shown lost s from = length input - from
+
+-- A turn reads at least a byte.
+some : (c : tie.After-feed Inv-loop μ-loop) → 0 < c .feed .result .read
+some c =
+    let test = c .before .before .before in
+    let top = test .before .before in
+    let input = top .before .before .before .args .input .now in
+    let size = part-length (top .loop .from) input in
+    let here = ltb-true (top .loop .from) _ (test .if1 .taken) in
+    c .feed .ensures .1 .1 (omega (arith, size, here)) (omega (arith, top .loop .inv .1 .space))
 
 loop-holds : tie.Need-loop-holds Inv-loop μ-loop
 loop-holds c =
     let s = c .before .before in
-    (omega arith, s .pre, refl, ([], none))
+    (refl, piece-start _ _ _ _ (s .pre .0) (s .pre .2))
 
 sub-feed : tie.Need-sub-feed Inv-loop μ-loop
 sub-feed c = search needs
@@ -39,44 +44,36 @@ part-feed-end c = search needs
 feed-requires : tie.Need-feed-requires Inv-loop μ-loop
 feed-requires c κs = tt
 
-slice-reshare-prefix-show : tie.Need-slice-reshare-prefix-show Inv-loop μ-loop
-slice-reshare-prefix-show c = search needs
-
-slice-aggregate-show : tie.Need-slice-aggregate-show Inv-loop μ-loop
-slice-aggregate-show c =
-    let f = c .before .before .before .feed .ensures .0 in
-    first-part _ _ (omega (arith, f .printed, f .same-length))
-
 show-requires : tie.Need-show-requires Inv-loop μ-loop
-show-requires c κs = tt
+show-requires c κs =
+    let fed = c .before .before .before .before .before in
+    let test = fed .before .before .before in
+    let top = test .before .before in
+    let so-far = top .loop .inv .1 in
+    let f = fed .feed .ensures .0 in
+    let here = ltb-true (top .loop .from) _ (test .if1 .taken) in (
+      omega (arith, f .printed, f .same-length),
+      omega (arith, f .printed, so-far .space, so-far .most, top .before .before .before .pre .1, here),
+      test .before .loop-test .taken,
+    )
 
 add-from : tie.Need-add-from Inv-loop μ-loop
 add-from c = search needs
 
 loop-less : tie.Need-loop-less Inv-loop μ-loop
 loop-less c =
-    let fed = c .before .before .before .before .before .before in
-    let test = fed .before .before .before in
-    let top = test .before .before in
-    let l = top .loop in
-    let f = fed .feed .ensures in
-    let input = top .before .before .before .args .input .now in
-    let size = part-length (l .from) input in
-    let here = ltb-true (l .from) _ (test .if1 .taken) in
-    let some : 0 < length (take (length input - l .from) (drop (l .from) input)) = omega (arith, size) in
-    omega (arith, f .1 .1 some (l .inv .1), f .0 .read, size)
+    let fed = c .before .before .before .before .before .before .before .before in
+    let top = fed .before .before .before .before .before in
+    let size = part-length (top .loop .from) (top .before .before .before .args .input .now) in
+    omega (arith, some fed, fed .feed .ensures .0 .read, size)
 
 loop-again : tie.Need-loop-again Inv-loop μ-loop
 loop-again c =
-    let fed = c .before .before .before .before .before .before in
-    let top = fed .before .before .before .before .before in
-    let l = top .loop in
-    let f = fed .feed .ensures .0 in
-    let input = top .before .before .before .args .input .now in (
-      omega (arith, f .read, part-length (l .from) input),
-      omega (arith, l .inv .1, f .same-length),
-      f .same-length ∙ l .inv .2,
-      pieces-more input (l .from) (l .inv .3 .1) f,
+    let fed = c .before .before .before .before .before .before .before .before in
+    let l = fed .before .before .before .before .before .loop in
+    let f = fed .feed .ensures .0 in (
+      f .same-length ∙ l .inv .0,
+      piece-more _ (l .inv .1) (fed .before .before .before .before .loop-test .taken) f (some fed) (c .before .before .show .ensures),
     )
 
 same-length : tie.Need-same-length Inv-loop μ-loop
@@ -86,22 +83,13 @@ returns : tie.Need-returns Inv-loop μ-loop
 returns c =
     let l = c .before .before .loop in
     let left = ltb-false (l .from) _ (c .if1 .left) in
-    let input = c .before .before .before .before .before .args .input .now in
-    let whole : l .from ≡ length input = omega (arith, l .inv .0, left) in
-    record { printed = l .inv .3 .0; few = l .inv .0; pieces = l .inv .3 .1; whole = λ e. whole }
+    piece-over (l .inv .1) (λ e. omega (arith, l .inv .1 .few, left))
 
 same-length-2 : tie.Need-same-length-2 Inv-loop μ-loop
 same-length-2 c = search needs
 
 returns-2 : tie.Need-returns-2 Inv-loop μ-loop
-returns-2 c =
-    let l = c .before .loop in
-    record {
-      printed = l .inv .3 .0;
-      few = l .inv .0;
-      pieces = l .inv .3 .1;
-      whole = λ e. absurd (apart (sym e ∙ c .loop-test .left));
-    }
+returns-2 c = piece-over (c .before .loop .inv .1) (λ e. absurd (omega (arith, e, c .loop-test .left)))
 
 pub answer-spec : {M : Type 1} → statement M
 answer-spec =
@@ -114,8 +102,6 @@ answer-spec =
     part-feed-start
     part-feed-end
     feed-requires
-    slice-reshare-prefix-show
-    slice-aggregate-show
     show-requires
     add-from
     loop-less

@@ -1,6 +1,9 @@
 -- `stream::answer_from` meets its contract. Assumes nothing.
 use native.Mathlib.Omega.{arith}
-use Rattle.stream.proofs.Parts.{first-part, last-answered}
+use mathlib.Core.Path.{_≡_, refl, sym, _∙_}
+use lib.ListN.{length}
+use Rattle.stream.specs.Answered.{SPACE}
+use Rattle.stream.proofs.Parts.{last-shown, last-failed}
 use borrow.Author.Needs.{needs}
 use Rattle.stream.proofs.answer_from.Statement.{statement}
 use Rattle.stream.proofs.answer_from.Tie as tie
@@ -12,7 +15,12 @@ slice-aggregate-answer-lines : tie.Need-slice-aggregate-answer-lines
 slice-aggregate-answer-lines c = search needs
 
 answer-lines-requires : tie.Need-answer-lines-requires
-answer-lines-requires c κs = search needs
+answer-lines-requires c κs =
+    (sym (c .before .before .before .before .before .large-buffer .ensures), (omega arith, omega arith, omega arith, refl))
+
+-- The buffer that was lent.
+size : (c : tie.After-answer-lines) → length (c .answer-lines .last .1 .0) ≡ SPACE
+size c = c .answer-lines .kept .1 .0 ∙ sym (c .before .before .before .before .before .before .large-buffer .ensures)
 
 slice-aggregate-reply-at : tie.Need-slice-aggregate-reply-at
 slice-aggregate-reply-at c = search needs
@@ -20,30 +28,32 @@ slice-aggregate-reply-at c = search needs
 reply-at-requires : tie.Need-reply-at-requires
 reply-at-requires c κs = tt
 
-array-share-prefix-out : tie.Need-array-share-prefix-out
-array-share-prefix-out c =
-    let r = c .before .before .reply-at .ensures in
-    omega (arith, r .inside (omega arith), r .same-length)
-
 slice-aggregate-show : tie.Need-slice-aggregate-show
-slice-aggregate-show c =
-    let r = c .before .before .before .reply-at .ensures in
-    first-part _ _ (omega (arith, r .inside (omega arith), r .same-length))
+slice-aggregate-show c = search needs
 
 show-requires : tie.Need-show-requires
-show-requires c κs = tt
+show-requires c κs =
+    let reply = c .before .before .before .before .before in
+    let lines = reply .before .before .before .before .answer-lines .ensures in
+    let r = reply .reply-at .ensures in
+    let here = r .inside (omega arith) in (
+      omega (arith, here, r .same-length),
+      omega (arith, here, lines .most, lines .few, size (reply .before .before .before .before)),
+      c .before .before .before .if1 .taken,
+    )
 
 returns : tie.Need-returns
 returns c =
-    let reply = c .before .before .before .before in
+    let reply = c .before .before .before .before .before .before in
     let lines = reply .before .before .before .before in
-    last-answered (lines .answer-lines .ensures) (reply .reply-at .ensures) (search needs)
+    last-shown (lines .answer-lines .ensures) (c .before .before .before .before .if1 .taken) (reply .reply-at .ensures) (size lines)
+    (c .show .ensures)
 
 returns-2 : tie.Need-returns-2
 returns-2 c =
     let reply = c .before .before in
     let lines = reply .before .before .before .before in
-    last-answered (lines .answer-lines .ensures) (reply .reply-at .ensures) (search needs)
+    last-failed (lines .answer-lines .ensures) (omega (arith, c .if1 .left)) (reply .reply-at .ensures) (size lines)
 
 pub answer-from-spec : {M : Type 1} → statement M
 answer-from-spec =
@@ -54,7 +64,6 @@ answer-from-spec =
     answer-lines-requires
     slice-aggregate-reply-at
     reply-at-requires
-    array-share-prefix-out
     slice-aggregate-show
     show-requires
     returns
