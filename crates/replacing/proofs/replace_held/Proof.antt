@@ -14,7 +14,7 @@ use Rattle.table.specs.Questions.{ruleFrom}
 use Rattle.questions.proofs.Refusals.{none-refused}
 use Rattle.calls.specs.Contracts.{held}
 use Rattle.calls.proofs.Sizes.{table-sized, rule-sized}
-use Rattle.add_remove.proofs.Sizes.{labels-sized}
+use Rattle.labels.proofs.Sizes.{labels-sized}
 use Rattle.replacing.proofs.Ends.{handed-back, refused-early, rest-told, put-behind, refused-same}
 use Rattle.replacing.proofs.Ends.{bounded-changed, refused-cycle, replace-ends}
 use Rattle.replacing.proofs.replace_held.Statement.{statement}
