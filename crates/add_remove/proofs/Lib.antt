@@ -1,5 +1,4 @@
 -- Laws behind the calls that change a table. Nothing here needs to be believed.
-pub mod Sizes
 pub mod OneSlot
 pub mod Putting
 pub mod Adding

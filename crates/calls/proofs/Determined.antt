@@ -17,6 +17,7 @@ use Rattle.theory.specs.Limits.{document}
 use Rattle.theory.proofs.Lists.{every-at, not-true, clash, eqb-of}
 use Rattle.theory.proofs.Questions.{first-no-asked}
 use Rattle.theory.proofs.Explanations.{lists-unique, reason-unique}
+use Rattle.theory.proofs.Labels.{one-model, same-label}
 use Rattle.table.specs.declared.Table.{Table}
 use Rattle.table.specs.Labels.{labelAt}
 use Rattle.table.specs.Sound.{Sound}
@@ -43,7 +44,7 @@ use Rattle.calls.specs.Contracts.{held, AddEnds, ChangeEnds, RemoveEnds,
 use Rattle.calls.specs.Contracts.{SpoilerEnds, ListEnds}
 use Rattle.calls.specs.Contracts.{JustificationsEnd, ConsequencesEnd, RepercussionsEnd, ReasonEnds}
 use Rattle.calls.specs.Contracts.{SaveEnds, LoadEnds}
-use Rattle.calls.proofs.OneTable.{one-model, table-unique, same-label}
+use Rattle.calls.proofs.OneTable.{table-unique}
 use Rattle.refusals.proofs.Refusals.{refusalOf, refusal-number}
 
 -- A refusal by questions that do not ask 11 is determined by its number.

@@ -11,15 +11,11 @@ use lib.ListN.{length, getD, take, drop, length-map, List·getD-map, length-drop
 use lib.Seq.{ext-getD, getD-take, getD-drop, length-take-le}
 use Rattle.theory.specs.Rules.{Page, Pages, all, active, rule-on}
 use Rattle.theory.specs.Rules as theory
-use Rattle.theory.specs.Models.{AtomSet, Admissible}
-use Rattle.theory.specs.Dependencies.{NegativeCycle}
+use Rattle.theory.specs.Models.{Admissible}
 use Rattle.theory.specs.Labels.{Labelled}
-use Rattle.theory.specs.Labels as theory-labels
 use Rattle.theory.specs.Limits.{document}
 use Rattle.theory.proofs.Lists.{le-or-lt}
-use Rattle.theory.proofs.Pages.{active-acyclic}
-use Rattle.theory.proofs.Strata.{acyclic-strata, rules-below, model-unique}
-use Rattle.theory.proofs.Labels.{label-unique, label-moves}
+use Rattle.theory.proofs.Labels.{same-label}
 use Rattle.table.specs.declared.Atom.{Atom}
 use Rattle.table.specs.declared.Rule.{Rule}
 use Rattle.table.specs.declared.Table.{Table}
@@ -126,20 +122,6 @@ module _ (q r : Rule) (C : CleanRule q) (D : CleanRule r) (L : length (q .entrie
         D .known,
         sym (page-state (q .state) (ruleOf q)) ∙ ap state-of e ∙ page-state (r .state) (ruleOf r),
       )
-
--- Where all rules held have no negative cycle, the unmuted ones have one admissible model.
-pub one-model :
-    (B : Pages) → (NegativeCycle (all B) → ⊥) → (M N : AtomSet) → Admissible (active B) M → Admissible (active B) N
-    → (x : ℕ) → M x ≡ N x
-one-model B free =
-    model-unique (active B) (rules-below (active B)) (acyclic-strata (active B) (active-acyclic B free))
-
--- The label of an atom is the same by any admissible model.
-pub same-label :
-    (B : Pages) (M N : AtomSet) (a : ℕ) (k l : theory-labels.Label) → (NegativeCycle (all B) → ⊥)
-    → Admissible (active B) M → Admissible (active B) N → Labelled B M a k → Labelled B N a l → k ≡ l
-same-label B M N a k l free A D K L =
-    label-unique B N (D .founded) a k l (label-moves B M N (one-model B free M N A D) a k K) L
 
 -- Two sound tables that hold the same rules with the same marks are equal. Idea: slots are clean, so a page tells every
 -- field of its slot (`slot-equal`); both tables' labels are those of the one model of the same rules (`same-label`), and

@@ -41,7 +41,7 @@ use Rattle.calls.specs.Answers.{bookChange, tellLabel, tellPage}
 use Rattle.calls.specs.Contracts as contract
 use Rattle.calls.specs.Contracts.{held, ChangeEnds, LabelEnds, SpoilerEnds}
 use Rattle.calls.proofs.Asking.{slot-asked}
-use Rattle.calls.proofs.OneTable.{one-model}
+use Rattle.theory.proofs.Labels.{one-model}
 use Rattle.calls.proofs.Determined.{label-determined, spoiler-determined}
 use Rattle.checklist_meaning.specs.Book.{opening, of-file, checklistAnswer, checklistAfter}
 use Rattle.checklist_meaning.specs.Book as list-book

@@ -3,3 +3,4 @@ pub mod Visits
 pub mod Rounds
 pub mod Top
 pub mod Shown
+pub mod Sizes

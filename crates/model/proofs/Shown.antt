@@ -4,11 +4,11 @@ use Prim.Native.Nat.{ℕ, suc, _≤_}
 use mathlib.Core.Path.{_≡_}
 use mathlib.Core.Bool.{true}
 use mathlib.Core.Logic.{_↔_}
-use Rattle.theory.specs.Rules.{active, all, Pages}
+use Rattle.theory.specs.Rules.{all, Pages}
 use Rattle.theory.specs.Dependencies.{NegativeCycle, Stratum}
 use Rattle.theory.specs.Rounds.{GreatestDepth, RoundsWithin}
-use Rattle.theory.proofs.Strata.{acyclic-strata, lowest-stratum, model-unique, rules-below, stratum-below}
-use Rattle.theory.proofs.Pages.{active-acyclic}
+use Rattle.theory.proofs.Strata.{lowest-stratum, stratum-below}
+use Rattle.theory.proofs.Labels.{one-model}
 use Rattle.theory.proofs.Bounds.{greatest-unique, told-stratum, told-unique, told-within}
 use Rattle.table.specs.Sets.{member, number}
 use Rattle.model.specs.declared.Search.{Search}
@@ -54,7 +54,6 @@ pub search-determined :
     → ((a : ℕ) → member (r .found) a ≡ member (q .found) a)
     × ((k : ℕ) → number (r .rounds) k ≡ number (q .rounds) k)
 search-determined B free r q R Q = (
-  model-unique (active B) (rules-below (active B)) (acyclic-strata (active B) (active-acyclic B free))
-      (member (r .found)) (member (q .found)) (R .model) (Q .model),
+  one-model B free (member (r .found)) (member (q .found)) (R .model) (Q .model),
   (λ k. told-unique B k (number (r .rounds) k) (number (q .rounds) k) (R .rounds k) (Q .rounds k)),
 )

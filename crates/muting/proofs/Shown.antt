@@ -21,7 +21,7 @@ use Rattle.theory.proofs.Found.{ordered-rule}
 use Rattle.theory.proofs.Questions.{held-below, never-refused}
 use Rattle.theory.proofs.Pages.{active-acyclic, active-occurs, all-length, all-set, held-page, mark-again, mark-set}
 use Rattle.theory.proofs.Pages.{muted-freed, page-held, set-mark}
-use Rattle.theory.proofs.Labels.{label-unique}
+use Rattle.theory.proofs.Labels.{label-unique, same-label}
 use Rattle.theory.proofs.Removal.{freed}
 use Rattle.theory.proofs.Replacing.{old-rule}
 use Rattle.table.specs.declared.Table.{Table}
@@ -33,7 +33,7 @@ use Rattle.calls.specs.declared.ChangeAnswer.the-variants as changed
 use Rattle.calls.specs.Contracts as contract
 use Rattle.calls.specs.Contracts.{held, Sized, RemoveEnds, MuteEnds}
 use Rattle.calls.proofs.Asking.{slot-asked}
-use Rattle.calls.proofs.OneTable.{same-label, table-unique}
+use Rattle.calls.proofs.OneTable.{table-unique}
 use Rattle.calls.proofs.Determined.{both}
 
 -- Unmuting never meets 7, nor does muting: it is not asked.

@@ -19,5 +19,5 @@ pub probe-shown :
     → RoundsWithin (bookOf (t .rules)) M k (number (r .rounds) k)
 probe-shown t r (not-fit f) e M A a k S = absurd (omega arith)
 probe-shown t r (no-strata f c) e M A a k S = absurd (omega arith)
-probe-shown t r (counted rounds f free told) e M A a k S =
+probe-shown t r (counted rounds f free long told) e M A a k S =
     told-within (bookOf (t .rules)) M A a k (number rounds k) S (told k)

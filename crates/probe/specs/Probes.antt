@@ -2,7 +2,7 @@
 use Prim.Native.Nat.{ℕ, suc, _<_}
 use mathlib.Core.Path.{_≡_}
 use mathlib.Core.List.{List}
-use lib.ListN.{getD, replicate}
+use lib.ListN.{getD, length, replicate}
 use Rattle.theory.specs.Models.{AtomSet}
 use Rattle.theory.specs.Dependencies.{NegativeCycle}
 use Rattle.theory.specs.Limits.{document}
@@ -27,12 +27,14 @@ pub record RulesFit (t : Table) : Type 0 where
   pub slots : (s : ℕ) → s < document .slots → WellFormed (getD (t .rules) s pastRule)
   pub single : Single (programOf (t .rules))
 
--- The table with the labels of its rules; or as it came, where they do not fit (15) or have a negative cycle (7).
+-- The table with the labels of its rules, which have no negative cycle; or as it came, where they do not fit (15) or have
+-- one (7).
 pub data LabelsProbe (t : Table) : Relabelled → Type 0 where
   unfit : (RulesFit t → ⊥) → LabelsProbe t (record { refused = 15; table = t })
   cyclic : RulesFit t → NegativeCycle (programOf (t .rules)) → LabelsProbe t (record { refused = 7; table = t })
   labelled :
-      (M : AtomSet) (u : Table) → RulesFit t → u .rules ≡ t .rules → Labels (bookOf (u .rules)) M (u .labels)
+      (M : AtomSet) (u : Table) → RulesFit t → (NegativeCycle (programOf (t .rules)) → ⊥) → u .rules ≡ t .rules
+      → length (u .labels) ≡ document .atoms → Labels (bookOf (t .rules)) M (u .labels)
       → LabelsProbe t (record { refused = 0; table = u })
 
 -- No rounds of any layer.
@@ -46,5 +48,5 @@ pub data RoundsProbe (t : Table) : RoundsCounted → Type 0 where
       RulesFit t → NegativeCycle (programOf (t .rules)) → RoundsProbe t (record { refused = 7; rounds = no-rounds })
   counted :
       (rounds : List ℕ) → RulesFit t → (NegativeCycle (programOf (t .rules)) → ⊥)
-      → ((k : ℕ) → RoundsTold (bookOf (t .rules)) k (number rounds k))
+      → length rounds ≡ suc (document .slots) → ((k : ℕ) → RoundsTold (bookOf (t .rules)) k (number rounds k))
       → RoundsProbe t (record { refused = 0; rounds = rounds })

@@ -140,8 +140,8 @@ pub record CopiedBelow (ys : ℕ → List ℕ) (n i : ℕ) (counts entries : Lis
   pub copied : (a : ℕ) → a < i → (j : ℕ) → j < length (ys a) → number entries (entryIndex a j) ≡ getD (ys a) j 0
 
 module _ (ys : ℕ → List ℕ) (n : ℕ) where
-  pub copied-start : CopiedBelow ys n 0 (replicate n 0) (replicate (n * document .entries) 0)
-  copied-start =
+  pub entries-start : CopiedBelow ys n 0 (replicate n 0) (replicate (n * document .entries) 0)
+  entries-start =
       record {
         counted = copying-start (λ a. length (ys a)) n;
         long = length-replicate (n * document .entries) 0;
@@ -151,19 +151,19 @@ module _ (ys : ℕ → List ℕ) (n : ℕ) where
 
   module _ (i : ℕ) (l : i < n) (counts entries : List ℕ) (k : CopiedBelow ys n i counts entries) where
     -- The array has room for entries of atom i.
-    pub copied-room : n ≡ document .atoms → (m : ℕ) → m ≤ document .entries → Fits m (i * document .entries) entries
-    copied-room e m h =
+    pub entries-room : n ≡ document .atoms → (m : ℕ) → m ≤ document .entries → Fits m (i * document .entries) entries
+    entries-room e m h =
         record {
           few = h;
           long = k .long ∙ ap (λ z. z * document .entries) e;
           fits = omega (arith, k .long);
         }
 
-    pub copied-next :
+    pub entries-next :
         (xs : List Atom) (m : ℕ) (after : List ℕ) → m ≡ length (ys i) → m ≤ document .entries
         → ((j : ℕ) → j < length (ys i) → getD (ys i) j 0 ≡ getD xs j noAtom .0)
         → CopiedTo xs m (i * document .entries) entries after → CopiedBelow ys n (i + 1) (set counts i m) after
-    copied-next xs m after e h at c =
+    entries-next xs m after e h at c =
         record {
           counted = copying-next (λ a. length (ys a)) n i counts m l e (k .counted);
           long = c .long ∙ k .long;
@@ -180,10 +180,10 @@ module _ (ys : ℕ → List ℕ) (n : ℕ) where
               (le-or-lt i a);
         }
 
-  pub copied-end :
+  pub entries-end :
       (i : ℕ) (counts entries : List ℕ) → n ≤ i → ((a : ℕ) → n ≤ a → ys a ≡ []) → CopiedBelow ys n i counts entries
       → (a : ℕ) → EntriesCopied (ys a) counts entries a
-  copied-end i counts entries l past k a =
+  entries-end i counts entries l past k a =
       record {
         counted = copying-end (λ b. length (ys b)) n i counts l (λ b h. ap length (past b h)) (k .counted) a;
         copied = λ j b. ⊎-elim

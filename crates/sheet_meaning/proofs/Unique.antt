@@ -18,7 +18,7 @@ use Rattle.calls.specs.declared.ListAnswer.{ListAnswer}
 use Rattle.refusals.specs.declared.Refusal.the-variants.{TableUnsound}
 use Rattle.refusals.specs.Refusals.{numberOf}
 use Rattle.calls.specs.Contracts.{held, AddEnds, RemoveEnds, ReplaceEnds, ReasonEnds}
-use Rattle.calls.proofs.OneTable.{same-label}
+use Rattle.theory.proofs.Labels.{same-label}
 use Rattle.calls.proofs.Determined.{add-determined, remove-determined, replace-determined, reason-determined}
 use Rattle.sheet_lines.specs.Commands as sheet
 use Rattle.sheet_lines.specs.Readings.{Line, is-blank, too-long, no-command, is, reading}

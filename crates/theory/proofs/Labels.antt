@@ -12,6 +12,7 @@ use mathlib.Core.Option.{Option, none, some, Option·some-injective, Option·non
 use Rattle.theory.specs.Lists.{_∈_, before, every, first, FirstAt}
 use Rattle.theory.specs.Rules.{active, all, entries, Occurs, Pages, passes, Program, Rule}
 use Rattle.theory.specs.Models.{AtomSet, Founded, Admissible, valid}
+use Rattle.theory.specs.Dependencies.{NegativeCycle}
 use Rattle.theory.specs.Derivations.{Depth}
 use Rattle.theory.specs.Questions.{is-in-label}
 use Rattle.theory.specs.Labels.{absent, in-at, is-absent, is-in, is-out, Label, Labelled, out}
@@ -22,7 +23,8 @@ use Rattle.theory.proofs.Lists.{first-exists, first-in, first-none, fir
 use Rattle.theory.proofs.Lists.{not-false, not-true, test, unless}
 use Rattle.theory.proofs.Rules.{occurs-at, occurs-of, occurs-test, passes-at, rules-at, valid-negative, valid-of}
 use Rattle.theory.proofs.Rules.{valid-positive}
-use Rattle.theory.proofs.Pages.{active-occurs}
+use Rattle.theory.proofs.Strata.{acyclic-strata, model-unique, rules-below}
+use Rattle.theory.proofs.Pages.{active-acyclic, active-occurs}
 use Rattle.theory.proofs.Derivations.{entry, last}
 use Rattle.theory.proofs.Found.{ordered-rule}
 use Rattle.theory.proofs.Depths.{depth-unique, derived-within, in-depth, within, within-depth}
@@ -153,6 +155,20 @@ label-unique B M F a k l (is-in t D S) (is-in u E R) =
 pub label-moves : (B : Pages) (M N : AtomSet) → ((x : ℕ) → M x ≡ N x) → (a : ℕ) (l : Label) → Labelled B M a l
     → Labelled B N a l
 label-moves B M N e a l w = subst (λ (X : AtomSet). Labelled B X a l) (fun-ext e) w
+
+-- Where all rules held have no negative cycle, the unmuted ones have one admissible model.
+pub one-model :
+    (B : Pages) → (NegativeCycle (all B) → ⊥) → (M N : AtomSet) → Admissible (active B) M → Admissible (active B) N
+    → (x : ℕ) → M x ≡ N x
+one-model B free =
+    model-unique (active B) (rules-below (active B)) (acyclic-strata (active B) (active-acyclic B free))
+
+-- The label of an atom is the same by any admissible model.
+pub same-label :
+    (B : Pages) (M N : AtomSet) (a : ℕ) (k l : Label) → (NegativeCycle (all B) → ⊥)
+    → Admissible (active B) M → Admissible (active B) N → Labelled B M a k → Labelled B N a l → k ≡ l
+same-label B M N a k l free A D K L =
+    label-unique B N (D .founded) a k l (label-moves B M N (one-model B free M N A D) a k K) L
 
 -- Spoilers.
 

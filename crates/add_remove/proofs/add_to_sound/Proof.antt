@@ -16,7 +16,7 @@ use Rattle.add_remove.proofs.Putting.{same-told}
 use Rattle.add_remove.proofs.Adding.{refused-early, refused-same, refused-full, refused-cycle, bounded-changed}
 use Rattle.add_remove.proofs.Adding.{add-ends, handed-back}
 use Rattle.calls.proofs.Sizes.{table-sized, rule-sized}
-use Rattle.add_remove.proofs.Sizes.{labels-sized}
+use Rattle.labels.proofs.Sizes.{labels-sized}
 use borrow.Author.Needs.{needs}
 use Rattle.add_remove.proofs.add_to_sound.Statement.{statement}
 use Rattle.add_remove.proofs.add_to_sound.Tie as tie

@@ -2,7 +2,7 @@
 use Rattle.calls.proofs.Asking.{slot-passed, change-refused}
 use Rattle.add_remove.proofs.Removing.{bounded-rest, remove-ends}
 use Rattle.calls.proofs.Sizes.{table-sized}
-use Rattle.add_remove.proofs.Sizes.{labels-sized}
+use Rattle.labels.proofs.Sizes.{labels-sized}
 use borrow.Author.Needs.{needs}
 use Rattle.add_remove.proofs.remove.Statement.{statement}
 use Rattle.add_remove.proofs.remove.Tie as tie

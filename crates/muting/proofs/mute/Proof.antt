@@ -1,7 +1,7 @@
 -- `muting::mute` ends as its contract says. Assumes nothing.
 use Rattle.calls.proofs.Asking.{PassesSlot, slot-passed, change-refused}
 use Rattle.calls.proofs.Sizes.{rule-sized, table-sized}
-use Rattle.add_remove.proofs.Sizes.{labels-sized}
+use Rattle.labels.proofs.Sizes.{labels-sized}
 use Rattle.muting.proofs.Ends.{bounded-after-mark, muted-ends}
 use borrow.Author.Needs.{needs}
 use Rattle.muting.proofs.mute.Statement.{statement}

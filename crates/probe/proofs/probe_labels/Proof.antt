@@ -4,6 +4,7 @@ use lib.ListN.{length, length-map}
 use Rattle.theory.specs.Limits.{document}
 use Rattle.theory.proofs.Lists.{not-true, not-false}
 use Rattle.questions.proofs.Passes.{refused, granted}
+use Rattle.labels.proofs.Sizes.{labels-sized}
 use Rattle.sound.proofs.Soundness.{well-formed-bounded}
 use Rattle.probe.specs.Probes.{RulesFit, unfit, cyclic, labelled}
 use Rattle.probe.proofs.probe_labels.Statement.{statement}
@@ -38,7 +39,8 @@ returns-2 c = cyclic (fits (c .before .before .before .before .before))
 returns-3 : tie.Need-returns-3
 returns-3 c =
     let w = c .before .before .before .labels-of .ensures .acyclic (not-false _ (c .if2 .left)) in
-    labelled (w .1 .0) _ (fits (c .before .before .before .before .before)) refl (w .1 .1)
+    labelled (w .1 .0) _ (fits (c .before .before .before .before .before)) (w .0) refl
+    (labels-sized (c .before .before .before .labels-of .result) _ (c .before .before .before .labels-of .ok)) (w .1 .1)
 
 pub probe-labels-spec : {M : Type 1} → statement M
 probe-labels-spec = tie.close (tie.spec fit-requires returns labels-of-requires returns-2 returns-3)

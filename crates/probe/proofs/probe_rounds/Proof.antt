@@ -7,6 +7,7 @@ use Rattle.theory.proofs.Lists.{not-true, not-false}
 use Rattle.table.specs.Rules.{programOf}
 use Rattle.questions.proofs.Passes.{refused, granted}
 use Rattle.strata.proofs.Answer.{answer-acyclic}
+use Rattle.model.proofs.Sizes.{rounds-sized}
 use Rattle.sound.proofs.Soundness.{well-formed-bounded}
 use Rattle.probe.specs.Probes.{RulesFit, not-fit, no-strata, counted}
 use Rattle.probe.proofs.probe_rounds.Statement.{statement}
@@ -65,7 +66,8 @@ returns-3 c =
     let test = c .before .before .before in
     let told = test .before .before .before in
     counted _ (fits (told .before .before))
-    (answer-acyclic _ _ (told .strata .ensures) (not-false _ (test .if2 .left))) (c .before .in-atoms .ensures .rounds)
+    (answer-acyclic _ _ (told .strata .ensures) (not-false _ (test .if2 .left)))
+    (rounds-sized (c .before .in-atoms .result) _ (c .before .in-atoms .ok)) (c .before .in-atoms .ensures .rounds)
 
 pub probe-rounds-spec : {M : Type 1} → statement M
 probe-rounds-spec =

@@ -8,7 +8,7 @@ use Rattle.theory.specs.Limits.{document}
 use Rattle.table.specs.Rules.{pastRule}
 use Rattle.table.specs.Labels.{absentLabel}
 use Rattle.reason_atoms.specs.SupportEntries.{positivesAt}
-use Rattle.reason_atoms.proofs.SupportEntries.{CopiedBelow, copied-start, copied-room, copied-next, copied-end}
+use Rattle.reason_atoms.proofs.SupportEntries.{CopiedBelow, entries-start, entries-room, entries-next, entries-end}
 use Rattle.reason_atoms.proofs.SupportEntries.{past-positives, positive-at}
 use borrow.Author.Needs.{needs}
 use Rattle.reason_atoms.proofs.support_entries.Statement.{statement}
@@ -22,7 +22,7 @@ abbrev μ-loop : tie.MeasureT-loop
 μ-loop rules labels counts₀ entries₀ i₀ counts entries i = document .atoms - i
 
 loop-holds : tie.Need-loop-holds Inv-loop μ-loop
-loop-holds c = copied-start _ _
+loop-holds c = entries-start _ _
 
 mul-label : tie.Need-mul-label Inv-loop μ-loop
 mul-label c = search needs
@@ -48,7 +48,7 @@ mul-copy-entries c = search needs
 copy-entries-requires : tie.Need-copy-entries-requires Inv-loop μ-loop
 copy-entries-requires c κs =
     let at = c .before .before .before .before .before .before .loop in
-    copied-room _ _ (at .i) (omega arith) _ _ (at .inv) refl _ (c .before .entry-count .ensures .1)
+    entries-room _ _ (at .i) (omega arith) _ _ (at .inv) refl _ (c .before .entry-count .ensures .1)
 
 cast-counts : tie.Need-cast-counts Inv-loop μ-loop
 cast-counts c = omega (arith, c .before .before .entry-count .ensures .1)
@@ -72,7 +72,7 @@ loop-again c =
     let count = c .before .before .entry-count in
     let label = getD (s .args .t2) (at .i) absentLabel in
     let rule = getD (s .args .t1) (label .slot .0) pastRule in
-    copied-next _ _ (at .i) (omega arith) _ _ (at .inv) (rule .entries) _ _ (count .ensures .0) (count .ensures .1)
+    entries-next _ _ (at .i) (omega arith) _ _ (at .inv) (rule .entries) _ _ (count .ensures .0) (count .ensures .1)
     (positive-at label rule) (c .copy-entries .ensures)
 
 returns : tie.Need-returns Inv-loop μ-loop
@@ -80,7 +80,7 @@ returns c =
     let s = c .before .before in
     let at = c .before .loop in
     let long : length (s .args .t2) ≡ document .atoms = search needs in
-    copied-end _ _ (at .i) _ _ (omega arith) (past-positives (s .args .t2) _ long (s .args .t1)) (at .inv)
+    entries-end _ _ (at .i) _ _ (omega arith) (past-positives (s .args .t2) _ long (s .args .t1)) (at .inv)
 
 pub support-entries-spec : {M : Type 1} → statement M
 support-entries-spec =

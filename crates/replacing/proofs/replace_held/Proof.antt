@@ -14,7 +14,7 @@ use Rattle.table.specs.Questions.{ruleFrom}
 use Rattle.questions.specs.Asked.{firstNoTold}
 use Rattle.calls.specs.Contracts.{held}
 use Rattle.calls.proofs.Sizes.{table-sized, rule-sized}
-use Rattle.add_remove.proofs.Sizes.{labels-sized}
+use Rattle.labels.proofs.Sizes.{labels-sized}
 use Rattle.replacing.proofs.Ends.{handed-back, refused-early, rest-told, put-behind, refused-same}
 use Rattle.replacing.proofs.Ends.{bounded-changed, refused-cycle, replace-ends}
 use borrow.Author.Needs.{needs}
