@@ -178,8 +178,8 @@ pub same-label :
 same-label B M N a k l free A D K L =
     label-unique B N (D .founded) a k l (label-moves B M N (one-model B free M N A D) a k K) L
 
--- A sound table is determined by its pages. A slot is clean, so each of its fields is that of its page, or 0; a label is
--- clean and the defined one, and the pages have one admissible model, so that each atom has one label.
+-- A sound table is determined by its pages. A slot is clean, so each of its fields is that of its page, or 0; a label
+-- is clean and the defined one, and the pages have one admissible model, so that each atom has one label.
 pub table-unique : (t u : Table) → Sized t → Sized u → Sound t → Sound u → held t ≡ held u → t ≡ u
 table-unique t u Z Y S T e = λ i. record { rules = rules i; labels = labels i }
   where

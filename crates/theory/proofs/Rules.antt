@@ -14,6 +14,11 @@ use Rattle.theory.specs.Questions.{rules}
 use Rattle.theory.proofs.Lists.{and-l, and-of, and-r, every-at}
 use Rattle.theory.proofs.Lists.{every-of, false-not, in-mem, mem, mem-in, not-true, or-cases, or-l, or-r}
 
+-- A slot that passes a test of rules holds a rule that does.
+pub passes-at : (f : Rule → Bool) (o : Option Rule) → passes f o ≡ true → (r : Rule) × (o ≡ some r) × (f r ≡ true)
+passes-at f none t = absurd (true≢false (sym t))
+passes-at f (some r) t = (r, refl, t)
+
 -- Some rule held passes.
 
 pub any-rule-at : (f : Rule → Bool) (P : Program) → any-rule f P ≡ true
