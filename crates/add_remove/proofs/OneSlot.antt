@@ -1,5 +1,5 @@
--- A sound table with one slot changed: what its rules keep, that it is sound with their labels, and how a call ends that
--- changes it so. Assumes nothing.
+-- A sound table with one slot changed: what its rules keep, that it is sound with their labels, and how a call ends
+-- that changes it so. Assumes nothing.
 use Prim.Native.Nat.{ℕ, _<_}
 use native.Mathlib.Omega.{arith}
 use mathlib.Core.Path.{_≡_, refl, sym, _∙_, ap, subst}

@@ -101,8 +101,8 @@ add-determined t r x y u v (contract.accepted s w S d l Z h U) (contract.accepte
     let rules = h ∙ ap (λ (n : ℕ). set (held t) n (some (new-page r))) same ∙ sym i in
     (ap added.Taken slot, table-unique w z Z Y U W rules)
 
--- A call that answers that it was accepted, where its questions do not ask 11: the refusal is that of the first question
--- answered no, and the pages afterwards determine the table.
+-- A call that answers that it was accepted, where its questions do not ask 11: the refusal is that of the first
+-- question answered no, and the pages afterwards determine the table.
 change-determined :
     (qs : List Question) → every (λ k. not (eqb k 11)) (map (λ q. q .number) qs) ≡ true → (B : Pages) (t : Table)
     (x y : ChangeAnswer) (u v : Table) → ChangeEnds qs B t x u → ChangeEnds qs B t y v → (x ≡ y) × (u ≡ v)

@@ -23,12 +23,10 @@ use Rattle.table.proofs.Programs.{page-there, program-length}
 use Rattle.checklist_frame.specs.Frame.{MarkFact, Checklist, fact, frame, is-mark, files-of, none-muted, unmuted-on}
 use Rattle.checklist_frame.specs.Parts.{FreeOrMark, FrameRun, MarksBehind, count-of}
 use Rattle.checklist_frame.proofs.Unmuted.{active-all, active-page, page-active, unmuted-of, unmuted-page}
+pub use Rattle.theory.proofs.Lists.{is-not as told-no}
 use Rattle.checklist_frame.proofs.Frames.{frame-not-fact, of-checklist, no-files}
 
--- What a test tells that is answered no, and one that is answered yes.
-pub told-no : {A : Type 0} → (A → ⊥) → (false ≡ true) ↔ A
-told-no n = (λ t. absurd (clash t refl), λ a. absurd (n a))
-
+-- What a test tells that is answered yes. (One that is answered no: `told-no`.)
 pub told-yes : {A : Type 0} → A → (true ≡ true) ↔ A
 told-yes a = (λ t. a, λ b. refl)
 

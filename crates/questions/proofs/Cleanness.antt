@@ -3,23 +3,20 @@ use Prim.Native.Nat.{ℕ, _+_, _≤_, _<_}
 use native.Mathlib.Omega.{arith}
 use mathlib.Core.Path.{_≡_, sym, _∙_, ap}
 use mathlib.Core.Logic.{_↔_, ⊎-elim}
-use mathlib.Core.Bool.{Bool, true, false, not, true≢false}
+use mathlib.Core.Bool.{Bool, true, false, not}
 use mathlib.Core.List.{List}
 use lib.Dec.{eqb, leb}
 use lib.ListN.{length, getD, length-replicate, getD-replicate}
 use lib.Seq.{ext-getD}
 use Rattle.theory.specs.Limits.{document}
 use Rattle.theory.proofs.Lists.{le-or-lt, not-true, not-false, clash, eqb-eq, eqb-of, le-leb, leb-le}
+pub use Rattle.theory.proofs.Lists.{is-not}
 use Rattle.table.specs.declared.Atom.{Atom}
 use Rattle.table.specs.declared.Rule.{Rule}
 use Rattle.table.specs.declared.Label.{Label}
 use Rattle.table.specs.Rules.{noAtom}
 use Rattle.table.specs.Clean.{freeRule, CleanRule, CleanLabel}
 use Rattle.table.proofs.Entries.{past}
-
--- An answer no is right where the thing is refuted.
-pub is-not : {P : Type 0} → (P → ⊥) → (false ≡ true) ↔ P
-is-not f = (λ t. absurd (true≢false (sym t)), λ p. absurd (f p))
 
 -- Entries from a place on that are as in the empty table, as far as they have been read.
 abbrev pub Empty : List Atom → ℕ → ℕ → Type 0

@@ -6,18 +6,22 @@ use mathlib.Core.Logic.{_⊎_, inl, inr, ⊎-elim}
 use mathlib.Core.List.{List, [], _∷_}
 use lib.ListN.{getD}
 use Rattle.refusals.specs.declared.Refusal.{Refusal}
-use Rattle.refusals.specs.declared.Refusal.the-variants.{HeadTooLarge, TooManyEntries, EntryTooLarge, RepeatedEntry, SameRule, TableFull, NegativeCycle}
-use Rattle.refusals.specs.declared.Refusal.the-variants.{SlotTooLarge, SlotFree, AtomTooLarge, BufferTooShort, AtomNotIn, TableUnsound}
-use Rattle.refusals.specs.declared.Refusal.the-variants.{WrongLength, WrongChecksum, WrongBlock, WrongRecord, FileNotListed}
-use Rattle.refusals.specs.declared.Refusal.the-variants.{WrongFileCount, MarkUnchanged}
+use Rattle.refusals.specs.declared.Refusal.the-variants.{HeadTooLarge, TooManyEntries, EntryTooLarge}
+use Rattle.refusals.specs.declared.Refusal.the-variants.{RepeatedEntry, SameRule, TableFull, NegativeCycle}
+use Rattle.refusals.specs.declared.Refusal.the-variants.{SlotTooLarge, SlotFree, AtomTooLarge, BufferTooShort}
+use Rattle.refusals.specs.declared.Refusal.the-variants.{AtomNotIn, TableUnsound, WrongLength, WrongChecksum}
+use Rattle.refusals.specs.declared.Refusal.the-variants.{WrongBlock, WrongRecord, FileNotListed, WrongFileCount}
+use Rattle.refusals.specs.declared.Refusal.the-variants.{MarkUnchanged}
 use Rattle.refusals.specs.Refusals.{numberOf, neededBy}
 
--- The refusals in the order of their numbers; 0, 11, 13, 14 and those past 22 have none of their own here.
+-- The refusals in the order of their numbers. 0, 11, 13, 14 and those past 22 have none of their own here:
+-- `TableUnsound`, whose number is 15, only fills their places.
 abbrev by-number : List Refusal
 by-number =
-    TableUnsound ∷ HeadTooLarge ∷ TooManyEntries ∷ EntryTooLarge ∷ RepeatedEntry ∷ SameRule ∷ TableFull ∷ NegativeCycle ∷ SlotTooLarge ∷ SlotFree ∷ AtomTooLarge
-    ∷ TableUnsound ∷ AtomNotIn ∷ TableUnsound ∷ TableUnsound ∷ TableUnsound ∷ WrongLength ∷ WrongChecksum ∷ WrongBlock ∷ WrongRecord
-    ∷ FileNotListed ∷ WrongFileCount ∷ MarkUnchanged ∷ []
+    TableUnsound ∷ HeadTooLarge ∷ TooManyEntries ∷ EntryTooLarge ∷ RepeatedEntry ∷ SameRule ∷ TableFull
+    ∷ NegativeCycle ∷ SlotTooLarge ∷ SlotFree ∷ AtomTooLarge ∷ TableUnsound ∷ AtomNotIn ∷ TableUnsound ∷ TableUnsound
+    ∷ TableUnsound ∷ WrongLength ∷ WrongChecksum ∷ WrongBlock ∷ WrongRecord ∷ FileNotListed ∷ WrongFileCount
+    ∷ MarkUnchanged ∷ []
 
 abbrev pub refusalOf : ℕ → Refusal
 refusalOf k = getD by-number k TableUnsound

@@ -1,10 +1,12 @@
 -- Refusals by their numbers. Assumes nothing.
 use Prim.Native.Nat.{ℕ}
 use Rattle.refusals.specs.declared.Refusal.{Refusal}
-use Rattle.refusals.specs.declared.Refusal.the-variants.{HeadTooLarge, TooManyEntries, EntryTooLarge, RepeatedEntry, SameRule, TableFull, NegativeCycle}
-use Rattle.refusals.specs.declared.Refusal.the-variants.{SlotTooLarge, SlotFree, AtomTooLarge, BufferTooShort, AtomNotIn, TableUnsound}
-use Rattle.refusals.specs.declared.Refusal.the-variants.{WrongLength, WrongChecksum, WrongBlock, WrongRecord, FileNotListed}
-use Rattle.refusals.specs.declared.Refusal.the-variants.{WrongFileCount, MarkUnchanged}
+use Rattle.refusals.specs.declared.Refusal.the-variants.{HeadTooLarge, TooManyEntries, EntryTooLarge}
+use Rattle.refusals.specs.declared.Refusal.the-variants.{RepeatedEntry, SameRule, TableFull, NegativeCycle}
+use Rattle.refusals.specs.declared.Refusal.the-variants.{SlotTooLarge, SlotFree, AtomTooLarge, BufferTooShort}
+use Rattle.refusals.specs.declared.Refusal.the-variants.{AtomNotIn, TableUnsound, WrongLength, WrongChecksum}
+use Rattle.refusals.specs.declared.Refusal.the-variants.{WrongBlock, WrongRecord, FileNotListed, WrongFileCount}
+use Rattle.refusals.specs.declared.Refusal.the-variants.{MarkUnchanged}
 
 -- What a refusal tells: its number (specification 3.2), and the length needed, which 11 carries.
 abbrev pub told : Refusal → ℕ × ℕ

@@ -3,7 +3,7 @@ use Prim.Native.Nat.{ℕ, _+_, _≤_, _<_}
 use native.Mathlib.Omega.{arith}
 use mathlib.Core.Path.{_≡_, refl, sym, _∙_, ap}
 use mathlib.Core.Logic.{⊎-elim, _↔_}
-use mathlib.Core.Bool.{Bool, true, false, _||_, true≢false}
+use mathlib.Core.Bool.{Bool, true, false, _||_}
 use mathlib.Core.List.{List, map, List·Memᴰ·head}
 use mathlib.Core.Option.{Option, none, some}
 use lib.Dec.{eqb}
@@ -13,7 +13,7 @@ use Rattle.theory.specs.Lists.{_∈_, any}
 use Rattle.theory.specs.Rules.{Rule, Program, Held, entries, passes, Bounded}
 use Rattle.theory.specs.Explanations.{Justification, Consequence}
 use Rattle.theory.proofs.Lists.{eqb-eq, eqb-of, le-or-lt, clash, test, mem-in, in-mem, or-cases, or-l}
-use Rattle.theory.proofs.Rules.{held-unique}
+use Rattle.theory.proofs.Rules.{held-unique, passes-at}
 use Rattle.theory.proofs.Questions.{held-below}
 use Rattle.table.specs.declared.Atom.{Atom}
 use Rattle.table.specs.declared.Rule as table
@@ -24,11 +24,7 @@ use Rattle.table.proofs.Members.{all-alike, mark-is, mark-keeps}
 use Rattle.table.proofs.Entries.{part-over, part-next}
 use Rattle.relations.specs.Marks.{mark-if}
 
--- A slot passes a test if it holds a rule that does.
-passes-at : (f : Rule → Bool) (o : Option Rule) → passes f o ≡ true → (r : Rule) × (o ≡ some r) × (f r ≡ true)
-passes-at f none t = absurd (true≢false (sym t))
-passes-at f (some r) t = (r, refl, t)
-
+-- A slot that holds a rule which passes a test passes it.
 passes-of : (f : Rule → Bool) (o : Option Rule) (r : Rule) → o ≡ some r → f r ≡ true → passes f o ≡ true
 passes-of f o r e t = ap (passes f) e ∙ t
 

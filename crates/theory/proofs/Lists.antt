@@ -3,7 +3,7 @@ use Prim.Native.Nat.{ℕ, zero, suc, _≤_, _<_}
 use native.Mathlib.Omega.{arith}
 use native.Mathlib.Decide.{decLe}
 use mathlib.Core.Path.{_≡_, refl, sym, _∙_, ap, subst}
-use mathlib.Core.Logic.{_⊎_, inl, inr, ⊎-elim}
+use mathlib.Core.Logic.{_⊎_, inl, inr, ⊎-elim, _↔_}
 use mathlib.Core.Bool.{Bool, true, false, not, _&&_, _||_, true≢false}
 use mathlib.Core.List.{List, [], _∷_, List·Memᴰ, List·Memᴰ·head, List·Memᴰ·tail, List·Memᴰ·cases-cons}
 use mathlib.Core.List.{List·Memᴰ·not-nil}
@@ -385,3 +385,7 @@ pub some-below : {A : Type 0} (xs : List (Option A)) (i : ℕ) (x : A) → getD 
 some-below [] i x h = absurd (Option·none-ne-some x h)
 some-below (o ∷ xs) zero x h = omega arith
 some-below (o ∷ xs) (suc i) x h = omega (arith, some-below xs i x h)
+
+-- An answer no is right where the thing is refuted.
+pub is-not : {P : Type 0} → (P → ⊥) → (false ≡ true) ↔ P
+is-not f = (λ t. absurd (true≢false (sym t)), λ p. absurd (f p))

@@ -36,7 +36,8 @@ returns c =
     let ask = asked .before .before in
     let s = ask .before .before in
     let t = s .args .table in
-    set-refused t (s .args .atom) _ (ask .ask-atom .ensures) (λ M. Consequence (all (held t))) _ (asked .asked .given .1) _
+    set-refused t (s .args .atom) _ (ask .ask-atom .ensures) (λ M. Consequence (all (held t))) _
+    (asked .asked .given .1) _
 
 same-length : tie.Need-same-length
 same-length c = search needs
@@ -50,7 +51,8 @@ returns-2 c =
     let s = ask .before .before in
     let t = s .args .table in
     let passes = ask-passed t (s .args .atom) _ (ask .ask-atom .ensures) _ (asked .asked2 .given .1) in
-    set-ends t (s .args .atom) _ (ask .ask-atom .ensures) (λ M. Consequence (all (held t))) _ (asked .asked2 .given .1) _
+    set-ends t (s .args .atom) _ (ask .ask-atom .ensures) (λ M. Consequence (all (held t))) _
+    (asked .asked2 .given .1) _
     (passes .sound .labels .admissible) (find .following .result) (find .following .ensures) _ _ _
     (write .write-marked .ensures)
 

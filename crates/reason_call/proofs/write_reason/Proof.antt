@@ -1,4 +1,5 @@
--- `reason_call::write_reason` meets its contract: what was gathered, counted and written is the reason. Assumes nothing.
+-- `reason_call::write_reason` meets its contract: what was gathered, counted and written is the reason. Assumes
+-- nothing.
 use mathlib.Core.Path.{_≡_}
 use lib.ListN.{length, length-map}
 use Rattle.theory.specs.Limits.{document}

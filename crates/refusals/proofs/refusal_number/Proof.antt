@@ -1,5 +1,5 @@
--- `refusals::refusal_number` meets its contract: what each of the 20 cases is told, and then that it answers its number.
--- Assumes nothing.
+-- `refusals::refusal_number` meets its contract: what each of the 20 cases is told, and then that it answers its
+-- number. Assumes nothing.
 use mathlib.Core.Path.{_≡_, sym, ap}
 use borrow.Author.Needs.{needs}
 use Rattle.refusals.specs.declared.Refusal.{Refusal}

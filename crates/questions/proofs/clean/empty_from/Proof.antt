@@ -1,5 +1,6 @@
 -- `questions::clean::empty_from` meets its contract. Assumes nothing.
--- The loop keeps: the sum is 0 exactly if the entries read so far are as in the empty table.
+-- The loop keeps: the sum is 0 exactly if the entries read so far are as in the empty table. It fits, since each entry
+-- is a number of 16 bits, at most 65535.
 use Prim.Native.Nat.{_-_, _*_, _≤_}
 use native.Mathlib.Omega.{arith}
 use mathlib.Core.Path.{_≡_, refl}
