@@ -81,11 +81,11 @@ pub in-files : (n i : ℕ) → i ∈ files n ↔ ((1 ≤ i) × (i ≤ n))
 in-files n i = (file-at i n, λ l. file-of i n (l .0) (l .1))
 
 -- A file on the list is one of its numbers.
-pub listed-file : (n i : ℕ) → on-list (some n) i ≡ true → (1 ≤ i) × (i ≤ n)
-listed-file n i o = (leb-le 1 i (and-l (leb 1 i) _ o), leb-le i n (and-r (leb 1 i) _ o))
+pub on-list-between : (n i : ℕ) → on-list (some n) i ≡ true → (1 ≤ i) × (i ≤ n)
+on-list-between n i o = (leb-le 1 i (and-l (leb 1 i) _ o), leb-le i n (and-r (leb 1 i) _ o))
 
-pub is-listed : (n i : ℕ) → 1 ≤ i → i ≤ n → on-list (some n) i ≡ true
-is-listed n i l h = and-of _ _ (le-leb 1 i l) (le-leb i n h)
+pub between-on-list : (n i : ℕ) → 1 ≤ i → i ≤ n → on-list (some n) i ≡ true
+between-on-list n i l h = and-of _ _ (le-leb 1 i l) (le-leb i n h)
 
 -- The atom a is a mark of one of n files.
 pub record MarkOf (n a : ℕ) : Type 0 where
@@ -312,8 +312,8 @@ module _ (B : Pages) (n : ℕ) (e : n ≡ count-of (files-of B)) where
   counted-some = counted (files-of B) refl .1
 
 -- A file on the list is one of at most 60.
-pub listed-bounds :
+pub on-list-few :
     (B : Pages) (n i : ℕ) → files-of B ≡ some n → on-list (some n) i ≡ true → (1 ≤ i) × (i ≤ most-files)
-listed-bounds B n i e l =
-    let b = listed-file n i l in
+on-list-few B n i e l =
+    let b = on-list-between n i l in
     (b .0, omega (arith, b .1, checklist-of B n e .high))

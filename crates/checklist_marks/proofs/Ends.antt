@@ -3,7 +3,7 @@ use Prim.Native.Nat.{ℕ, _<_}
 use native.Mathlib.Omega.{arith}
 use mathlib.Core.Path.{_≡_, refl, sym, _∙_, ap, subst}
 use mathlib.Core.Logic.{⊎-elim}
-use mathlib.Core.Bool.{Bool, true, false, not}
+use mathlib.Core.Bool.{true, false, not}
 use mathlib.Core.List.{[], _∷_}
 use mathlib.Core.Option.{Option, none, some, Option·none-ne-some, Option·some-injective}
 use lib.ListN.{set}
@@ -21,7 +21,7 @@ use Rattle.table.specs.declared.Slot.{Slot}
 use Rattle.table.specs.declared.Table.{Table}
 use Rattle.table.specs.Sound.{Sound}
 use Rattle.refusals.specs.declared.Refusal.{Refusal}
-use Rattle.refusals.specs.declared.Refusal.the-variants.{TableUnsound, FileNotListed, MarkUnchanged}
+use Rattle.refusals.specs.declared.Refusal.the-variants.{FileNotListed, MarkUnchanged}
 use Rattle.refusals.specs.Refusals.{numberOf}
 use Rattle.calls.specs.declared.AddAnswer.{AddAnswer}
 use Rattle.calls.specs.declared.AddAnswer.the-variants as added
@@ -35,7 +35,7 @@ use Rattle.calls.specs.Contracts.{held, AddEnds, RemoveEnds, LabelEnds}
 use Rattle.checklist_frame.specs.declared.Mark.the-variants.{Sent, Skipped}
 use Rattle.checklist_frame.specs.Frame.{Checklist, sent, skipped, fact, on-list, is-mark, files-of, marked}
 use Rattle.checklist_frame.specs.Frame.{first-slot}
-use Rattle.checklist_frame.proofs.Frames.{listed-file, checklist-of, mark-below, sent-mark, skipped-mark}
+use Rattle.checklist_frame.proofs.Frames.{on-list-between, checklist-of, mark-below, sent-mark, skipped-mark}
 use Rattle.checklist_meaning.specs.Questions.{FileCall, file-sent, file-skipped, skip-withdrawn, file, allowed}
 use Rattle.checklist_meaning.specs.Book.{with-fact, marks-changed}
 use Rattle.checklist_meaning.specs.Contracts as ends
@@ -151,7 +151,8 @@ module _ (t : Table) (S : Sound t) (n a : ℕ) (C : Checklist (held t) n) (m : i
   add-free : marked (held t) a ≡ false → first-no (add-questions document (all (held t)) (fact a)) ≡ none
   add-free u = add-asks ∙ first-no-yes (asks 5 _) [] (ap not (same-marked ∙ u)) ∙ (unfold first-no in refl)
 
--- File sent and file skipped: a call on a file of the list that adds the fact of its mark.
+-- File sent and file skipped: a call on a file of the list that adds the fact of its mark. The addition can be refused by
+-- 5 alone (`add-asks`), and is exactly where the mark stands: so 22 is 5 under another number.
 module _
     (t : Table) (c : FileCall) (n a : ℕ) (e : files-of (held t) ≡ some n) (l : on-list (some n) (file c) ≡ true)
     (m : is-mark n a ≡ true) where
@@ -184,7 +185,8 @@ module _
     mark-added adds (other (contract.refused f S q) not-five) =
         absurd (not-five (Option·some-injective _ _ (sym q ∙ add-stands t S n a C m (not-unmarked S q))))
 
-  -- Skip withdrawn: a call on a file of the list that removes it.
+  -- Skip withdrawn: a call on a file of the list that removes it. Its atom is in exactly if the mark stands, and then the
+  -- slot that supports it holds its fact, and no other does.
   module _ (asks-mark : allowed (held t) c ≡ marked (held t) a) where
     withdrawn-out :
         {x : LabelAnswer} → Told t a x → in? x ≡ false → FileEnds t c (change.Refused MarkUnchanged) t
@@ -240,7 +242,7 @@ module _ (t : Table) (i : ℕ) where
   sent-ends (parts.off-list n S e l) E =
       refused-ends (file-sent i) E (ends.refused FileNotListed S (off-list (held t) (file-sent i) n e l))
   sent-ends {x = x} {u = u} (parts.passed n a e l q) E =
-      let b = listed-file n i l in
+      let b = on-list-between n i l in
       mark-added t (file-sent i) n (sent i) e l (sent-mark n i (b .0) (b .1)) refl refl
       (subst (λ (k : ℕ). FactAdded t k x u) q E)
 
@@ -251,7 +253,7 @@ module _ (t : Table) (i : ℕ) where
   skipped-ends (parts.off-list n S e l) E =
       refused-ends (file-skipped i) E (ends.refused FileNotListed S (off-list (held t) (file-skipped i) n e l))
   skipped-ends {x = x} {u = u} (parts.passed n a e l q) E =
-      let b = listed-file n i l in
+      let b = on-list-between n i l in
       mark-added t (file-skipped i) n (skipped i) e l (skipped-mark n i (b .0) (b .1)) refl refl
       (subst (λ (k : ℕ). FactAdded t k x u) q E)
 
@@ -262,6 +264,6 @@ module _ (t : Table) (i : ℕ) where
   withdrawn-ends (parts.off-list n S e l) E =
       refused-ends (skip-withdrawn i) E (ends.refused FileNotListed S (off-list (held t) (skip-withdrawn i) n e l))
   withdrawn-ends {x = x} {u = u} (parts.passed n a e l q) E =
-      let b = listed-file n i l in
+      let b = on-list-between n i l in
       mark-removed t (skip-withdrawn i) n (skipped i) e l (skipped-mark n i (b .0) (b .1)) refl refl
       (subst (λ (k : ℕ). FactRemoved t k x u) q E)

@@ -10,8 +10,8 @@ use calls::LabelAnswer;
 use checklist::is_sound;
 use checklist_frame::Mark;
 use checklist_frame::file_count;
-use checklist_frame::listed;
 use checklist_frame::mark_atom;
+use checklist_frame::on_list;
 use queries::label;
 use refusals::Refusal;
 use refusals::refusal_number;
@@ -50,7 +50,7 @@ fn ask_file(table: Table, file: u32, mark: Mark) -> AskedFile
     if n == 0 {
         return AskedFile::Refused(Refusal::TableUnsound);
     }
-    if listed(file, n) {
+    if on_list(file, n) {
         return AskedFile::Passed(mark_atom(mark, file as u16));
     }
     if !is_sound(table) {

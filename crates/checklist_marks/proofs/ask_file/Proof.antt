@@ -6,7 +6,7 @@ use mathlib.Core.Option.{some}
 use Rattle.theory.proofs.Lists.{clash, not-true, not-false}
 use Rattle.calls.specs.Contracts.{held}
 use Rattle.checklist_frame.specs.Frame.{files-of}
-use Rattle.checklist_frame.proofs.Frames.{checklist-of, counted-none, counted-some, listed-bounds}
+use Rattle.checklist_frame.proofs.Frames.{checklist-of, counted-none, counted-some, on-list-few}
 use Rattle.checklist_marks.specs.Parts.{unsound, off-list, passed}
 use borrow.Author.Needs.{needs}
 use Rattle.checklist_marks.proofs.ask_file.Statement.{statement}
@@ -20,7 +20,7 @@ files c =
     let f = c .before in
     counted-some (held (f .before .before .args .table)) _ (f .file-count .ensures) (c .if1 .left)
 
-abbrev file : tie.After-listed → ℕ
+abbrev file : tie.After-on-list → ℕ
 file c = c .before .before .before .before .args .file
 
 file-count-requires : tie.Need-file-count-requires
@@ -31,25 +31,25 @@ returns c =
     let f = c .before in
     unsound (λ S. counted-none (held (f .before .before .args .table)) _ (f .file-count .ensures) (c .if1 .taken))
 
-listed-requires : tie.Need-listed-requires
-listed-requires c κs = checklist-of _ _ (files c) .high
+on-list-requires : tie.Need-on-list-requires
+on-list-requires c κs = checklist-of _ _ (files c) .high
 
 cast-mark-atom : tie.Need-cast-mark-atom
 cast-mark-atom c =
     let l = c .before in
-    let b = listed-bounds _ _ (file l) (files (l .before)) (sym (l .listed .ensures) ∙ c .if2 .taken) in
+    let b = on-list-few _ _ (file l) (files (l .before)) (sym (l .on-list .ensures) ∙ c .if2 .taken) in
     record { fits = omega (arith, b .1) }
 
 mark-atom-requires : tie.Need-mark-atom-requires
 mark-atom-requires c κs =
     let l = c .before in
-    listed-bounds _ _ (file l) (files (l .before)) (sym (l .listed .ensures) ∙ c .if2 .taken)
+    on-list-few _ _ (file l) (files (l .before)) (sym (l .on-list .ensures) ∙ c .if2 .taken)
 
 returns-2 : tie.Need-returns-2
 returns-2 c =
     let on = c .before in
     let l = on .before in
-    passed _ _ (files (l .before)) (sym (l .listed .ensures) ∙ on .if2 .taken) (c .mark-atom .ensures)
+    passed _ _ (files (l .before)) (sym (l .on-list .ensures) ∙ on .if2 .taken) (c .mark-atom .ensures)
 
 is-sound-requires : tie.Need-is-sound-requires
 is-sound-requires c κs = search needs
@@ -64,7 +64,7 @@ returns-4 c =
     let s = c .before in
     let l = s .before .before in
     off-list _ (s .is-sound .ensures .0 (not-false _ (c .if3 .left))) (files (l .before))
-    (sym (l .listed .ensures) ∙ s .before .if2 .left)
+    (sym (l .on-list .ensures) ∙ s .before .if2 .left)
 
 pub ask-file-spec : {M : Type 1} → statement M
 ask-file-spec =
@@ -72,7 +72,7 @@ ask-file-spec =
     (tie.spec
     file-count-requires
     returns
-    listed-requires
+    on-list-requires
     cast-mark-atom
     mark-atom-requires
     returns-2
