@@ -15,7 +15,7 @@ use Rattle.theory.specs.Certificate.{level}
 use Rattle.table.specs.declared.Rule as table
 use Rattle.table.specs.Sets.{member}
 use Rattle.table.specs.Rules.{activeIn, activeOf, pastRule}
-use Rattle.questions.proofs.Cleanness.{is-not}
+use Rattle.theory.proofs.Lists.{is-not}
 use Rattle.certificate.specs.Certificate.{Agrees, Backs, Compared, Backed, Confirmed}
 use Rattle.table.proofs.Programs.{active-place, unmuted-rule}
 use Rattle.questions.proofs.Passes.{equal?}

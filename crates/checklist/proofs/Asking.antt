@@ -37,7 +37,7 @@ use Rattle.checklist_meaning.specs.Questions.{lacks}
 use Rattle.checklist_meaning.specs.Contracts as ends
 use Rattle.checklist_meaning.specs.Contracts.{CompleteEnds, MissingEnds, tellComplete}
 use Rattle.checklist.specs.Parts.{Lacking}
-use Rattle.checklist_frame.proofs.Frames.{listed-file, is-listed, checklist-of, mark-below, sent-mark, skipped-mark}
+use Rattle.checklist_frame.proofs.Frames.{on-list-between, between-on-list, checklist-of, mark-below, sent-mark, skipped-mark}
 use Rattle.checklist_meaning.proofs.Model.{mark-in}
 use Rattle.checklist.proofs.Labels.{Told, told-absent, told-out, told-in, told-refused, in?, model-in}
 
@@ -77,7 +77,7 @@ pub lacking-start : (atoms : List Bool) (n : ℕ) → LackingTo atoms n 1 (repli
 lacking-start atoms n = record {
   size = length-replicate 61 false;
   below = λ j l. all-alike 61 j false
-      ∙ sym (unless _ (λ t. omega (arith, listed-file n j (and-l (on-list (some n) j) _ t) .0)));
+      ∙ sym (unless _ (λ t. omega (arith, on-list-between n j (and-l (on-list (some n) j) _ t) .0)));
   above = λ j l. all-alike 61 j false;
 }
 
@@ -90,7 +90,7 @@ module _ (atoms : List Bool) (n i : ℕ) (lacks : List Bool) (L : LackingTo atom
         (λ (k : i ≤ j). let z : j ≡ i = omega arith in
         subst (λ (k : ℕ). member (set lacks i v) k ≡ (on-list (some n) k && lacking-in atoms k)) (sym z)
         (getD-set-same lacks i v false (omega (arith, L .size)) ∙ e
-        ∙ sym (ap (λ (b : Bool). b && lacking-in atoms i) (is-listed n i low high))))
+        ∙ sym (ap (λ (b : Bool). b && lacking-in atoms i) (between-on-list n i low high))))
         (λ (k : j < i). getD-set-other lacks i j v false (λ z. omega arith) ∙ L .below j k)
         (le-or-lt i j);
     above = λ j l. getD-set-other lacks i j v false (λ z. omega arith) ∙ L .above j (omega arith);
@@ -101,7 +101,7 @@ module _ (atoms : List Bool) (n i : ℕ) (lacks : List Bool) (L : LackingTo atom
     size = L .size;
     each = λ j. ⊎-elim
         (λ (k : i ≤ j). L .above j k
-        ∙ sym (unless _ (λ t. omega (arith, listed-file n j (and-l (on-list (some n) j) _ t) .1))))
+        ∙ sym (unless _ (λ t. omega (arith, on-list-between n j (and-l (on-list (some n) j) _ t) .1))))
         (λ (k : j < i). L .below j k)
         (le-or-lt i j);
   }
@@ -124,9 +124,9 @@ module _ (t : Table) (S : Sound t) (n : ℕ) (e : files-of (held t) ≡ some n) 
   passes = first-no-yes (asks 15 _) [] (ap is-some e) ∙ (unfold first-no in refl)
 
   module _ (k : LabelArrays) (K : ArraysOf (t .labels) k) (flags : List Bool) (L : Lacking (k .flags) n flags) where
-    listed-lacks : (i : ℕ) → on-list (some n) i ≡ true → lacking-in (k .flags) i ≡ lacks (held t) i
-    listed-lacks i l =
-        let b = listed-file n i l in
+    on-list-lacks : (i : ℕ) → on-list (some n) i ≡ true → lacking-in (k .flags) i ≡ lacks (held t) i
+    on-list-lacks i l =
+        let b = on-list-between n i l in
         ap₂ (λ (b c : Bool). not b || c) (kept-mark k K (sent i) (sent-mark n i (b .0) (b .1)))
         (kept-mark k K (skipped i) (skipped-mark n i (b .0) (b .1)))
 
@@ -136,8 +136,8 @@ module _ (t : Table) (S : Sound t) (n : ℕ) (e : files-of (held t) ≡ some n) 
         let o : on-list (files-of (held t)) i ≡ on-list (some n) i = ap (λ (z : Option ℕ). on-list z i) e in (
           λ u. (let w = sym (L .each i) ∙ u in
               let l = and-l (on-list (some n) i) _ w in
-              (o ∙ l, sym (listed-lacks i l) ∙ and-r (on-list (some n) i) _ w)),
-          λ w. (let l = sym o ∙ w .0 in L .each i ∙ and-of _ _ l (listed-lacks i l ∙ w .1)),
+              (o ∙ l, sym (on-list-lacks i l) ∙ and-r (on-list (some n) i) _ w)),
+          λ w. (let l = sym o ∙ w .0 in L .each i ∙ and-of _ _ l (on-list-lacks i l ∙ w .1)),
         )
 
     pub missing-ends :

@@ -2,16 +2,14 @@
 use Prim.Native.Nat.{ℕ, _<_}
 use mathlib.Core.Path.{_≡_, refl, sym, _∙_, ap, subst}
 use mathlib.Core.Bool.{Bool, true, false, true≢false}
-use mathlib.Core.List.{[]}
-use mathlib.Core.Option.{none, Option·none-ne-some}
+use mathlib.Core.Option.{Option·none-ne-some}
 use Rattle.theory.specs.Rules.{active}
 use Rattle.theory.specs.Models.{AtomSet, Admissible}
 use Rattle.theory.specs.Labels.{Label, Labelled, is-in, absent, out, in-at, Supporting}
-use Rattle.theory.specs.Questions.{asks, first-no, atom-questions, is-in-label}
+use Rattle.theory.specs.Questions.{is-in-label}
 use Rattle.theory.specs.Limits.{document}
 use Rattle.theory.proofs.Lists.{lt-ltb}
 use Rattle.theory.proofs.Labels.{label-in}
-use Rattle.theory.proofs.Questions.{first-no-yes}
 use Rattle.table.specs.declared.Slot.{Slot}
 use Rattle.table.specs.declared.Table.{Table}
 use Rattle.table.specs.Sound.{Sound}
@@ -22,9 +20,7 @@ use Rattle.calls.specs.declared.LabelAnswer.the-variants as label
 use Rattle.calls.specs.Answers.{tellLabel}
 use Rattle.calls.specs.Contracts as contract
 use Rattle.calls.specs.Contracts.{held, LabelEnds}
-
-atom-passes : (a : ℕ) → a < document .atoms → first-no (atom-questions document a) ≡ none
-atom-passes a l = first-no-yes (asks 10 _) [] (lt-ltb a (document .atoms) l) ∙ (unfold first-no in refl)
+use Rattle.calls.proofs.Asking.{atom-yes}
 
 -- What an answer is, as numbers: a refusal; in, and by which slot.
 abbrev refused? : LabelAnswer → Bool
@@ -92,7 +88,7 @@ module _ (t : Table) (a : ℕ) where
       a < document .atoms → {x : LabelAnswer} → LabelEnds t a x → {f : Refusal} → x ≡ label.Refused f
       → (f ≡ TableUnsound) × (Sound t → ⊥)
   told-refused l (contract.unsound n) e = (sym (ap why e), n)
-  told-refused l (contract.refused f S q) e = absurd (Option·none-ne-some _ (sym (atom-passes a l) ∙ q))
+  told-refused l (contract.refused f S q) e = absurd (Option·none-ne-some _ (sym (atom-yes a true (sym (lt-ltb a (document .atoms) l)) refl) ∙ q))
   told-refused l (contract.accepted M k S q A L) e =
       absurd (true≢false (sym (ap refused? e) ∙ label-not-refused k))
 

@@ -1,4 +1,3 @@
--- How the calls on a checklist end, from what the table's calls answered.
+-- What the calls that ask a checklist answer, from what label answered and the labels keep.
 pub mod Labels
-pub mod Ends
 pub mod Asking

@@ -1,2 +1,2 @@
--- What the functions behind the checklist's calls tell each other; the contracts stand in `checklist_meaning`.
+-- What the functions behind the list of files tell each other; the contracts stand in `checklist_meaning`.
 pub mod Parts

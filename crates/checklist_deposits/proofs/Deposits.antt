@@ -35,7 +35,7 @@ use Rattle.checklist_meaning.specs.Contracts as list
 use Rattle.checklist_meaning.specs.Contracts.{OpenEnds, FileEnds, MissingEnds, CompleteEnds}
 use Rattle.checklist_deposits.specs.Standing.{was-accepted, sent-by, standing-by, unless-refused, after-calls}
 use Rattle.checklist_deposits.specs.Standing.{been-sent, skip-standing}
-use Rattle.checklist_frame.proofs.Frames.{listed-file, is-listed, of-checklist, sent-mark, skipped-mark}
+use Rattle.checklist_frame.proofs.Frames.{on-list-between, between-on-list, of-checklist, sent-mark, skipped-mark}
 use Rattle.checklist_meaning.proofs.Marks.{Single, free-slot, added-checklist, added-marked, removed-checklist, removed-marked}
 use Rattle.checklist_meaning.proofs.Model.{complete-iff}
 use Rattle.checklist_meaning.proofs.Shown.{AllClear, Missing, counted, count-clear, clear-count}
@@ -226,7 +226,7 @@ module _
     where
       there : Missing B i → MissingFile n cs xs i
       there m =
-          let w = listed-file n i (ap (λ (o : Option ℕ). on-list o i) (sym e) ∙ m .0) in
+          let w = on-list-between n i (ap (λ (o : Option ℕ). on-list o i) (sym e) ∙ m .0) in
           let l = w .0 in
           let h = w .1 in (
             l,
@@ -241,7 +241,7 @@ module _
       back m =
           let l = m .0 in
           let h = m .1 in (
-            ap (λ (o : Option ℕ). on-list o i) e ∙ is-listed n i l h,
+            ap (λ (o : Option ℕ). on-list o i) e ∙ between-on-list n i l h,
             ⊎-elim
                 (λ (t : been-sent i cs xs ≡ false).
                 or-l (not (marked B (sent i))) (marked B (skipped i)) (false-not _ (sends i l h ∙ t)))
@@ -313,7 +313,10 @@ asked-files n e =
     let a = first-no-none (asks 21 (leb 1 n && leb n most-files)) [] e .0 in
     (leb-le 1 n (and-l (leb 1 n) _ a), leb-le n most-files (and-r (leb 1 n) _ a))
 
--- Request #106 over sequences.
+-- Request #106 over sequences. The opening leaves a checklist in which no mark stands. A call on a file leaves one of as
+-- many files, with the marks changed as its words say if it was accepted, and as they were if not (`file-marked`). So by
+-- induction the marks that stand are those that the calls and their answers tell (`trace-stands`), and off the marks
+-- complete and the list of files are read (`complete-iff`, `missing-same`).
 pub deposit :
     (t : Table) (n : ℕ) (cs : List FileCall) (xs : List Answer) (u : Table)
     → Trace t (deposit-calls n cs) (accepted ∷ xs) u → Deposit n cs xs u
@@ -370,7 +373,8 @@ deposit-after t bs ys n cs xs u l T =
     let w = trace-split bs ys {ds = deposit-calls n cs} {zs = accepted ∷ xs} refl refl l T in
     deposit (w .0) n cs xs u (w .1)
 
--- An opening that is refused leaves the empty table, which is no checklist: every call on a file meets 15 then.
+-- An opening that is refused leaves the empty table, which is no checklist: every call on a file meets 15 then, and
+-- leaves the empty table again.
 open-refused :
     {u : Table} {y : ChangeAnswer} (n k : ℕ) → bookChange y ≡ refused k → OpenEnds n y u → u ≡ emptyTable
 open-refused n k a (list.refused f r) = refl

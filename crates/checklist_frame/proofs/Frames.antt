@@ -17,6 +17,7 @@ use Rattle.theory.proofs.Lists.{ltb-lt, lt-ltb, leb-le, le-leb, le-or-lt, any-a
 use Rattle.theory.proofs.Lists.{first-place, first-in, first-exists, first-of}
 use Rattle.checklist_frame.specs.Frame.{Checklist, most-files, sent, skipped, good, fact, frame, files, is-mark, equal-lists}
 use Rattle.checklist_frame.specs.Frame.{equal, free-or-mark, fits, fits-from, files-of, none-muted, on-list}
+use Rattle.checklist_frame.specs.Parts.{count-of}
 use Rattle.checklist_frame.proofs.Unmuted.{unmuted-page}
 
 -- Lists that are told equal are; so are rules, and each is equal to itself.
@@ -80,11 +81,11 @@ pub in-files : (n i : ℕ) → i ∈ files n ↔ ((1 ≤ i) × (i ≤ n))
 in-files n i = (file-at i n, λ l. file-of i n (l .0) (l .1))
 
 -- A file on the list is one of its numbers.
-pub listed-file : (n i : ℕ) → on-list (some n) i ≡ true → (1 ≤ i) × (i ≤ n)
-listed-file n i o = (leb-le 1 i (and-l (leb 1 i) _ o), leb-le i n (and-r (leb 1 i) _ o))
+pub on-list-between : (n i : ℕ) → on-list (some n) i ≡ true → (1 ≤ i) × (i ≤ n)
+on-list-between n i o = (leb-le 1 i (and-l (leb 1 i) _ o), leb-le i n (and-r (leb 1 i) _ o))
 
-pub is-listed : (n i : ℕ) → 1 ≤ i → i ≤ n → on-list (some n) i ≡ true
-is-listed n i l h = and-of _ _ (le-leb 1 i l) (le-leb i n h)
+pub between-on-list : (n i : ℕ) → 1 ≤ i → i ≤ n → on-list (some n) i ≡ true
+between-on-list n i l h = and-of _ _ (le-leb 1 i l) (le-leb i n h)
 
 -- The atom a is a mark of one of n files.
 pub record MarkOf (n a : ℕ) : Type 0 where
@@ -294,3 +295,25 @@ no-files B f = go (files-of B) refl
 pub muted-no-files :
     (B : Pages) (s : ℕ) (p : Page) → getD B s none ≡ some p → p .muted ≡ true → files-of B ≡ none
 muted-no-files B s p e m = no-files B (λ n C. clash m (unmuted-page B (C .unmuted) s p e))
+
+-- The number that was counted is that of the files, and 0 says that there is no checklist.
+module _ (B : Pages) (n : ℕ) (e : n ≡ count-of (files-of B)) where
+  counted : (o : Option ℕ) → files-of B ≡ o → (n ≡ 0 → files-of B ≡ none) × ((n ≡ 0 → ⊥) → files-of B ≡ some n)
+  counted none q = (λ z. q, λ l. absurd (l (e ∙ ap count-of q)))
+  counted (some m) q =
+      let C = checklist-of B m q in
+      let z : n ≡ m = e ∙ ap count-of q in
+      (λ y. absurd (omega (arith, C .low)), λ l. q ∙ ap some (sym z))
+
+  pub counted-none : n ≡ 0 → files-of B ≡ none
+  counted-none = counted (files-of B) refl .0
+
+  pub counted-some : (n ≡ 0 → ⊥) → files-of B ≡ some n
+  counted-some = counted (files-of B) refl .1
+
+-- A file on the list is one of at most 60.
+pub on-list-few :
+    (B : Pages) (n i : ℕ) → files-of B ≡ some n → on-list (some n) i ≡ true → (1 ≤ i) × (i ≤ most-files)
+on-list-few B n i e l =
+    let b = on-list-between n i l in
+    (b .0, omega (arith, b .1, checklist-of B n e .high))

@@ -15,6 +15,7 @@ use Rattle.theory.specs.Limits.{document}
 use Rattle.theory.proofs.Lists.{clash, eqb-eq, eqb-of, false-not, le-or-lt}
 use Rattle.theory.proofs.Pages.{active-at, active-held, held-page, page-held}
 use Rattle.theory.proofs.Questions.{held-below}
+use Rattle.theory.proofs.Lists.{is-not}
 use Rattle.table.specs.declared.Atom.{Atom}
 use Rattle.table.specs.declared.Rule.{Rule}
 use Rattle.table.specs.Rules.{numbers, pageOf, activeIn, ruleOf, bookOf, activeOf, noAtom, pastRule}
@@ -23,10 +24,9 @@ use Rattle.table.proofs.Programs.{page-there, program-length}
 use Rattle.checklist_frame.specs.Frame.{MarkFact, Checklist, fact, frame, is-mark, files-of, none-muted, unmuted-on}
 use Rattle.checklist_frame.specs.Parts.{FreeOrMark, FrameRun, MarksBehind, count-of}
 use Rattle.checklist_frame.proofs.Unmuted.{active-all, active-page, page-active, unmuted-of, unmuted-page}
-pub use Rattle.theory.proofs.Lists.{is-not as told-no}
 use Rattle.checklist_frame.proofs.Frames.{frame-not-fact, of-checklist, no-files}
 
--- What a test tells that is answered yes. (One that is answered no: `told-no`.)
+-- An answer yes is right where the thing holds. (An answer no: `is-not`.)
 pub told-yes : {A : Type 0} → A → (true ≡ true) ↔ A
 told-yes a = (λ t. a, λ b. refl)
 
@@ -217,7 +217,7 @@ module _ (rules : List Rule) (n s : ℕ) (some-marks : MarksTo (bookOf rules) n 
 
   pub marks-stop :
       n < s → (FreeOrMark n (pageOf (getD rules s pastRule)) → ⊥) → MarksBehind (bookOf rules) n false
-  marks-stop l f = told-no (λ w. f (subst (FreeOrMark n) (book-at rules s) (w s l)))
+  marks-stop l f = is-not (λ w. f (subst (FreeOrMark n) (book-at rules s) (w s l)))
 
   pub marks-all : length rules ≤ s → MarksBehind (bookOf rules) n true
   marks-all l = told-yes (λ k j p e. some-marks k j (omega (

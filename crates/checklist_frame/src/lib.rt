@@ -1,5 +1,5 @@
-// The files of a checklist and their atoms; are a table's rules those of a checklist, and of how many files? Only these
-// leaves take an atom apart, and only these read a table's slots.
+// The files of a checklist and their atoms; are a table's rules those of a checklist, and of how many files? These
+// leaves take atoms apart, and of the checklist's functions only these read a table's slots.
 use table::Atom;
 use table::Rule;
 use table::Table;
@@ -43,7 +43,7 @@ pub fn good_atom(i: u16) -> Atom
 }
 
 // Is the file one of n?
-pub fn listed(file: u32, n: usize) -> bool
+pub fn on_list(file: u32, n: usize) -> bool
     requires { ⌜ n ≤ most-files ⌝ }
     ensures { λ r. ⌜ r ≡ on-list (some n) file ⌝ }
 {

@@ -198,7 +198,8 @@ module _ (B : Pages) (n : ℕ) (C : Checklist B n) (S : Single (all B)) where
       files-length (3 * n),
     )
 
-  -- A checklist in a table always has a free slot, and it lies behind the frame.
+  -- A checklist in a table always has a free slot, and it lies behind the frame: the heads of held slots are different
+  -- numbers from 0 to 3 * n, so at most 181 of the 256 slots are held.
   pub free-slot :
       length B ≡ document .slots → (s : ℕ) × (lowest-free (all B) ≡ some s) × (n < s) × (s < document .slots)
   free-slot size = go (lowest-free (all B)) refl

@@ -18,7 +18,7 @@ use Rattle.theory.proofs.Pages.{active-held}
 use Rattle.checklist_frame.specs.Frame.{Checklist, sent, skipped, good, fact, frame, on-list, is-mark, marked}
 use Rattle.checklist_meaning.specs.Questions.{lacks}
 use Rattle.checklist_frame.proofs.Unmuted.{active-all}
-use Rattle.checklist_frame.proofs.Frames.{in-one, listed-file, is-listed, mark-not-good, sent-mark, skipped-mark}
+use Rattle.checklist_frame.proofs.Frames.{in-one, on-list-between, between-on-list, mark-not-good, sent-mark, skipped-mark}
 use Rattle.checklist_meaning.proofs.Marks.{marked-at, marked-of, frame-good, mark-rule}
 
 -- The slot that supports a mark's atom holds its fact, and lies behind the frame.
@@ -110,7 +110,8 @@ module _ (B : Pages) (n : ℕ) (C : Checklist B n) (M : AtomSet) (A : Admissible
         ),
       )
 
-  -- So a file is good exactly if each file up to it is sent and has no skip standing.
+  -- So a file is good exactly if each file up to it is sent and has no skip standing: by induction, since a good is the
+  -- head of one rule alone, that of its file in the frame (`good-rule`).
   pub good-iff : (i : ℕ) → i ≤ n → (M (good i) ≡ true) ↔ ((j : ℕ) → 1 ≤ j → j ≤ i → Clear B j)
   good-iff zero l = (λ t j k h. absurd (omega arith), λ f. start-good)
   good-iff (suc i) l =
@@ -129,6 +130,6 @@ module _ (B : Pages) (n : ℕ) (C : Checklist B n) (M : AtomSet) (A : Admissible
   -- In other words, no file of the list lacks anything.
   pub complete-lacks : (M (good n) ≡ true) ↔ ((i : ℕ) → on-list (some n) i ≡ true → lacks B i ≡ false)
   complete-lacks = (
-    λ t i o. (let l = listed-file n i o in lacks-iff B i .1 (complete-iff .0 t i (l .0) (l .1))),
-    λ f. complete-iff .1 (λ i l h. lacks-iff B i .0 (f i (is-listed n i l h))),
+    λ t i o. (let l = on-list-between n i o in lacks-iff B i .1 (complete-iff .0 t i (l .0) (l .1))),
+    λ f. complete-iff .1 (λ i l h. lacks-iff B i .0 (f i (between-on-list n i l h))),
   )

@@ -22,13 +22,13 @@ module _ (B : Pages) (c : FileCall) where
         ∙ first-no-here (asks 20 _) _ (ap (λ (o : Option ℕ). on-list o (file c)) e ∙ f)
 
     module _ (l : on-list (some n) (file c) ≡ true) where
-      listed-asks : first-no (mark-questions B c) ≡ first-no (asks 22 (allowed B c) ∷ [])
-      listed-asks =
+      on-list-asks : first-no (mark-questions B c) ≡ first-no (asks 22 (allowed B c) ∷ [])
+      on-list-asks =
           first-no-yes (asks 15 _) _ (ap is-some e)
           ∙ first-no-yes (asks 20 _) _ (ap (λ (o : Option ℕ). on-list o (file c)) e ∙ l)
 
       pub not-allowed : allowed B c ≡ false → first-no (mark-questions B c) ≡ some 22
-      not-allowed f = listed-asks ∙ first-no-here (asks 22 _) [] f
+      not-allowed f = on-list-asks ∙ first-no-here (asks 22 _) [] f
 
       pub is-allowed : allowed B c ≡ true → first-no (mark-questions B c) ≡ none
-      is-allowed t = listed-asks ∙ first-no-yes (asks 22 _) [] t ∙ (unfold first-no in refl)
+      is-allowed t = on-list-asks ∙ first-no-yes (asks 22 _) [] t ∙ (unfold first-no in refl)

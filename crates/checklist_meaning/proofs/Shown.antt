@@ -24,7 +24,7 @@ use Rattle.calls.specs.declared.ChangeAnswer.{ChangeAnswer}
 use Rattle.calls.specs.declared.ChangeAnswer.the-variants as change
 use Rattle.calls.specs.declared.ListAnswer.{ListAnswer}
 use Rattle.calls.specs.declared.ListAnswer.the-variants.{Count}
-use Rattle.calls.specs.declared.ListAnswer.the-variants as listed
+use Rattle.calls.specs.declared.ListAnswer.the-variants as list-answer
 use Rattle.calls.specs.Contracts as contract
 use Rattle.calls.specs.Contracts.{held}
 use Rattle.checklist_meaning.specs.declared.CompleteAnswer.{CompleteAnswer}
@@ -34,7 +34,7 @@ use Rattle.checklist_frame.specs.Frame.{good, frame, on-list, files-of}
 use Rattle.checklist_meaning.specs.Questions.{FileCall, checklist-questions, lacks}
 use Rattle.checklist_meaning.specs.Contracts as list
 use Rattle.checklist_meaning.specs.Contracts.{FileEnds, MissingEnds, CompleteEnds, tellComplete}
-use Rattle.checklist_frame.proofs.Frames.{listed-file, is-listed, checklist-of, no-files, muted-no-files}
+use Rattle.checklist_frame.proofs.Frames.{on-list-between, between-on-list, checklist-of, no-files, muted-no-files}
 use Rattle.checklist_meaning.proofs.Determined.{file-determined, missing-determined, complete-determined}
 use Rattle.checklist_meaning.proofs.Model.{Clear, lacks-iff, complete-iff}
 
@@ -60,12 +60,12 @@ Missing B i = (on-list (files-of B) i ≡ true) × (lacks B i ≡ true)
 
 missing-none : (B : Pages) (n : ℕ) → files-of B ≡ some n → AllClear B n → (i : ℕ) → Missing B i → ⊥
 missing-none B n e f i m =
-    let l = listed-file n i (ap (λ (o : Option ℕ). on-list o i) (sym e) ∙ m .0) in
+    let l = on-list-between n i (ap (λ (o : Option ℕ). on-list o i) (sym e) ∙ m .0) in
     clash (m .1) (lacks-iff B i .1 (f i (l .0) (l .1)))
 
 none-missing : (B : Pages) (n : ℕ) → files-of B ≡ some n → ((i : ℕ) → Missing B i → ⊥) → AllClear B n
 none-missing B n e f i l h = lacks-iff B i .0
-    (unless (lacks B i) (λ t. f i (ap (λ (o : Option ℕ). on-list o i) e ∙ is-listed n i l h, t)))
+    (unless (lacks B i) (λ t. f i (ap (λ (o : Option ℕ). on-list o i) e ∙ between-on-list n i l h, t)))
 
 no-entries : (is : List ℕ) (Q : ℕ → Type 0) → Lists is Q → ((i : ℕ) → Q i → ⊥) → is ≡ []
 no-entries [] Q L f = refl
@@ -165,10 +165,10 @@ module _ (t : Table) (none-there : Sound t → files-of (held t) ≡ none) where
 
   pub no-checklist-list :
       (before : List ℕ) (x : ListAnswer) (after : List ℕ) → MissingEnds t before x after
-      → (x ≡ listed.Refused TableUnsound) × (after ≡ before)
+      → (x ≡ list-answer.Refused TableUnsound) × (after ≡ before)
   no-checklist-list before x after (contract.unsound n) = (refl, refl)
   no-checklist-list before x after (contract.refused f S e) =
-      missing-determined t before x (listed.Refused TableUnsound) after before (contract.refused f S e)
+      missing-determined t before x (list-answer.Refused TableUnsound) after before (contract.refused f S e)
       (contract.refused TableUnsound S (first-no-here (asks 15 _) [] (ap is-some (none-there S))))
   no-checklist-list before x after (contract.short M is S a A L l) =
       absurd (Option·none-ne-some 15 (sym a ∙ first-no-here (asks 15 _) [] (ap is-some (none-there S))))
@@ -182,7 +182,7 @@ pub record Meets15 (t : Table) : Type 0 where
   pub complete : (x : CompleteAnswer) → CompleteEnds t x → x ≡ told.Refused TableUnsound
   pub list :
       (before : List ℕ) (x : ListAnswer) (after : List ℕ) → MissingEnds t before x after
-      → (x ≡ listed.Refused TableUnsound) × (after ≡ before)
+      → (x ≡ list-answer.Refused TableUnsound) × (after ≡ before)
 
 -- A checklist with a muted rule is none (request #108): where a rule of the table is muted, each call meets 15.
 pub muted-no-checklist :

@@ -14,7 +14,7 @@ use Rattle.table.specs.declared.Atom.{Atom}
 use Rattle.table.specs.declared.Rule.{Rule}
 use Rattle.table.specs.Clean.{WellFormed}
 use Rattle.table.specs.Rules.{stateOf}
-use Rattle.questions.proofs.Cleanness.{is-not}
+use Rattle.theory.proofs.Lists.{is-not}
 use Rattle.file_blocks.specs.Words.{wordAt, wordsIn}
 use Rattle.file_blocks.specs.Places.{placeAt}
 use Rattle.file_blocks.proofs.Reading.{word-drop}

@@ -6,15 +6,13 @@ use mathlib.Core.Logic.{⊎-elim}
 use mathlib.Core.Bool.{true, false}
 use mathlib.Core.List.{List, [], _∷_, map}
 use mathlib.Core.Option.{Option, none, some}
-use lib.Dec.{ltb}
 use lib.ListN.{getD}
 use Rattle.theory.specs.Rules.{Rule, Page, Pages, all, active, new-page, Held}
 use Rattle.theory.specs.Models.{AtomSet, valid, Admissible, OnlyModel}
 use Rattle.theory.specs.Dependencies.{NegativeCycle}
 use Rattle.theory.specs.Labels.{Label, out, in-at, Labelled, is-out, is-in}
 use Rattle.theory.specs.Labels.{Spoiler, spoiler, Spoils}
-use Rattle.theory.specs.Questions.{Question, first-no, atom-questions, put-in}
-use Rattle.theory.specs.Questions.{asks}
+use Rattle.theory.specs.Questions.{Question, first-no, put-in}
 use Rattle.theory.specs.Book as book
 use Rattle.theory.specs.Book.{add, remove, replace, mute, Answer, refused, accepted, empty, answer, after, answers}
 use Rattle.theory.specs.Book.{after-all, refusal, granted, changed}
@@ -22,7 +20,7 @@ use Rattle.theory.specs.Limits.{document}
 use Rattle.theory.proofs.Book.{slot-answer}
 use Rattle.theory.proofs.Lists.{test, clash, lt-ltb}
 use Rattle.theory.proofs.Rules.{valid-positive}
-use Rattle.theory.proofs.Questions.{first-no-yes, passed-bounded}
+use Rattle.theory.proofs.Questions.{passed-bounded}
 use Rattle.theory.proofs.Pages.{all-length, held-page}
 use Rattle.theory.proofs.Depths.{depth-count}
 use Rattle.theory.proofs.Labels.{in-occurs-held, spoils, spoiler-exists}
@@ -40,7 +38,7 @@ use Rattle.calls.specs.declared.SpoilerAnswer.{SpoilerAnswer}
 use Rattle.calls.specs.Answers.{bookChange, tellLabel, tellPage}
 use Rattle.calls.specs.Contracts as contract
 use Rattle.calls.specs.Contracts.{held, ChangeEnds, LabelEnds, SpoilerEnds}
-use Rattle.calls.proofs.Asking.{slot-asked}
+use Rattle.calls.proofs.Asking.{atom-yes, slot-asked}
 use Rattle.theory.proofs.Labels.{one-model}
 use Rattle.calls.proofs.Determined.{label-determined, spoiler-determined}
 use Rattle.checklist_meaning.specs.Book.{opening, of-file, checklistAnswer, checklistAfter}
@@ -259,12 +257,6 @@ out-spoiled B M A a s r (is-out o n) h e = ⊎-elim
     (λ (t : valid M r ≡ false). (let w = spoiler-exists M r t in (w .0, w .1, spoils M r (w .0) (w .1))))
     (test (valid M r))
 
--- The question of Label is answered yes below the limit.
-
-label-asked : (a : ℕ) → a < document .atoms → first-no (atom-questions document a) ≡ none
-unfolding first-no
-label-asked a l = first-no-yes (asks 10 (ltb a (document .atoms))) [] (lt-ltb a (document .atoms) l)
-
 -- What holds of any sound table, in the words of the claim.
 module _ (cs : List Call) (xs : List Answer) (t : Table) (e : held t ≡ bookAfter cs) (S : Sound t) where
   M : AtomSet
@@ -290,7 +282,8 @@ module _ (cs : List Call) (xs : List Answer) (t : Table) (e : held t ≡ bookAft
   answered-label a l x E = (
     labelAt (t .labels) a,
     label-determined t a x _ E
-        (contract.accepted (S .labels .model) (labelAt (t .labels) a) S (label-asked a l) (S .labels .admissible)
+        (contract.accepted (S .labels .model) (labelAt (t .labels) a) S
+        (atom-yes a true (sym (lt-ltb a (document .atoms) l)) refl) (S .labels .admissible)
         (S .labels .labels a l)),
     kept a l,
   )
@@ -323,7 +316,10 @@ module _ (cs : List Call) (xs : List Answer) (t : Table) (e : held t ≡ bookAft
         (subst (Labelled (bookAfter cs) M a) q (kept a l)) h i;
   }
 
--- Demand 3.
+-- Demand 3. By its contract each call on a sound table answers and leaves what the book does, and leaves a sound table
+-- (`step-follows`); so by induction does a list of calls from the empty table, which is sound (`trace-agrees`). What the
+-- claim says of labels, supports and spoilers holds of any sound table whose slots hold the book's pages (`claim`), for
+-- soundness says that the kept labels are those defined.
 pub history : (cs : List Call) (xs : List Answer) (t : Table) → Trace emptyTable cs xs t → History cs xs t
 history cs xs t T =
     let w = trace-agrees empty-sound T in

@@ -1,5 +1,5 @@
 -- The calls of a list made one after another: what was done so far and what is left give the whole. Assumes nothing.
-use Prim.Native.Nat.{ℕ, zero, suc, _+_, _-_, _≤_, _<_}
+use Prim.Native.Nat.{ℕ, suc, _+_, _-_, _≤_, _<_}
 use native.Mathlib.Omega.{arith}
 use native.Mathlib.Numerals.{add-one}
 use mathlib.Core.Path.{_≡_, refl, sym, _∙_, ap, subst}
@@ -88,7 +88,8 @@ module _
         ∙ append-assoc (map encode (G .told)) (encode (m .told) ∷ []) (drop (count + 1) before));
   }
 
-  -- Where no call is left, the whole was made.
+  -- Where no call is left, the calls made are all that the list holds: the trace so far is theirs, and demand 3 speaks of
+  -- it.
   finished :
       decode (length before - count) ws files at ≡ []
       → Replays ws files before (record { count = count; table = t }) now
@@ -111,7 +112,8 @@ module _
       let z : length before - count ≡ 0 = omega arith in
       finished (ap (λ (k : ℕ). decode k ws files at) z ∙ (unfold decode in refl))
 
--- So `replay` can be asked for any list of calls.
+-- So `replay` can be asked for any list of calls: its words are read as this list (`decode-written`), and the answers
+-- that the claim speaks of are the book's.
 pub replay-written :
     (cs : List Call) {before after : List ℕ} {r : Replayed} → length cs ≤ length before
     → Replays (written cs) (loaded-files cs) before r after → ReplaysCalls cs before r after

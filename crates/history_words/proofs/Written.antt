@@ -2,10 +2,10 @@
 -- numbers, the lengths of their lists and that of all files have. Assumes nothing.
 use Prim.Native.Nat.{ℕ, zero, suc, _+_, _-_, _^_, _≤_, _<_}
 use native.Mathlib.Omega.{arith}
-use mathlib.Core.Path.{_≡_, refl, sym, _∙_, ap, ap₂, subst}
+use mathlib.Core.Path.{_≡_, refl, sym, _∙_, ap, ap₂}
 use mathlib.Core.Logic.{⊎-elim}
 use mathlib.Core.Bool.{Bool, true, false, cond, not}
-use mathlib.Core.List.{List, [], _∷_, _++_, map, append-assoc, append-nil, List·Memᴰ, List·Memᴰ·head, List·Memᴰ·tail}
+use mathlib.Core.List.{List, [], _∷_, _++_, append-assoc, append-nil, List·Memᴰ, List·Memᴰ·head, List·Memᴰ·tail}
 use mathlib.Core.List.{List·Memᴰ·cases-cons, List·Memᴰ·append-cases, List·Memᴰ·not-nil}
 use mathlib.Core.Option.{some}
 use lib.Dec.{eqb}
@@ -162,11 +162,11 @@ module _ (files xs rest : List ℕ) where
     abbrev two : List ℕ
     two = xs ++ (kind ∷ i ∷ rest)
 
-    listed :
+    placed-numbered :
         (of : ℕ → list.Call) → placed-kind two files (length xs) kind ≡ some (checklist-at two (length xs) of)
         → placed two files (length xs)
         ≡ some (record { call = checklist (of i); behind = length (xs ++ (kind ∷ i ∷ [])) })
-    listed of e =
+    placed-numbered of e =
         by-kind two files (length xs) (omega (arith, length-append xs (kind ∷ i ∷ rest))) kind
         (getD-append-seam xs kind (i ∷ rest) 0)
         ∙ e
@@ -179,10 +179,10 @@ module _ (files xs rest : List ℕ) where
       (passed : ℕ) (c : list.Call)
       → placed (xs ++ (call-words passed (checklist c) ++ rest)) files (length xs)
       ≡ some (record { call = checklist c; behind = length (xs ++ call-words passed (checklist c)) })
-  placed-checklist passed (opening n) = listed 3 n opening refl
-  placed-checklist passed (of-file (file-sent i)) = listed 4 i (λ j. of-file (file-sent j)) refl
-  placed-checklist passed (of-file (file-skipped i)) = listed 5 i (λ j. of-file (file-skipped j)) refl
-  placed-checklist passed (of-file (skip-withdrawn i)) = listed 6 i (λ j. of-file (skip-withdrawn j)) refl
+  placed-checklist passed (opening n) = placed-numbered 3 n opening refl
+  placed-checklist passed (of-file (file-sent i)) = placed-numbered 4 i (λ j. of-file (file-sent j)) refl
+  placed-checklist passed (of-file (file-skipped i)) = placed-numbered 5 i (λ j. of-file (file-skipped j)) refl
+  placed-checklist passed (of-file (skip-withdrawn i)) = placed-numbered 6 i (λ j. of-file (skip-withdrawn j)) refl
 
 -- A load whose file stands behind other bytes.
 module _ (before file more xs rest : List ℕ) where
@@ -281,7 +281,9 @@ decode-behind (c ∷ cs) (suc most) xs ys l =
     (sym (append-assoc ys (call-file c) (loaded-files cs)))
     ∙ decode-behind cs most (xs ++ call-words n c) (ys ++ call-file c) (omega arith))
 
--- Written and read back, a list of calls is the same, given room for its answers.
+-- Written and read back, a list of calls is the same, given room for its answers. By induction on the list, of words that
+-- stand behind others (`decode-behind`): the first call is read whatever stands behind it (`placed-call`), and the place
+-- behind it is where the rest begins.
 pub decode-written :
     (cs : List Call) (before : List ℕ) → length cs ≤ length before → calls-in (written cs) (loaded-files cs) before ≡ cs
 decode-written cs before l = decode-behind cs (length before) [] [] l

@@ -13,7 +13,7 @@ use Rattle.theory.proofs.Lists.{clash, eqb-not, eqb-of, false-not, le-or-lt, sa
 use Rattle.table.specs.declared.Label.{Label}
 use Rattle.table.specs.Labels.{label-in, labelOf, labelAt, absentLabel}
 use Rattle.table.specs.Sets.{member}
-use Rattle.questions.proofs.Cleanness.{is-not}
+use Rattle.theory.proofs.Lists.{is-not}
 use Rattle.occurring.specs.Occurrence.{OccurringIn}
 use Rattle.sound.specs.Occurrence.{OccurrenceKept}
 

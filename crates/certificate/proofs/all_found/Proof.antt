@@ -8,7 +8,7 @@ use Rattle.table.specs.Sets.{member}
 use borrow.Author.Count.{below-more}
 use mathlib.Core.Path.{refl}
 use lib.ListN.{length}
-use Rattle.questions.proofs.Cleanness.{is-not}
+use Rattle.theory.proofs.Lists.{is-not}
 use Rattle.questions.proofs.Passes.{without, with, member-below}
 use borrow.Author.Needs.{needs}
 use Rattle.certificate.proofs.all_found.Statement.{statement}

@@ -5,9 +5,8 @@ use mathlib.Core.Option.{some}
 use Rattle.table.specs.declared.Table.{Table}
 use Rattle.calls.specs.Contracts.{held}
 use Rattle.checklist_frame.specs.Frame.{files-of}
-use Rattle.checklist_frame.proofs.Frames.{checklist-of}
+use Rattle.checklist_frame.proofs.Frames.{checklist-of, counted-none, counted-some}
 use Rattle.checklist_meaning.specs.Contracts.{unsound}
-use Rattle.checklist.proofs.Ends.{counted-none, counted-some}
 use Rattle.checklist.proofs.Asking.{complete-in, complete-absent, complete-out, complete-refused}
 use borrow.Author.Needs.{needs}
 use Rattle.checklist.proofs.complete.Statement.{statement}

@@ -1,6 +1,7 @@
 -- `checklist::is_sound` tells whether the table is sound. Assumes nothing.
 use native.Mathlib.Omega.{arith}
-use Rattle.checklist_frame.proofs.Slots.{told-no, told-yes}
+use Rattle.theory.proofs.Lists.{is-not}
+use Rattle.checklist_frame.proofs.Slots.{told-yes}
 use Rattle.checklist.proofs.Labels.{told-absent, told-out, told-in, told-refused}
 use borrow.Author.Needs.{needs}
 use Rattle.checklist.proofs.is_sound.Statement.{statement}
@@ -25,7 +26,7 @@ returns : tie.Need-returns
 returns c =
     let told = c .before in
     let l = told .before .before in
-    told-no (told-refused (l .before .args .table) 0 (omega arith) (l .label .ensures) (told .told .given .1) .1)
+    is-not (told-refused (l .before .args .table) 0 (omega arith) (l .label .ensures) (told .told .given .1) .1)
 
 returns-2 : tie.Need-returns-2
 returns-2 c =

@@ -7,8 +7,7 @@ use Rattle.theory.proofs.Questions.{first-no-here}
 use Rattle.refusals.specs.declared.Refusal.the-variants.{TableUnsound}
 use Rattle.calls.specs.Contracts as contract
 use Rattle.calls.specs.Contracts.{held}
-use Rattle.checklist_frame.proofs.Frames.{checklist-of}
-use Rattle.checklist.proofs.Ends.{counted-none, counted-some}
+use Rattle.checklist_frame.proofs.Frames.{checklist-of, counted-none, counted-some}
 use Rattle.checklist.proofs.Asking.{missing-ends}
 use borrow.Author.Needs.{needs}
 use Rattle.checklist.proofs.missing.Statement.{statement}

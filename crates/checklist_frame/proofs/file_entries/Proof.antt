@@ -1,7 +1,8 @@
 -- `checklist_frame::file_entries` tells whether the first three entries are those of the frame's rule. Assumes
 -- nothing.
 use borrow.Author.Needs.{needs}
-use Rattle.checklist_frame.proofs.Slots.{told-no, told-yes, three-are, are-three}
+use Rattle.theory.proofs.Lists.{is-not}
+use Rattle.checklist_frame.proofs.Slots.{told-yes, three-are, are-three}
 use Rattle.checklist_frame.proofs.file_entries.Statement.{statement}
 use Rattle.checklist_frame.proofs.file_entries.Tie as tie
 
@@ -17,7 +18,7 @@ sub-if1 c = search needs
 returns : tie.Need-returns
 returns c =
     let s = c .before in
-    told-no (λ e. c .if1 .taken (three-are (s .args .t1) (s .args .i) (search needs) (s .pre .0) e .first))
+    is-not (λ e. c .if1 .taken (three-are (s .args .t1) (s .args .i) (search needs) (s .pre .0) e .first))
 
 element-copy-out-if2 : tie.Need-element-copy-out-if2
 element-copy-out-if2 c = search needs
@@ -31,7 +32,7 @@ sub-if2 c = search needs
 returns-2 : tie.Need-returns-2
 returns-2 c =
     let s = c .before .before in
-    told-no (λ e. c .if2 .taken (three-are (s .args .t1) (s .args .i) (search needs) (s .pre .0) e .second))
+    is-not (λ e. c .if2 .taken (three-are (s .args .t1) (s .args .i) (search needs) (s .pre .0) e .second))
 
 element-copy-out-if3 : tie.Need-element-copy-out-if3
 element-copy-out-if3 c = search needs
@@ -45,7 +46,7 @@ sub-if3 c = search needs
 returns-3 : tie.Need-returns-3
 returns-3 c =
     let s = c .before .before .before in
-    told-no (λ e. c .if3 .taken (three-are (s .args .t1) (s .args .i) (search needs) (s .pre .0) e .third))
+    is-not (λ e. c .if3 .taken (three-are (s .args .t1) (s .args .i) (search needs) (s .pre .0) e .third))
 
 returns-4 : tie.Need-returns-4
 returns-4 c =

@@ -2,7 +2,8 @@
 use mathlib.Core.Path.{sym, _∙_}
 use borrow.Author.Needs.{needs}
 use Rattle.theory.proofs.Lists.{not-true, not-false}
-use Rattle.checklist_frame.proofs.Slots.{told-no, told-yes, free-passes, no-mark, mark-told}
+use Rattle.theory.proofs.Lists.{is-not}
+use Rattle.checklist_frame.proofs.Slots.{told-yes, free-passes, no-mark, mark-told}
 use Rattle.checklist_frame.proofs.free_or_mark.Statement.{statement}
 use Rattle.checklist_frame.proofs.free_or_mark.Tie as tie
 
@@ -17,7 +18,7 @@ returns-2 c =
     let m = c .before in
     let e1 = m .before .before in
     let a = e1 .before .before .args in
-    told-no (no-mark (a .n) (a .rule) (e1 .if1 .left) (sym (m .is-mark .ensures) ∙ not-true _ (c .if2 .taken)))
+    is-not (no-mark (a .n) (a .rule) (e1 .if1 .left) (sym (m .is-mark .ensures) ∙ not-true _ (c .if2 .taken)))
 
 holds-fact-requires : tie.Need-holds-fact-requires
 holds-fact-requires c κs = search needs

@@ -3,8 +3,9 @@ use native.Mathlib.Omega.{arith}
 use mathlib.Core.Path.{_≡_}
 use lib.ListN.{length, length-map}
 use Rattle.theory.specs.Limits.{document}
+use Rattle.theory.proofs.Lists.{is-not}
 use Rattle.checklist_frame.specs.Frame.{fact}
-use Rattle.checklist_frame.proofs.Slots.{told-no, head-held, positives-held, negatives-held, fact-held}
+use Rattle.checklist_frame.proofs.Slots.{head-held, positives-held, negatives-held, fact-held}
 use Rattle.checklist_frame.proofs.holds_fact.Statement.{statement}
 use Rattle.checklist_frame.proofs.holds_fact.Tie as tie
 
@@ -15,17 +16,17 @@ long s = simp length-map at (s .good .0 .1 .1 .1 .1 .1 .1 .0 .1 .0 .1)
 returns : tie.Need-returns
 returns c =
     let s = c .before .before .before in
-    told-no (λ h. c .if1 .taken (head-held (s .args .rule) (fact (s .args .atom .0)) (long s) h))
+    is-not (λ h. c .if1 .taken (head-held (s .args .rule) (fact (s .args .atom .0)) (long s) h))
 
 returns-2 : tie.Need-returns-2
 returns-2 c =
     let s = c .before .before .before .before .before in
-    told-no (λ h. c .if2 .taken (positives-held (s .args .rule) (fact (s .args .atom .0)) (long s) h (omega arith)))
+    is-not (λ h. c .if2 .taken (positives-held (s .args .rule) (fact (s .args .atom .0)) (long s) h (omega arith)))
 
 returns-3 : tie.Need-returns-3
 returns-3 c =
     let s = c .before .before .before .before .before .before .before in
-    told-no (λ h. c .if3 .taken
+    is-not (λ h. c .if3 .taken
     (negatives-held (s .args .rule) (fact (s .args .atom .0)) (long s) h (omega arith) (omega arith)))
 
 returns-4 : tie.Need-returns-4

@@ -3,13 +3,13 @@ use native.Mathlib.Omega.{arith}
 use mathlib.Core.Path.{sym, _∙_}
 use borrow.Author.Needs.{needs}
 use Rattle.theory.proofs.Lists.{not-true, not-false}
-use Rattle.checklist_frame.proofs.Frames.{listed-file}
+use Rattle.checklist_frame.proofs.Frames.{on-list-between}
 use Rattle.checklist_open.proofs.Opening.{open-refused, open-accepted}
 use Rattle.checklist_open.proofs.open.Statement.{statement}
 use Rattle.checklist_open.proofs.open.Tie as tie
 
-listed-requires : tie.Need-listed-requires
-listed-requires c κs = omega arith
+on-list-requires : tie.Need-on-list-requires
+on-list-requires c κs = omega arith
 
 empty-requires : tie.Need-empty-requires
 empty-requires c κs = search needs
@@ -18,20 +18,20 @@ returns : tie.Need-returns
 returns c =
     let off = c .before in
     let l = off .before in
-    open-refused (l .before .args .files) _ (sym (l .listed .ensures) ∙ not-true _ (off .if1 .taken))
+    open-refused (l .before .args .files) _ (sym (l .on-list .ensures) ∙ not-true _ (off .if1 .taken))
     (c .empty .ensures)
 
 framed-requires : tie.Need-framed-requires
 framed-requires c κs =
     let l = c .before in
-    listed-file 60 (l .before .args .files) (sym (l .listed .ensures) ∙ not-false _ (c .if1 .left))
+    on-list-between 60 (l .before .args .files) (sym (l .on-list .ensures) ∙ not-false _ (c .if1 .left))
 
 returns-2 : tie.Need-returns-2
 returns-2 c =
     let on = c .before in
     let l = on .before in
-    open-accepted (l .before .args .files) _ (sym (l .listed .ensures) ∙ not-false _ (on .if1 .left))
+    open-accepted (l .before .args .files) _ (sym (l .on-list .ensures) ∙ not-false _ (on .if1 .left))
     (c .framed .ensures)
 
 pub open-spec : {M : Type 1} → statement M
-open-spec = tie.close (tie.spec listed-requires empty-requires returns framed-requires returns-2)
+open-spec = tie.close (tie.spec on-list-requires empty-requires returns framed-requires returns-2)

@@ -25,11 +25,16 @@ step-requires : tie.Need-step-requires Inv-loop μ-loop
 step-requires c κs = tt
 
 same-length : tie.Need-same-length Inv-loop μ-loop
-same-length c = (let g = going-length _ _ _ _ _ _ _ (c .before .before .before .before .loop .inv) in search needs)
+same-length c =
+    let l = c .before .before .before .before in
+    let g = going-length _ _ _ _ _ _ _ (l .loop .inv) in
+    search needs
 
 returns : tie.Need-returns Inv-loop μ-loop
-returns c = going-over _ _ _ _ _ _ _ (c .before .before .before .before .loop .inv)
-    (c .before .before .step .ensures .over (not-true _ (c .if1 .taken)))
+returns c =
+    let made = c .before .before in
+    let l = made .before .before in
+    going-over _ _ _ _ _ _ _ (l .loop .inv) (made .step .ensures .over (not-true _ (c .if1 .taken)))
 
 mul-answers : tie.Need-mul-answers Inv-loop μ-loop
 mul-answers c = search needs
@@ -41,19 +46,27 @@ add-count : tie.Need-add-count Inv-loop μ-loop
 add-count c = search needs
 
 loop-less : tie.Need-loop-less Inv-loop μ-loop
-loop-less c = (let g = going-length _ _ _ _ _ _ _ (c .before .before .before .before .before .loop .inv) in omega arith)
+loop-less c =
+    let l = c .before .before .before .before .before in
+    let g = going-length _ _ _ _ _ _ _ (l .loop .inv) in
+    omega arith
 
 loop-again : tie.Need-loop-again Inv-loop μ-loop
-loop-again c = (let g = going-length _ _ _ _ _ _ _ (c .before .before .before .before .before .loop .inv) in
-    going-next _ _ _ _ _ _ _ (c .before .before .before .before .before .loop .inv) _ _ _ (omega arith)
-    (c .before .before .before .step .ensures .made (not-false _ (c .before .if1 .left))))
+loop-again c =
+    let made = c .before .before .before in
+    let l = made .before .before in
+    let g = going-length _ _ _ _ _ _ _ (l .loop .inv) in
+    going-next _ _ _ _ _ _ _ (l .loop .inv) _ _ _ (omega arith)
+    (made .step .ensures .made (not-false _ (c .before .if1 .left)))
 
 same-length-2 : tie.Need-same-length-2 Inv-loop μ-loop
 same-length-2 c = (let g = going-length _ _ _ _ _ _ _ (c .before .loop .inv) in search needs)
 
 returns-2 : tie.Need-returns-2 Inv-loop μ-loop
-returns-2 c = (let g = going-length _ _ _ _ _ _ _ (c .before .loop .inv) in
-    going-full _ _ _ _ _ _ _ (c .before .loop .inv) (omega arith))
+returns-2 c =
+    let l = c .before in
+    let g = going-length _ _ _ _ _ _ _ (l .loop .inv) in
+    going-full _ _ _ _ _ _ _ (l .loop .inv) (omega arith)
 
 pub replay-spec : {M : Type 1} → statement M
 replay-spec =

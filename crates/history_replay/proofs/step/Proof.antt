@@ -23,7 +23,7 @@ remove-requires : tie.Need-remove-requires
 remove-requires c κs = tt
 
 step-changed-requires : tie.Need-step-changed-requires
-step-changed-requires c κs = search needs
+step-changed-requires c κs = tt
 
 enum-known-next-2 : tie.Need-enum-known-next-2
 enum-known-next-2 c = search needs
@@ -62,7 +62,7 @@ add-requires : tie.Need-add-requires
 add-requires c κs = tt
 
 added-requires : tie.Need-added-requires
-added-requires c κs = search needs
+added-requires c κs = tt
 
 enum-known-next-3 : tie.Need-enum-known-next-3
 enum-known-next-3 c = search needs
@@ -87,16 +87,16 @@ load-requires : tie.Need-load-requires
 load-requires c κs = tt
 
 step-changed-requires-2 : tie.Need-step-changed-requires-2
-step-changed-requires-2 c κs = search needs
+step-changed-requires-2 c κs = tt
 
 enum-known-next-4 : tie.Need-enum-known-next-4
 enum-known-next-4 c = search needs
 
 call-checklist-requires : tie.Need-call-checklist-requires
-call-checklist-requires c κs = search needs
+call-checklist-requires c κs = tt
 
 step-changed-requires-3 : tie.Need-step-changed-requires-3
-step-changed-requires-3 c κs = search needs
+step-changed-requires-3 c κs = tt
 
 enum-known-next-5 : tie.Need-enum-known-next-5
 enum-known-next-5 c = search needs
@@ -137,7 +137,7 @@ replace-requires : tie.Need-replace-requires
 replace-requires c κs = tt
 
 step-changed-requires-4 : tie.Need-step-changed-requires-4
-step-changed-requires-4 c κs = search needs
+step-changed-requires-4 c κs = tt
 
 enum-known-next-6 : tie.Need-enum-known-next-6
 enum-known-next-6 c = search needs
@@ -146,40 +146,54 @@ mute-requires : tie.Need-mute-requires
 mute-requires c κs = tt
 
 step-changed-requires-5 : tie.Need-step-changed-requires-5
-step-changed-requires-5 c κs = search needs
+step-changed-requires-5 c κs = tt
+
+-- Of each call: the step in which it was made, and the one in which it was read.
 
 returns : tie.Need-returns
 returns c = step-end _ _ _ _ _ (c .before .before .next-call .ensures) (c .enum-told .given .1)
 
 returns-2 : tie.Need-returns-2
-returns-2 c = step-made _ _ _ _ _ (c .before .before .before .before .before .next-call .ensures) _ _ _ _ _ _
-    (c .before .before .before .next .given .1) refl (removes (c .before .remove .ensures)) (c .step-changed .ensures)
+returns-2 c =
+    let made = c .before in
+    let next = made .before .before in
+    step-made _ _ _ _ _ (next .before .before .next-call .ensures) _ _ _ _ _ _ (next .next .given .1) refl
+    (removes (made .remove .ensures)) (c .step-changed .ensures)
 
 returns-3 : tie.Need-returns-3
-returns-3 c = step-made _ _ _ _ _
-    (c .before .before .before .before .before .before .before .before .next-call .ensures) _ _ _ _ _ _
-    (c .before .before .before .before .before .before .next2 .given .1) refl (adds (c .before .before .add .ensures))
-    (told-step _ _ _ _ (c .added .ensures))
+returns-3 c =
+    let made = c .before .before in
+    let next = made .before .before .before .before in
+    step-made _ _ _ _ _ (next .before .before .next-call .ensures) _ _ _ _ _ _ (next .next2 .given .1) refl
+    (adds (made .add .ensures)) (told-step _ _ _ _ (c .added .ensures))
 
 returns-4 : tie.Need-returns-4
-returns-4 c = step-made _ _ _ _ _ (c .before .before .before .before .before .before .next-call .ensures) _ _ _ _ _ _
-    (c .before .before .before .before .next3 .given .1) refl (loads (c .before .load .ensures))
-    (c .step-changed2 .ensures)
+returns-4 c =
+    let made = c .before in
+    let next = made .before .before .before in
+    step-made _ _ _ _ _ (next .before .before .next-call .ensures) _ _ _ _ _ _ (next .next3 .given .1) refl
+    (loads (made .load .ensures)) (c .step-changed2 .ensures)
 
 returns-5 : tie.Need-returns-5
-returns-5 c = step-made _ _ _ _ _ (c .before .before .before .before .before .next-call .ensures) _ _ _ _ _ _
-    (c .before .before .before .next4 .given .1) refl (checklist-step _ _ _ (c .before .call-checklist .ensures))
-    (c .step-changed3 .ensures)
+returns-5 c =
+    let made = c .before in
+    let next = made .before .before in
+    step-made _ _ _ _ _ (next .before .before .next-call .ensures) _ _ _ _ _ _ (next .next4 .given .1) refl
+    (checklist-step _ _ _ (made .call-checklist .ensures)) (c .step-changed3 .ensures)
 
 returns-6 : tie.Need-returns-6
-returns-6 c = step-made _ _ _ _ _
-    (c .before .before .before .before .before .before .before .next-call .ensures) _ _ _ _ _ _
-    (c .before .before .before .before .before .next5 .given .1) refl (replaces (c .before .replace .ensures))
-    (c .step-changed4 .ensures)
+returns-6 c =
+    let made = c .before in
+    let next = made .before .before .before .before in
+    step-made _ _ _ _ _ (next .before .before .next-call .ensures) _ _ _ _ _ _ (next .next5 .given .1) refl
+    (replaces (made .replace .ensures)) (c .step-changed4 .ensures)
 
 returns-7 : tie.Need-returns-7
-returns-7 c = step-made _ _ _ _ _ (c .before .before .before .before .before .next-call .ensures) _ _ _ _ _ _
-    (c .before .before .before .next6 .given .1) refl (mutes (c .before .mute .ensures)) (c .step-changed5 .ensures)
+returns-7 c =
+    let made = c .before in
+    let next = made .before .before in
+    step-made _ _ _ _ _ (next .before .before .next-call .ensures) _ _ _ _ _ _ (next .next6 .given .1) refl
+    (mutes (made .mute .ensures)) (c .step-changed5 .ensures)
 
 pub step-spec : {M : Type 1} → statement M
 step-spec =

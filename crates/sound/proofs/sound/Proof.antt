@@ -5,7 +5,7 @@ use lib.ListN.{length, length-map, getD}
 use Rattle.theory.specs.Limits.{document}
 use Rattle.table.specs.Rules.{pastRule}
 use Rattle.table.specs.Clean.{WellFormed}
-use Rattle.questions.proofs.Cleanness.{is-not}
+use Rattle.theory.proofs.Lists.{is-not}
 use Rattle.questions.proofs.Passes.{refused, granted}
 use Rattle.sound.proofs.Soundness.{sound-well-formed, sound-kept, sound-occurrence, sound-of}
 use Rattle.sound.proofs.Soundness.{sound-single, well-formed-bounded}

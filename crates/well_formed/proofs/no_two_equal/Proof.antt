@@ -6,7 +6,7 @@ use lib.ListN.{length, length-map, getD}
 use Rattle.theory.specs.Limits.{document}
 use Rattle.theory.proofs.Lists.{clash}
 use Rattle.table.specs.Rules.{slotOf, programOf, pastRule}
-use Rattle.questions.proofs.Cleanness.{is-not}
+use Rattle.theory.proofs.Lists.{is-not}
 use Rattle.table.proofs.Members.{all-alike}
 use Rattle.table.proofs.Programs.{program-at, slot-rule}
 use Rattle.well_formed.specs.Keys.{keys}

@@ -1,0 +1,2 @@
+-- How the calls on a file end, from what add, remove and label answered.
+pub mod Ends
