@@ -16,20 +16,8 @@ pub enum Line {
 
 #[derive(Clone, PartialEq, Eq, Debug)]
 pub enum Command {
-    Add {
-        head: u32,
-        positives: Vec<u32>,
-        negatives: Vec<u32>,
-    },
-    Remove {
-        slot: u32,
-    },
-    Replace {
-        slot: u32,
-        head: u32,
-        positives: Vec<u32>,
-        negatives: Vec<u32>,
-    },
+    /// An addition, a removal or a replacement.
+    Change(Call),
     Why {
         atom: u32,
     },
@@ -40,27 +28,7 @@ impl Command {
     /// The call that changes the table, if the command is one.
     pub fn change(self) -> Option<Call> {
         match self {
-            Command::Add {
-                head,
-                positives,
-                negatives,
-            } => Some(Call::Add {
-                head,
-                positives,
-                negatives,
-            }),
-            Command::Remove { slot } => Some(Call::Remove { slot }),
-            Command::Replace {
-                slot,
-                head,
-                positives,
-                negatives,
-            } => Some(Call::Replace {
-                slot,
-                head,
-                positives,
-                negatives,
-            }),
+            Command::Change(call) => Some(call),
             Command::Why { .. } | Command::Labels => None,
         }
     }
@@ -84,36 +52,38 @@ pub fn read_line(line: &[u8]) -> Line {
 
 fn read_command(tokens: &[&[u8]]) -> Option<Command> {
     match tokens {
-        [b"A", head, b":", lists @ ..] => read_addition(head, lists),
-        [b"P", slot, head, b":", lists @ ..] => read_replacement(slot, head, lists),
-        [b"R", slot] => Some(Command::Remove {
-            slot: read_number(slot)?,
-        }),
         [b"W", atom] => Some(Command::Why {
             atom: read_number(atom)?,
         }),
         [b"L"] => Some(Command::Labels),
-        _ => None,
+        _ => read_change(tokens).map(Command::Change),
     }
 }
 
-fn read_addition(head: &[u8], lists: &[&[u8]]) -> Option<Command> {
-    let (positives, negatives) = read_lists(lists)?;
-    Some(Command::Add {
-        head: read_number(head)?,
-        positives,
-        negatives,
-    })
-}
-
-fn read_replacement(slot: &[u8], head: &[u8], lists: &[&[u8]]) -> Option<Command> {
-    let (positives, negatives) = read_lists(lists)?;
-    Some(Command::Replace {
-        slot: read_number(slot)?,
-        head: read_number(head)?,
-        positives,
-        negatives,
-    })
+fn read_change(tokens: &[&[u8]]) -> Option<Call> {
+    match tokens {
+        [b"A", head, b":", lists @ ..] => {
+            let (positives, negatives) = read_lists(lists)?;
+            Some(Call::Add {
+                head: read_number(head)?,
+                positives,
+                negatives,
+            })
+        }
+        [b"P", slot, head, b":", lists @ ..] => {
+            let (positives, negatives) = read_lists(lists)?;
+            Some(Call::Replace {
+                slot: read_number(slot)?,
+                head: read_number(head)?,
+                positives,
+                negatives,
+            })
+        }
+        [b"R", slot] => Some(Call::Remove {
+            slot: read_number(slot)?,
+        }),
+        _ => None,
+    }
 }
 
 /// The positives stand before the first `!`, the negatives after it. A second `!` or `:` is

@@ -4,6 +4,7 @@
 //! the book starts from the empty table and each line leaves a sound one.
 
 use crate::book::Book;
+use crate::calls::{Answer, Call};
 use crate::command::{read_line, Command, Line};
 use crate::labels::{Label, Labelled};
 use crate::limits::{ATOMS, INPUT_BYTES};
@@ -83,18 +84,7 @@ impl Sheet {
             Line::Blank => Ok(()),
             Line::LineTooLong => Err(14),
             Line::NotACommand => Err(13),
-            Line::Command(Command::Add {
-                head,
-                positives,
-                negatives,
-            }) => self.add(head, &positives, &negatives),
-            Line::Command(Command::Remove { slot }) => self.remove(slot),
-            Line::Command(Command::Replace {
-                slot,
-                head,
-                positives,
-                negatives,
-            }) => self.replace(slot, head, &positives, &negatives),
+            Line::Command(Command::Change(call)) => self.change(&call),
             Line::Command(Command::Why { atom }) => self.why(atom),
             Line::Command(Command::Labels) => {
                 self.print_labels();
@@ -103,30 +93,15 @@ impl Sheet {
         }
     }
 
-    fn add(&mut self, head: u32, positives: &[u32], negatives: &[u32]) -> Result<(), u32> {
-        let slot = self.book.add(head, positives, negatives)?;
+    fn change(&mut self, call: &Call) -> Result<(), u32> {
+        let answer = self.book.make(call).expect("the book has changes")?;
         self.labelled = None;
-        self.print(&format!("slot {slot}"));
-        Ok(())
-    }
-
-    fn remove(&mut self, slot: u32) -> Result<(), u32> {
-        self.book.remove(slot)?;
-        self.labelled = None;
-        self.print(&format!("removed {slot}"));
-        Ok(())
-    }
-
-    fn replace(
-        &mut self,
-        slot: u32,
-        head: u32,
-        positives: &[u32],
-        negatives: &[u32],
-    ) -> Result<(), u32> {
-        self.book.replace(slot, head, positives, negatives)?;
-        self.labelled = None;
-        self.print(&format!("replaced {slot}"));
+        match (answer, call) {
+            (Answer::Slot(slot), _) => self.print(&format!("slot {slot}")),
+            (_, Call::Remove { slot }) => self.print(&format!("removed {slot}")),
+            (_, Call::Replace { slot, .. }) => self.print(&format!("replaced {slot}")),
+            _ => unreachable!("a sheet has no other change: {call:?}"),
+        }
         Ok(())
     }
 

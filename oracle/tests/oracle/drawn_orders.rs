@@ -114,11 +114,11 @@ fn lists_of_numbers_and_sheets_name_rules_again_in_another_order() {
         let mut book = Book::empty();
         for line in sheet(&mut random, flavour).split(|&byte| byte == b'\n') {
             match read_line(line) {
-                Line::Command(Command::Add {
+                Line::Command(Command::Change(Call::Add {
                     head,
                     positives,
                     negatives,
-                }) => orders.add(&mut book, head, &positives, &negatives),
+                })) => orders.add(&mut book, head, &positives, &negatives),
                 Line::Command(other) => drop(other.change().map(|call| book.make(&call))),
                 _ => {}
             }

@@ -1,6 +1,6 @@
 //! The language of the sheet.
 
-use oracle::calls;
+use oracle::calls::{self, Answer, Call, Lent};
 use oracle::command::{read_line, Command, Line};
 use oracle::generate::lines::FORMLESS;
 use oracle::generate::sheets::{sheet, Flavour};
@@ -168,21 +168,15 @@ fn printed_by_calls(input: &[u8]) -> String {
 
 fn called(table: &mut RawTable, command: &Command) -> Result<String, Refusal> {
     match command {
-        Command::Add {
-            head,
-            positives,
-            negatives,
-        } => calls::add(table, *head, positives, negatives).map(|slot| format!("slot {slot}\n")),
-        Command::Remove { slot } => {
-            calls::remove(table, *slot).map(|()| format!("removed {slot}\n"))
+        Command::Change(call) => {
+            let answer = call.make(table, &mut Lent::default())?;
+            Ok(match (answer, call) {
+                (Answer::Slot(slot), _) => format!("slot {slot}\n"),
+                (_, Call::Replace { slot, .. }) => format!("replaced {slot}\n"),
+                (_, Call::Remove { slot }) => format!("removed {slot}\n"),
+                _ => panic!("{call:?}"),
+            })
         }
-        Command::Replace {
-            slot,
-            head,
-            positives,
-            negatives,
-        } => calls::replace(table, *slot, *head, positives, negatives)
-            .map(|()| format!("replaced {slot}\n")),
         Command::Why { atom } => {
             let mut buffer = [0; 256];
             let count = calls::reason(table, *atom, &mut buffer)? as usize;
