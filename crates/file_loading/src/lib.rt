@@ -12,6 +12,7 @@ use file_blocks::word_at;
 use questions::clean::well_formed;
 use table::Atom;
 use table::Rule;
+use table::Slot;
 use table::Table;
 ghost use mathlib.Core.Path.{_≡_};
 ghost use mathlib.Core.Bool.{true};
@@ -215,13 +216,14 @@ fn rule_at(bytes: &[u8], at: usize) -> Rule
 
 // Can the record stand where the slots below `least` are behind: is its slot none of them and below the number of slots,
 // and is its rule one that a sound table can hold?
-fn stands(slot: usize, least: usize, rule: Rule) -> bool
-    ensures { λ r. ⌜ (r ≡ true) ↔ Stands slot least rule ⌝ }
+fn stands(slot: Slot, least: usize, rule: Rule) -> bool
+    ensures { λ r. ⌜ (r ≡ true) ↔ Stands (slot .0) least rule ⌝ }
 {
-    if slot < least {
+    let s = slot.0 as usize;
+    if s < least {
         return false;
     }
-    if slot >= Table::SLOTS {
+    if s >= Table::SLOTS {
         return false;
     }
     well_formed(rule)
@@ -239,7 +241,7 @@ pub fn read_records(bytes: &[u8]) -> Records
     let mut k: usize = 0;
     while k < count {
         let at = place_at(k);
-        let slot = word_at(bytes, at) as usize;
+        let slot = Slot(word_at(bytes, at));
         let rule = rule_at(bytes, at);
         if !stands(slot, least, rule) {
             return Records {
@@ -247,8 +249,9 @@ pub fn read_records(bytes: &[u8]) -> Records
                 rules: rules,
             };
         }
-        rules[slot] = rule;
-        least = slot + 1;
+        let s = slot.0 as usize;
+        rules[s] = rule;
+        least = s + 1;
         k += 1;
     }
     Records {

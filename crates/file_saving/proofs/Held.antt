@@ -13,13 +13,14 @@ use Rattle.theory.specs.Limits.{document}
 use Rattle.theory.specs.Rules.{Page, Pages}
 use Rattle.theory.proofs.Lists.{le-or-lt}
 use Rattle.table.specs.declared.Rule.{Rule}
+use Rattle.table.specs.declared.Slot.{Slot}
 use Rattle.table.specs.Rules.{bookOf, pageOf, pastRule}
 use Rattle.table.proofs.Programs.{book-at, book-length, page-free, page-there}
 use Rattle.file_blocks.specs.Places.{Place, recorded, recordsFrom, records}
 use Rattle.file_blocks.proofs.Pages.{records-append}
 use Rattle.file_blocks.proofs.Records.{page-below}
 use Rattle.file_saving.specs.declared.HeldSlots.{HeldSlots}
-use Rattle.file_saving.specs.Held.{HeldIn}
+use Rattle.file_saving.specs.Held.{HeldIn, slot}
 use Rattle.file_saving.specs.Bytes.{heldPage}
 
 -- What a page of a slot is.
@@ -30,18 +31,18 @@ page-of r p e = ⊎-elim
     (le-or-lt (r .state) 0)
 
 -- Of the first i slots, those that hold rules are noted.
-pub record Noting (B : Pages) (i count : ℕ) (slots : List ℕ) : Type 0 where
+pub record Noting (B : Pages) (i count : ℕ) (slots : List Slot) : Type 0 where
   pub low : count ≤ i
   pub long : length slots ≡ document .slots
   pub many : count ≡ length (records (take i B))
-  pub noted : take count slots ≡ map (λ p. p .slot) (records (take i B))
+  pub noted : take count slots ≡ map (λ p. slot (p .slot)) (records (take i B))
 
-pub note-start : (B : Pages) (slots : List ℕ) → length slots ≡ document .slots → Noting B 0 0 slots
+pub note-start : (B : Pages) (slots : List Slot) → length slots ≡ document .slots → Noting B 0 0 slots
 unfolding recordsFrom
 note-start B slots l = record { low = omega arith; long = l; many = refl; noted = refl }
 
 -- Slot i is noted behind the others, and counts if it holds a rule.
-module _ (B : Pages) (i count : ℕ) (slots : List ℕ) (below : i < length B) (room : i < document .slots)
+module _ (B : Pages) (i count : ℕ) (slots : List Slot) (below : i < length B) (room : i < document .slots)
     (N : Noting B i count slots)
   where
     one-more : records (take (i + 1) B) ≡ records (take i B) ++ recordsFrom i (getD B i none ∷ [])
@@ -52,10 +53,10 @@ module _ (B : Pages) (i count : ℕ) (slots : List ℕ) (below : i < length B) (
         ∙ records-append 0 (take i B) (getD B i none ∷ [])
         ∙ ap (λ (k : ℕ). records (take i B) ++ recordsFrom k (getD B i none ∷ [])) e)
 
-    stored : length (set slots count i) ≡ document .slots
-    stored = length-set slots count i ∙ N .long
+    stored : length (set slots count (slot i)) ≡ document .slots
+    stored = length-set slots count (slot i) ∙ N .long
 
-    note-free : getD B i none ≡ none → Noting B (i + 1) count (set slots count i)
+    note-free : getD B i none ≡ none → Noting B (i + 1) count (set slots count (slot i))
     unfolding recordsFrom
     note-free e =
         let same : records (take (i + 1) B) ≡ records (take i B) =
@@ -65,31 +66,31 @@ module _ (B : Pages) (i count : ℕ) (slots : List ℕ) (below : i < length B) (
           long = stored;
           many = N .many ∙ ap length (sym same);
           noted =
-              take-set-le count slots count i (omega arith) ∙ N .noted
-              ∙ ap (map (λ (p : Place). p .slot)) (sym same);
+              take-set-le count slots count (slot i) (omega arith) ∙ N .noted
+              ∙ ap (map (λ (p : Place). slot (p .slot))) (sym same);
         }
 
-    note-held : (p : Page) → getD B i none ≡ some p → Noting B (i + 1) (count + 1) (set slots count i)
+    note-held : (p : Page) → getD B i none ≡ some p → Noting B (i + 1) (count + 1) (set slots count (slot i))
     unfolding recordsFrom
     note-held p e =
         let more : records (take (i + 1) B) ≡ records (take i B) ++ (recorded i p ∷ []) =
         one-more ∙ ap (λ o. records (take i B) ++ recordsFrom i (o ∷ [])) e in
-        let last = take-suc-set slots count i (omega (arith, N .low, N .long)) in
+        let last = take-suc-set slots count (slot i) (omega (arith, N .low, N .long)) in
         record {
           low = omega (arith, N .low);
           long = stored;
           many = omega (arith, N .many, ap length more, length-append (records (take i B)) (recorded i p ∷ []));
           noted =
               rw (add-one count)
-              (last ∙ ap (λ (ns : List ℕ). ns ++ (i ∷ [])) (N .noted)
-              ∙ sym (map-append (λ (p : Place). p .slot) (records (take i B)) (recorded i p ∷ []))
-              ∙ ap (map (λ (p : Place). p .slot)) (sym more));
+              (last ∙ ap (λ (ns : List Slot). ns ++ (slot i ∷ [])) (N .noted)
+              ∙ sym (map-append (λ (p : Place). slot (p .slot)) (records (take i B)) (recorded i p ∷ []))
+              ∙ ap (map (λ (p : Place). slot (p .slot))) (sym more));
         }
 
 pub note-next :
-    (rules : List Rule) (i count n : ℕ) (slots : List ℕ) → i < length rules → i < document .slots
+    (rules : List Rule) (i count n : ℕ) (slots : List Slot) → i < length rules → i < document .slots
     → n ≡ min (getD rules i pastRule .state) 1 → Noting (bookOf rules) i count slots
-    → Noting (bookOf rules) (i + 1) (count + n) (set slots count i)
+    → Noting (bookOf rules) (i + 1) (count + n) (set slots count (slot i))
 note-next rules i count n slots below room told N =
     let low : i < length (bookOf rules) = omega (arith, book-length rules) in
     ⊎-elim
@@ -106,14 +107,14 @@ note-next rules i count n slots below room told N =
 
 -- All slots are noted.
 pub note-over :
-    (B : Pages) (i count : ℕ) (slots : List ℕ) → length B ≤ i → i ≤ document .slots → Noting B i count slots
+    (B : Pages) (i count : ℕ) (slots : List Slot) → length B ≤ i → i ≤ document .slots → Noting B i count slots
     → HeldIn B (record { count = count; slots = slots })
 note-over B i count slots over room N =
     let all = take-all i B over in
     record {
       few = omega (arith, N .low);
       count = N .many ∙ ap (λ (Q : Pages). length (records Q)) all;
-      slots = N .noted ∙ ap (λ (Q : Pages). map (λ p. p .slot) (records Q)) all;
+      slots = N .noted ∙ ap (λ (Q : Pages). map (λ p. slot (p .slot)) (records Q)) all;
     }
 
 -- A record is that of a page with a rule, behind s slots.
@@ -121,7 +122,7 @@ record RecordOf (s : ℕ) (B : Pages) (p : Place) : Type 0 where
   slot : ℕ
   page : Page
   there : getD B slot none ≡ some page
-  place : p ≡ recorded (s + slot) page
+  is : p ≡ recorded (s + slot) page
 
 record-of :
     (s : ℕ) (B : Pages) (k : ℕ) (d : Place) → k < length (recordsFrom s B)
@@ -135,11 +136,11 @@ record-of s (none ∷ B) k d l =
       slot = suc (R .slot);
       page = R .page;
       there = R .there;
-      place = R .place ∙ ap (λ (n : ℕ). recorded n (R .page)) e;
+      is = R .is ∙ ap (λ (n : ℕ). recorded n (R .page)) e;
     }
 record-of s (some p ∷ B) zero d l =
     let e : s ≡ s + 0 = omega arith in
-    record { slot = 0; page = p; there = refl; place = ap (λ (n : ℕ). recorded n p) e }
+    record { slot = 0; page = p; there = refl; is = ap (λ (n : ℕ). recorded n p) e }
 record-of s (some p ∷ B) (suc k) d l =
     let R = record-of (suc s) B k d (omega arith) in
     let e : suc s + R .slot ≡ s + suc (R .slot) = omega arith in
@@ -147,7 +148,7 @@ record-of s (some p ∷ B) (suc k) d l =
       slot = suc (R .slot);
       page = R .page;
       there = R .there;
-      place = R .place ∙ ap (λ (n : ℕ). recorded n (R .page)) e;
+      is = R .is ∙ ap (λ (n : ℕ). recorded n (R .page)) e;
     }
 
 -- What stands past the last record.
@@ -156,22 +157,22 @@ noPlace = record { slot = 0; head = 0; muted = false; positives = 0; negatives =
 
 -- Record k is that of the rule in the slot noted at k.
 module _ (rules : List Rule) (h : HeldSlots) (H : HeldIn (bookOf rules) h) (k : ℕ) (low : k < h .count) where
-  abbrev pub slotAt : ℕ
-  slotAt = getD (h .slots) k 0
+  abbrev pub notedSlot : ℕ
+  notedSlot = getD (h .slots) k (slot 0) .0
 
   found : RecordOf 0 (bookOf rules) (getD (records (bookOf rules)) k noPlace)
   found = record-of 0 (bookOf rules) k noPlace (omega (arith, H .count))
 
-  same-slot : slotAt ≡ found .slot
+  same-slot : notedSlot ≡ found .slot
   same-slot =
       let e : 0 + found .slot ≡ found .slot = omega arith in
-      sym (getD-take (h .count) (h .slots) k 0 low)
-      ∙ ap (λ (ns : List ℕ). getD ns k 0) (H .slots)
-      ∙ List·getD-map (λ (p : Place). p .slot) (records (bookOf rules)) k noPlace
-      ∙ ap (λ (p : Place). p .slot) (found .place)
+      ap (λ (n : Slot). n .0) (sym (getD-take (h .count) (h .slots) k (slot 0) low)
+      ∙ ap (λ (ns : List Slot). getD ns k (slot 0)) (H .slots)
+      ∙ List·getD-map (λ (p : Place). slot (p .slot)) (records (bookOf rules)) k noPlace)
+      ∙ ap (λ (p : Place). p .slot) (found .is)
       ∙ e
 
-  pub slot-below : slotAt < length rules
+  pub slot-below : notedSlot < length rules
   slot-below =
       omega (
         arith,
@@ -181,10 +182,10 @@ module _ (rules : List Rule) (h : HeldSlots) (H : HeldIn (bookOf rules) h) (k : 
       )
 
   pub record-at :
-      getD (records (bookOf rules)) k noPlace ≡ recorded slotAt (heldPage (getD rules slotAt pastRule))
+      getD (records (bookOf rules)) k noPlace ≡ recorded notedSlot (heldPage (getD rules notedSlot pastRule))
   record-at =
-      let e : 0 + found .slot ≡ slotAt = omega (arith, same-slot) in
-      let there : getD (bookOf rules) slotAt none ≡ some (found .page) = rw same-slot (found .there) in
-      found .place
+      let e : 0 + found .slot ≡ notedSlot = omega (arith, same-slot) in
+      let there : getD (bookOf rules) notedSlot none ≡ some (found .page) = rw same-slot (found .there) in
+      found .is
       ∙ ap₂ (λ (n : ℕ) (p : Page). recorded n p) e
-      (page-of (getD rules slotAt pastRule) (found .page) (sym (book-at rules slotAt) ∙ there))
+      (page-of (getD rules notedSlot pastRule) (found .page) (sym (book-at rules notedSlot) ∙ there))

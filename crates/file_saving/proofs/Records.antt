@@ -25,7 +25,7 @@ use Rattle.file_blocks.specs.Words.{word, words, padded}
 use Rattle.file_blocks.specs.Places.{countByte, Place, placeBytes, recorded, records, ENTRIES}
 use Rattle.file_blocks.specs.Files.{placesBytes, PLACE}
 use Rattle.file_saving.specs.declared.HeldSlots.{HeldSlots}
-use Rattle.file_saving.specs.Held.{HeldIn}
+use Rattle.file_saving.specs.Held.{HeldIn, slot}
 use Rattle.file_saving.specs.Bytes.{heldPage, recordBytes, recordsBytes}
 use Rattle.file_saving.proofs.Held.{noPlace, record-at}
 
@@ -168,7 +168,7 @@ module _ (rules : List Rule) (from : ℕ) where
   pub wrote-next-record :
       {before out after : List ℕ} {at : ℕ} (h : HeldSlots) (H : HeldIn (bookOf rules) h) (k : ℕ)
       → from + k < h .count → Wrote (recordsBytes rules from k) before at out (at + PLACE * k)
-      → (let s = getD (h .slots) (from + k) 0 in
+      → (let s = getD (h .slots) (from + k) (slot 0) .0 in
       Wrote (recordBytes s (getD rules s pastRule)) out (at + PLACE * k) after (at + PLACE * k + PLACE))
       → Wrote (recordsBytes rules from (k + 1)) before at after (at + PLACE * (k + 1))
   unfolding recordsBytes recordBytes

@@ -9,6 +9,7 @@ use file_blocks::sums;
 use file_blocks::write_word;
 use table::Atom;
 use table::Rule;
+use table::Slot;
 use table::Table;
 ghost use mathlib.Core.Path.{_≡_};
 ghost use Prim.Native.Nat.{min, _+_, _-_, _*_, _≤_, _<_};
@@ -24,10 +25,10 @@ ghost use Rattle.file_blocks.specs.Files as format;
 ghost use Rattle.file_saving.specs.Held.{HeldIn, CleanSlots};
 ghost use Rattle.file_saving.specs.Bytes.{recordBytes, recordsBytes, headerBytes, sumsBytes, blockBytes};
 
-// The slots that hold rules, muted or not, ascending: how many, and their numbers.
+// The slots that hold rules, muted or not, ascending: how many, and which.
 pub struct HeldSlots {
     pub count: usize,
-    pub slots: [u16; Table::SLOTS],
+    pub slots: [Slot; Table::SLOTS],
 }
 
 // 1 for a slot that holds a rule, 0 for a free one.
@@ -37,16 +38,17 @@ fn one_if_held(state: u16) -> usize
     if state == 0 { 0 } else { 1 }
 }
 
-// The slots that hold rules. Each slot's number is noted behind the others; that of a free one is written over.
+// The slots that hold rules. Each slot is noted behind the others; a free one is written over.
 pub fn held_slots(rules: [Rule; Table::SLOTS]) -> HeldSlots
     ensures { λ r. ⌜ HeldIn (bookOf rules) r ⌝ }
 {
-    let mut slots: [u16; Table::SLOTS] = [0; Table::SLOTS];
+    let mut slots: [Slot; Table::SLOTS] = [Slot(0); Table::SLOTS];
     let mut count: usize = 0;
     let mut i: usize = 0;
     while i < Table::SLOTS {
         let rule = rules[i];
-        slots[count] = i as u16;
+        let number = i as u16;
+        slots[count] = Slot(number);
         count += one_if_held(rule.state);
         i += 1;
     }
@@ -94,13 +96,13 @@ fn count_byte(state: u16, positives: u8) -> u8
 }
 
 // Writes the record of a rule in a slot: slot, head, counts with the mark, entries.
-fn write_record(out: &mut [u8], at: usize, slot: u16, rule: Rule)
+fn write_record(out: &mut [u8], at: usize, slot: Slot, rule: Rule)
     requires { ⌜ CleanRule rule ⌝ }
     requires { ⌜ at + format.PLACE ≤ length (now out) ⌝ }
-    ensures { λ _. ⌜ Wrote (recordBytes slot rule)
+    ensures { λ _. ⌜ Wrote (recordBytes (slot .0) rule)
         (now (out .entry)) at (now (out .exit)) (at + format.PLACE) ⌝ }
 {
-    write_word(out, at, slot);
+    write_word(out, at, slot.0);
     write_word(out, at + 2, rule.head.0);
     out[at + 4] = count_byte(rule.state, rule.positives);
     out[at + 5] = rule.negatives;
@@ -126,7 +128,7 @@ fn write_records(
     let mut k: usize = 0;
     while k < count {
         let slot = held.slots[from + k];
-        let s = slot as usize;
+        let s = slot.0 as usize;
         let rule = rules[s];
         write_record(out, at + PLACE * k, slot, rule);
         k += 1;

@@ -53,9 +53,6 @@ word-at-requires c κs =
     let within = place-within bs (s .pre .0) (s .pre .1) (l .loop .k) (omega (arith, l .loop .inv .0)) in
     omega (arith, c .place-at .ensures, within)
 
-cast-slot : tie.Need-cast-slot Inv-loop μ-loop
-cast-slot c = search needs
-
 rule-at-requires : tie.Need-rule-at-requires Inv-loop μ-loop
 rule-at-requires c κs =
     let l = c .before .before .before in
@@ -77,11 +74,16 @@ returns c =
     (read .before .word-at .ensures) (read .rule-at .ensures)
     (λ S. clash (c .before .stands .ensures .1 S) (not-true _ (c .if1 .taken)))
 
+cast-s : tie.Need-cast-s Inv-loop μ-loop
+cast-s c = search needs
+
 mul-rules : tie.Need-mul-rules Inv-loop μ-loop
 mul-rules c = search needs
 
 array-set-from-rules : tie.Need-array-set-from-rules Inv-loop μ-loop
-array-set-from-rules c = (let S = c .before .stands .ensures .0 (not-false _ (c .if1 .left)) in S .below)
+array-set-from-rules c =
+    let S = c .before .before .stands .ensures .0 (not-false _ (c .before .if1 .left)) in
+    S .below
 
 add-least : tie.Need-add-least Inv-loop μ-loop
 add-least c = search needs
@@ -94,14 +96,14 @@ loop-less c = search needs
 
 loop-again : tie.Need-loop-again Inv-loop μ-loop
 loop-again c =
-    let read = c .before .before in
+    let read = c .before .before .before in
     let l = read .before .before .before .before in
     let s = l .before .before .before .before .before in (
       l .loop .inv .0,
       read-next (s .args .bytes .now) (s .pre .0) (s .pre .1) (l .loop .rules) (l .loop .least) (l .loop .k)
           (l .loop .inv .1) (omega (arith, l .loop .inv .0)) _ _ _ (read .before .before .place-at .ensures)
           (read .before .word-at .ensures) (read .rule-at .ensures)
-          (c .before .stands .ensures .0 (not-false _ (c .if1 .left))),
+          (c .before .before .stands .ensures .0 (not-false _ (c .before .if1 .left))),
     )
 
 returns-2 : tie.Need-returns-2 Inv-loop μ-loop
@@ -120,10 +122,10 @@ read-records-spec =
     loop-holds
     place-at-requires
     word-at-requires
-    cast-slot
     rule-at-requires
     stands-requires
     returns
+    cast-s
     mul-rules
     array-set-from-rules
     add-least

@@ -26,14 +26,14 @@ mul-rule c = omega arith
 array-copy-out-rule : tie.Need-array-copy-out-rule Inv-loop μ-loop
 array-copy-out-rule c = omega arith
 
-cast-slots : tie.Need-cast-slots Inv-loop μ-loop
-cast-slots c = omega arith
+cast-number : tie.Need-cast-number Inv-loop μ-loop
+cast-number c = omega arith
 
 mul-slots : tie.Need-mul-slots Inv-loop μ-loop
 mul-slots c = omega arith
 
-array-write-slots : tie.Need-array-write-slots Inv-loop μ-loop
-array-write-slots c = omega arith
+array-set-from-slots : tie.Need-array-set-from-slots Inv-loop μ-loop
+array-set-from-slots c = omega arith
 
 one-if-held-requires : tie.Need-one-if-held-requires Inv-loop μ-loop
 one-if-held-requires c κs = tt
@@ -70,9 +70,9 @@ held-slots-spec =
     loop-holds
     mul-rule
     array-copy-out-rule
-    cast-slots
+    cast-number
     mul-slots
-    array-write-slots
+    array-set-from-slots
     one-if-held-requires
     add-count
     add-i

@@ -51,7 +51,7 @@ returns c =
     simp length-map at (s .good .1 .1 .1 .0 .1 .1 .1 .1 .1 .1 .0 .1 .0 .1) in
     let slot = first .write-word .ensures in
     let head = second .write-word2 .ensures in
-    wrote-record (s .args .rule) long (s .pre .0) (s .args .at) (s .args .slot) _ (s .pre .1)
+    wrote-record (s .args .rule) long (s .pre .0) (s .args .at) (s .args .slot .0) _ (s .pre .1)
     (count .count-byte .ensures) (wrote-to _ (slot .place) slot) (wrote-to _ (omega (arith, head .place)) head)
     (wrote-to _ (omega arith) (rest .write-entries .ensures))
 

@@ -8,6 +8,7 @@ use Rattle.fields.specs.Written.{Wrote}
 use Rattle.fields.proofs.Wrote.{wrote-length}
 use Rattle.file_blocks.specs.Files.{PLACE}
 use Rattle.file_saving.proofs.Held.{slot-below}
+use Rattle.file_saving.specs.Held.{slot}
 use Rattle.file_saving.specs.Bytes.{recordsBytes}
 use Rattle.file_saving.proofs.Records.{wrote-no-record, wrote-next-record}
 use borrow.Author.Needs.{needs}
@@ -24,7 +25,7 @@ abbrev μ-loop : tie.MeasureT-loop
 -- the slot of the record, which is one of the rules'
 slot-low :
     (c : tie.In-loop Inv-loop μ-loop)
-    → (let s = c .before .before .before .args in getD (s .t4 .slots) (s .from + c .before .loop .k) 0)
+    → (let s = c .before .before .before .args in getD (s .t4 .slots) (s .from + c .before .loop .k) (slot 0) .0)
     < document .slots
 slot-low c =
     let s = c .before .before .before in
@@ -48,25 +49,25 @@ element-copy-out-slot : tie.Need-element-copy-out-slot Inv-loop μ-loop
 element-copy-out-slot c = omega (arith, c .before .before .before .pre)
 
 cast-s : tie.Need-cast-s Inv-loop μ-loop
-cast-s c = omega (arith, slot-low (c .before))
+cast-s c = omega (arith, slot-low (c .before .before))
 
 mul-rule : tie.Need-mul-rule Inv-loop μ-loop
-mul-rule c = omega (arith, slot-low (c .before))
+mul-rule c = omega (arith, slot-low (c .before .before))
 
 array-copy-out-rule : tie.Need-array-copy-out-rule Inv-loop μ-loop
-array-copy-out-rule c = omega (arith, slot-low (c .before))
+array-copy-out-rule c = omega (arith, slot-low (c .before .before))
 
 mul-write-record : tie.Need-mul-write-record Inv-loop μ-loop
-mul-write-record c = omega (arith, c .before .before .before .before .before .before .pre)
+mul-write-record c = omega (arith, c .before .before .before .before .before .before .before .pre)
 
 add-write-record : tie.Need-add-write-record Inv-loop μ-loop
-add-write-record c = omega (arith, c .before .before .before .before .before .before .pre)
+add-write-record c = omega (arith, c .before .before .before .before .before .before .before .pre)
 
 write-record-requires : tie.Need-write-record-requires Inv-loop μ-loop
 write-record-requires c κs =
-    let l = c .before .before .before .before in
+    let l = c .before .before .before .before .before in
     let s = l .before .before in
-    (s .pre .0 _ (slot-low (c .before .before .before)), omega (arith, s .pre, wrote-length (l .loop .inv .1)))
+    (s .pre .0 _ (slot-low (c .before .before .before .before)), omega (arith, s .pre, wrote-length (l .loop .inv .1)))
 
 add-k : tie.Need-add-k Inv-loop μ-loop
 add-k c = omega arith
@@ -76,7 +77,7 @@ loop-less c = omega arith
 
 loop-again : tie.Need-loop-again Inv-loop μ-loop
 loop-again c =
-    let l = c .before .before .before .before .before .before .before in
+    let l = c .before .before .before .before .before .before .before .before in
     let s = l .before .before in (
       omega arith,
       wrote-next-record (s .args .t3) (s .args .from) (s .args .t4) (s .pre .1 .0) (l .loop .k)
