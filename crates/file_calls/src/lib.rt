@@ -94,7 +94,7 @@ pub fn load(bytes: &[u8]) -> Changed
         return refuse(Refusal::WrongBlock);
     }
     if !checked.filled {
-        return refuse(Refusal::WrongRecord);
+        return refuse(Refusal::WrongRecord); // what stands behind the records
     }
     let read = read_records(bytes);
     if !read.right {

@@ -100,13 +100,13 @@ module _ (p : Place) where
       ∙ zeros-every (length xs)
 
   -- the slot is not free, and its state is one of the two of rules
-  known : (m : Bool) → stateOf m ≤ 2
-  known true = omega arith
-  known false = omega arith
+  state-known : (m : Bool) → stateOf m ≤ 2
+  state-known true = omega arith
+  state-known false = omega arith
 
-  there : (m : Bool) → stateOf m ≡ 0 → ⊥
-  there true e = omega arith
-  there false e = omega arith
+  state-held : (m : Bool) → stateOf m ≡ 0 → ⊥
+  state-held true e = omega arith
+  state-held false e = omega arith
 
   pub right-well : right document p ≡ true → WellFormed (slotFrom p)
   unfolding right
@@ -121,8 +121,8 @@ module _ (p : Place) where
       λ q h. Option·some-injective (ruleIn p) q (sym (slot-from p) ∙ h) in
       record {
         clean = record {
-          known = known (p .muted);
-          free = λ e. absurd (there (p .muted) e);
+          known = state-known (p .muted);
+          free = λ e. absurd (state-held (p .muted) e);
           fits = leb-le lists (document .entries) fits;
           filler = zero-filler zeros;
         };

@@ -32,9 +32,9 @@ asked-start bs n =
     let all : n - 0 ≡ n = omega arith in
     record { low = omega arith; summed = rw all refl; numbered = rw all refl; filled = rw all refl }
 
-and-shift : (a b c : Bool) → (a && (b && c)) ≡ ((a && b) && c)
-and-shift true b c = refl
-and-shift false b c = refl
+and-assoc : (a b c : Bool) → (a && (b && c)) ≡ ((a && b) && c)
+and-assoc true b c = refl
+and-assoc false b c = refl
 
 module _ (bs : List ℕ) (n i : ℕ) (before r : Checked) where
   pub asked-next : i < n → Asked bs n before i → CheckedNext n i before (blockAt bs i) r → Asked bs n r (i + 1)
@@ -43,15 +43,15 @@ module _ (bs : List ℕ) (n i : ℕ) (before r : Checked) where
     low = omega arith;
     summed =
         A .summed ∙ ap (λ (cs : List (List ℕ)). before .summed && every summed cs) (blocks-next n i bs l)
-        ∙ and-shift (before .summed) (summed (blockAt bs i)) _
+        ∙ and-assoc (before .summed) (summed (blockAt bs i)) _
         ∙ ap (λ (t : Bool). t && every summed (rest bs n (i + 1))) (sym (C .summed));
     numbered =
         A .numbered ∙ ap (λ (cs : List (List ℕ)). before .numbered && numbered n i cs) (blocks-next n i bs l)
-        ∙ and-shift (before .numbered) (blockNumbered n i (blockAt bs i)) _
+        ∙ and-assoc (before .numbered) (blockNumbered n i (blockAt bs i)) _
         ∙ ap₂ (λ (t : Bool) (k : ℕ). t && numbered n k (rest bs n (i + 1))) (sym (C .numbered)) (sym (add-one i));
     filled =
         A .filled ∙ ap (λ (cs : List (List ℕ)). before .filled && every filled cs) (blocks-next n i bs l)
-        ∙ and-shift (before .filled) (filled (blockAt bs i)) _
+        ∙ and-assoc (before .filled) (filled (blockAt bs i)) _
         ∙ ap (λ (t : Bool). t && every filled (rest bs n (i + 1))) (sym (C .filled));
   }
 

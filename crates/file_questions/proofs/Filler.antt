@@ -23,22 +23,22 @@ unfolding filled
 filler-start b count e = ap (λ (n : ℕ). left b (6 + 22 * n)) (sym e)
 
 module _ (b : List ℕ) (long : length b ≡ 512) where
-  body : length (take 508 b) ≡ 508
-  body = length-take 508 b ∙ omega arith
+  length-body : length (take 508 b) ≡ 508
+  length-body = length-take 508 b ∙ omega arith
 
-  next : (i : ℕ) → i < 508 → left b i ≡ (eqb 0 (getD b i 0) && left b (i + 1))
+  left-next : (i : ℕ) → i < 508 → left b i ≡ (eqb 0 (getD b i 0) && left b (i + 1))
   unfolding every
-  next i l =
-      ap (every (eqb 0)) (drop-cons (take 508 b) i 0 (omega (arith, body))
+  left-next i l =
+      ap (every (eqb 0)) (drop-cons (take 508 b) i 0 (omega (arith, length-body))
       ∙ ap (λ (k : ℕ). getD (take 508 b) i 0 ∷ drop k (take 508 b)) (sym (add-one i)))
       ∙ ap (λ (x : ℕ). eqb 0 x && left b (i + 1)) (getD-take 508 b i 0 l)
 
   pub filler-none : (i : ℕ) → i < 508 → (getD b i 0 ≡ 0 → ⊥) → left b i ≡ false
-  filler-none i l u = next i l ∙ ap (λ (t : Bool). t && left b (i + 1)) (eqb-not 0 (getD b i 0) (λ e. u (sym e)))
+  filler-none i l u = left-next i l ∙ ap (λ (t : Bool). t && left b (i + 1)) (eqb-not 0 (getD b i 0) (λ e. u (sym e)))
 
   pub filler-next : (i : ℕ) → i < 508 → getD b i 0 ≡ 0 → left b i ≡ left b (i + 1)
-  filler-next i l e = next i l ∙ ap (λ (t : Bool). t && left b (i + 1)) (eqb-of 0 (getD b i 0) (sym e))
+  filler-next i l e = left-next i l ∙ ap (λ (t : Bool). t && left b (i + 1)) (eqb-of 0 (getD b i 0) (sym e))
 
   pub filler-over : (i : ℕ) → 508 ≤ i → left b i ≡ true
   unfolding every
-  filler-over i l = ap (every (eqb 0)) (drop-of-length-le (take 508 b) {i = i} (omega (arith, body)))
+  filler-over i l = ap (every (eqb 0)) (drop-of-length-le (take 508 b) {i = i} (omega (arith, length-body)))

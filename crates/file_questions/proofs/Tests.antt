@@ -40,8 +40,8 @@ module _ (bs : List ℕ) where
 
 -- Question 17 of a block.
 
-pub part : (b : List ℕ) → length b ≡ 512 → length (take BODY b) ≡ 508
-part b e = length-take BODY b ∙ omega arith
+pub length-body : (b : List ℕ) → length b ≡ 512 → length (take BODY b) ≡ 508
+length-body b e = length-take BODY b ∙ omega arith
 
 module _ (b : List ℕ) (x a y z : ℕ) (at-a : x ≡ wordAt b BODY) (sum-a : a ≡ sumA (take BODY b)) where
   pub summed-not-a : (x ≡ a → ⊥) → false ≡ summed b
@@ -63,24 +63,24 @@ module _ (n index count : ℕ) where
       sym (ap (λ (t : Bool). cond t (eqb count 22) (leb count 22 && (ltb 0 count || eqb n 1)))
       (lt-ltb (suc index) n (omega arith)))
 
-  last : n ≤ index + 1 → counted n index count ≡ (leb count 22 && (ltb 0 count || eqb n 1))
+  counted-last : n ≤ index + 1 → counted n index count ≡ (leb count 22 && (ltb 0 count || eqb n 1))
   unfolding counted
-  last l =
+  counted-last l =
       ap (λ (t : Bool). cond t (eqb count 22) (leb count 22 && (ltb 0 count || eqb n 1)))
       (unless (ltb (suc index) n) (λ t. (let u = ltb-lt (suc index) n t in omega arith)))
 
   pub counted-over : n ≤ index + 1 → 22 < count → false ≡ counted n index count
   counted-over l u =
-      sym (last l ∙ both-no _ _ (unless (leb count 22) (λ t. (let v = leb-le count 22 t in omega arith))))
+      sym (counted-last l ∙ both-no _ _ (unless (leb count 22) (λ t. (let v = leb-le count 22 t in omega arith))))
 
-  few : count ≤ 22 → (leb count 22 && (ltb 0 count || eqb n 1)) ≡ (ltb 0 count || eqb n 1)
-  few l = ap (λ (t : Bool). t && (ltb 0 count || eqb n 1)) (le-leb count 22 l)
+  few-counted : count ≤ 22 → (leb count 22 && (ltb 0 count || eqb n 1)) ≡ (ltb 0 count || eqb n 1)
+  few-counted l = ap (λ (t : Bool). t && (ltb 0 count || eqb n 1)) (le-leb count 22 l)
 
   pub counted-some : n ≤ index + 1 → count ≤ 22 → 0 < count → true ≡ counted n index count
-  counted-some l u v = sym (last l ∙ few u ∙ ap (λ (t : Bool). t || eqb n 1) (lt-ltb 0 count v))
+  counted-some l u v = sym (counted-last l ∙ few-counted u ∙ ap (λ (t : Bool). t || eqb n 1) (lt-ltb 0 count v))
 
   pub counted-none : n ≤ index + 1 → count ≡ 0 → eqb n 1 ≡ counted n index count
-  counted-none l e = sym (last l ∙ few (omega arith) ∙ ap (λ (t : Bool). t || eqb n 1)
+  counted-none l e = sym (counted-last l ∙ few-counted (omega arith) ∙ ap (λ (t : Bool). t || eqb n 1)
       (unless (ltb 0 count) (λ t. (let v = ltb-lt 0 count t in omega arith))))
 
 -- Question 18 of a block.

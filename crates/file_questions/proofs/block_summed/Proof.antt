@@ -1,12 +1,12 @@
 -- `file_questions::block_summed` meets its contract. Assumes nothing.
 use mathlib.Core.Path.{sym}
-use Rattle.file_questions.proofs.Tests.{part, summed-not-a, summed-b}
+use Rattle.file_questions.proofs.Tests.{length-body, summed-not-a, summed-b}
 use borrow.Author.Needs.{needs}
 use Rattle.file_questions.proofs.block_summed.Statement.{statement}
 use Rattle.file_questions.proofs.block_summed.Tie as tie
 
 slice-aggregate-sums : tie.Need-slice-aggregate-sums
-slice-aggregate-sums c = sym (part (c .before .before .args .block .now) (c .before .before .pre))
+slice-aggregate-sums c = sym (length-body (c .before .before .args .block .now) (c .before .before .pre))
 
 sums-requires : tie.Need-sums-requires
 sums-requires c κs = search needs
