@@ -1,2 +1,3 @@
--- The calls' answers as numbers.
+-- The calls' answers as numbers, and what crosses the boundary to C.
 pub mod Numbers
+pub mod Crossing

@@ -11,7 +11,7 @@ use lib.ListN.{length, getD, take, drop, replicate, length-append, length-drop}
 use lib.Seq.{drop-at, take-add}
 use Rattle.theory.specs.Lists.{every}
 use Rattle.theory.proofs.Lists.{and-l, and-of, and-r, eqb-eq, le-leb, le-or-lt, leb-le, unless}
-use Rattle.file_blocks.specs.Words.{word, words, wordAt, wordsIn}
+use Rattle.file_blocks.specs.Words.{BYTE, WORD, word, words, wordAt, wordsIn}
 use Rattle.file_blocks.specs.Places.{countByte, Place, placeBytes, placeAt}
 use Rattle.file_blocks.specs.Files.{placesBytes}
 use Rattle.file_blocks.specs.Questions.{placesFrom}
@@ -68,10 +68,10 @@ module _ {A : Type 0} where
 -- Bytes, and numbers of two bytes.
 
 abbrev pub Bytes : List ℕ → Type 0
-Bytes bs = All (λ b. b < 256) bs
+Bytes bs = All (λ b. b < BYTE) bs
 
 abbrev pub Wide : List ℕ → Type 0
-Wide xs = All (λ x. x < 65536) xs
+Wide xs = All (λ x. x < WORD) xs
 
 pub zeros : (xs : List ℕ) → every (eqb 0) xs ≡ true → xs ≡ replicate (length xs) 0
 unfolding every
@@ -90,7 +90,7 @@ words-bytes [] = tt
 words-bytes (x ∷ xs) = (omega arith, (omega arith, words-bytes xs))
 
 -- A number that fits into two bytes is read from them.
-pub read-word : (x : ℕ) → x < 65536 → wordAt (word x) 0 ≡ x
+pub read-word : (x : ℕ) → x < WORD → wordAt (word x) 0 ≡ x
 read-word x l = omega arith
 
 pub read-words : (xs ys : List ℕ) → Wide xs → wordsIn (length xs) (words xs ++ ys) ≡ xs
@@ -99,11 +99,11 @@ read-words [] ys a = refl
 read-words (x ∷ xs) ys a = ap₂ {C = List ℕ} _∷_ (read-word x (a .0)) (read-words xs ys (a .1))
 
 -- Two bytes make a number that is written as these bytes.
-pub write-word : (x y : ℕ) → x < 256 → y < 256 → word (x + 256 * y) ≡ x ∷ y ∷ []
+pub write-word : (x y : ℕ) → x < BYTE → y < BYTE → word (x + BYTE * y) ≡ x ∷ y ∷ []
 write-word x y l m =
-    let low : (x + 256 * y) % 256 ≡ x = add-mul-mod-self-left x 256 y ∙ mod-eq-of-lt l in
-    let high : (x + 256 * y) / 256 ≡ y = omega (arith, add-mul-div-left x y {y = 256} (omega arith)) in
-    λ i. low i ∷ (ap (λ (k : ℕ). k % 256) high ∙ mod-eq-of-lt m) i ∷ []
+    let low : (x + BYTE * y) % BYTE ≡ x = add-mul-mod-self-left x BYTE y ∙ mod-eq-of-lt l in
+    let high : (x + BYTE * y) / BYTE ≡ y = omega (arith, add-mul-div-left x y {y = BYTE} (omega arith)) in
+    λ i. low i ∷ (ap (λ (k : ℕ). k % BYTE) high ∙ mod-eq-of-lt m) i ∷ []
 
 pub write-words : (n : ℕ) (bs : List ℕ) → 2 * n ≤ length bs → Bytes bs → words (wordsIn n bs) ≡ take (2 * n) bs
 unfolding words wordsIn
@@ -127,11 +127,11 @@ read-count : (m : Bool) (n : ℕ) → n < 128 → countByte m n % 128 ≡ n
 read-count true n l = omega arith
 read-count false n l = omega arith
 
-count-low : (m : Bool) (n : ℕ) → n < 128 → countByte m n < 256
+count-low : (m : Bool) (n : ℕ) → n < 128 → countByte m n < BYTE
 count-low true n l = omega arith
 count-low false n l = omega arith
 
-write-count : (b : ℕ) → b < 256 → countByte (leb 128 b) (b % 128) ≡ b
+write-count : (b : ℕ) → b < BYTE → countByte (leb 128 b) (b % 128) ≡ b
 write-count b l = ⊎-elim
     (λ (k : 128 ≤ b). ap (λ (m : Bool). countByte m (b % 128)) (le-leb 128 b k) ∙ omega arith)
     (λ (k : b < 128). ap (λ (m : Bool). countByte m (b % 128)) (no-mark b k) ∙ omega arith)
@@ -139,8 +139,8 @@ write-count b l = ⊎-elim
 
 -- A place: what its bytes hold fits into them.
 pub record Fits (p : Place) : Type 0 where
-  pub slot : p .slot < 65536
-  pub head : p .head < 65536
+  pub slot : p .slot < WORD
+  pub head : p .head < WORD
   pub positives : p .positives < 128
   pub count : length (p .entries) ≡ 8
   pub entries : Wide (p .entries)
@@ -184,7 +184,7 @@ length-placesBytes (p ∷ ps) a =
     omega (arith, n, length-append (placeBytes p) (placesBytes ps), length-placesBytes ps (a .1))
 
 pub placesBytes-bytes :
-    (ps : List Place) → All (λ p. (p .positives < 128) × (p .negatives < 256)) ps → Bytes (placesBytes ps)
+    (ps : List Place) → All (λ p. (p .positives < 128) × (p .negatives < BYTE)) ps → Bytes (placesBytes ps)
 unfolding placesBytes
 placesBytes-bytes [] a = tt
 placesBytes-bytes (p ∷ ps) a =

@@ -17,7 +17,7 @@ use Rattle.theory.specs.Questions.{first-no}
 use Rattle.theory.specs.Sound.{SoundLabels}
 use Rattle.theory.proofs.Lists.{and-l, and-r, eqb-eq, le-or-lt, unless, ltb-lt}
 use Rattle.theory.proofs.Questions.{first-no-here, first-no-none, first-no-yes}
-use Rattle.file_blocks.specs.Words.{wordAt}
+use Rattle.file_blocks.specs.Words.{BYTE, WORD, wordAt}
 use Rattle.file_blocks.specs.Sums.{growA, sumA, sumB}
 use Rattle.file_blocks.specs.Files.{fileOf}
 use Rattle.file_blocks.specs.Questions.{blockCount, blocks, blocksIn, file-questions, summed, whole}
@@ -40,15 +40,15 @@ growA-set a [] i x l = absurd (omega arith)
 growA-set a (y ∷ ys) zero x l = omega (arith, growA-more a x ys, growA-more a y ys)
 growA-set a (y ∷ ys) (suc i) x l = growA-set (a + y) ys i x (omega arith)
 
--- Sums that differ by less than 256 and leave the same remainder do not differ.
-apart : (g h x y : ℕ) → h + y ≡ g + x → x < 256 → y < 256 → g % 65536 ≡ h % 65536 → x ≡ y
+-- Sums that differ by less than a byte can and leave the same remainder do not differ.
+apart : (g h x y : ℕ) → h + y ≡ g + x → x < BYTE → y < BYTE → g % WORD ≡ h % WORD → x ≡ y
 apart g h x y e l m r = ⊎-elim
-    (λ (k : g / 65536 ≤ h / 65536). ⊎-elim
-    (λ (j : h / 65536 ≤ g / 65536). omega arith)
-    (λ (j : g / 65536 < h / 65536). absurd (omega arith))
-    (le-or-lt (h / 65536) (g / 65536)))
-    (λ (k : h / 65536 < g / 65536). absurd (omega arith))
-    (le-or-lt (g / 65536) (h / 65536))
+    (λ (k : g / WORD ≤ h / WORD). ⊎-elim
+    (λ (j : h / WORD ≤ g / WORD). omega arith)
+    (λ (j : g / WORD < h / WORD). absurd (omega arith))
+    (le-or-lt (h / WORD) (g / WORD)))
+    (λ (k : h / WORD < g / WORD). absurd (omega arith))
+    (le-or-lt (g / WORD) (h / WORD))
 
 -- One of two bytes changed is another number.
 pair-same :
@@ -95,7 +95,7 @@ module _ (b : List ℕ) (i x : ℕ) (n : length b ≡ 512) (l : i < 512) (t : su
       (le-or-lt 510 i)
 
   -- In the body: the sum of the body differs, that stored does not.
-  body-same : i < 508 → x < 256 → Bytes b → summed (set b i x) ≡ true → x ≡ getD b i 0
+  body-same : i < 508 → x < BYTE → Bytes b → summed (set b i x) ≡ true → x ≡ getD b i 0
   body-same k m w u =
       let s = sums-of b t in
       let v = sums-of (set b i x) u in
@@ -105,10 +105,10 @@ module _ (b : List ℕ) (i x : ℕ) (n : length b ≡ 512) (l : i < 512) (t : su
       let c = getD-set-other b i 509 x 0 (omega arith) in
       apart (growA 1 body) (growA 1 (set body i x)) x (getD b i 0)
       (ap (λ (z : ℕ). growA 1 (set body i x) + z) (sym (getD-take 508 b i 0 k)) ∙ g) m
-      (all-getD (λ z. z < 256) b i 0 (omega arith) w)
-      (sym (s .0) ∙ sym (ap₂ (λ (p q : ℕ). p + 256 * q) a c) ∙ v .0 ∙ ap sumA (take-set-lt 508 b i x k))
+      (all-getD (λ z. z < BYTE) b i 0 (omega arith) w)
+      (sym (s .0) ∙ sym (ap₂ (λ (p q : ℕ). p + BYTE * q) a c) ∙ v .0 ∙ ap sumA (take-set-lt 508 b i x k))
 
-  block-same : x < 256 → Bytes b → summed (set b i x) ≡ true → x ≡ getD b i 0
+  block-same : x < BYTE → Bytes b → summed (set b i x) ≡ true → x ≡ getD b i 0
   block-same m w u = ⊎-elim
       (λ (k : 508 ≤ i). sums-same k u)
       (λ (k : i < 508). body-same k m w u)
@@ -134,7 +134,7 @@ module _ (bs : List ℕ) (h : whole bs ≡ true) (t : every summed (blocks bs) �
       ap (λ (n : ℕ). eqb (n % 512) 0 && (leb 1 (n / 512) && leb (n / 512) 12)) (length-set bs i x) ∙ h
 
   changed-same :
-      (i x : ℕ) → i < length bs → x < 256 → every summed (blocks (set bs i x)) ≡ true → x ≡ getD bs i 0
+      (i x : ℕ) → i < length bs → x < BYTE → every summed (blocks (set bs i x)) ≡ true → x ≡ getD bs i 0
   changed-same i x l m u =
       let j = i / 512 in
       let o = i % 512 in
@@ -156,7 +156,7 @@ module _ (bs : List ℕ) (h : whole bs ≡ true) (t : every summed (blocks bs) �
       ∙ g
 
   pub changed-refused :
-      (limits : Limits) (i x : ℕ) → i < length bs → x < 256 → (x ≡ getD bs i 0 → ⊥)
+      (limits : Limits) (i x : ℕ) → i < length bs → x < BYTE → (x ≡ getD bs i 0 → ⊥)
       → first-no (file-questions limits (set bs i x)) ≡ some 17
   changed-refused limits i x l m d =
       first-no-yes _ _ (changed-whole i x)
@@ -164,10 +164,10 @@ module _ (bs : List ℕ) (h : whole bs ≡ true) (t : every summed (blocks bs) �
 
 -- A saved file with any one byte changed is refused: 17.
 pub one-byte-17 :
-    (B : Pages) (label : ℕ → Label) → SoundLabels document B label → (i x : ℕ) → i < length (fileOf B) → x < 256
+    (B : Pages) (label : ℕ → Label) → SoundLabels document B label → (i x : ℕ) → i < length (fileOf B) → x < BYTE
     → (x ≡ getD (fileOf B) i 0 → ⊥) → first-no (file-questions document (set (fileOf B) i x)) ≡ some 17
 one-byte-17 B label sound =
     let one = first-no-none _ _ (file-accepted B label sound) in
     let two = first-no-none _ _ (one .1) in
     changed-refused (fileOf B) (one .0) (two .0)
-    (every-all _ (λ b. ltb b 256) (λ b t. ltb-lt b 256 t) (fileOf B) (file-bytes B (sound .passes))) document
+    (every-all _ (λ b. ltb b BYTE) (λ b t. ltb-lt b BYTE t) (fileOf B) (file-bytes B (sound .passes))) document

@@ -74,12 +74,12 @@ records-free s (suc n) = records-free (suc s) n
 length-more : (F : Pages) (o : Option Page) → length (F ++ (o ∷ [])) ≡ suc (length F)
 length-more F o = omega (arith, length-append F (o ∷ []))
 
--- A record put on a free page: free pages in front of it and behind it.
-put-record :
+-- A record set on a free page: free pages in front of it and behind it.
+set-record :
     (F : Pages) (s m : ℕ) (p : Page) → length F ≤ s → s < length F + m
     → set (F ++ replicate m none) s (some p)
     ≡ ((F ++ replicate (s - length F) none) ++ (some p ∷ [])) ++ replicate (m - suc (s - length F)) none
-put-record F s m p l u =
+set-record F s m p l u =
     let j = s - length F in
     let k = m - suc j in
     let free : Option Page = none in
@@ -93,19 +93,19 @@ put-record F s m p l u =
     ∙ set-at (F ++ replicate j free) free (replicate k free) (some p) s n
     ∙ sym (append-snoc (F ++ replicate j free) (some p) (replicate k free))
 
-length-put :
+length-set-record :
     (F : Pages) (s : ℕ) (p : Page) → length F ≤ s
     → length ((F ++ replicate (s - length F) none) ++ (some p ∷ [])) ≡ suc s
-length-put F s p l =
+length-set-record F s p l =
     let free : Option Page = none in
     let G = replicate (s - length F) free in
     omega (arith, length-more (F ++ G) (some p), length-append F G, length-replicate (s - length F) free)
 
-put-records :
+records-set :
     (F : Pages) (s : ℕ) (p : Page) → length F ≤ s
     → recordsFrom 0 ((F ++ replicate (s - length F) none) ++ (some p ∷ [])) ≡ recordsFrom 0 F ++ (recorded s p ∷ [])
 unfolding recordsFrom
-put-records F s p l =
+records-set F s p l =
     let free : Option Page = none in
     let j = s - length F in
     let e : 0 + length (F ++ replicate j free) ≡ s =
@@ -155,11 +155,11 @@ module _ (limits : Limits) where
       let l = leb-le _ _ (and-l (leb (length F) s) _ t) in
       let F′ : Pages = (F ++ replicate (s - length F) none) ++ (some page ∷ []) in
       let k = m - suc (s - length F) in
-      let n : length F′ ≡ suc s = length-put F s page l in
-      ap (λ (Q : Pages). recordsFrom 0 (recordedOn limits Q ps)) (put-record F s m page l (a .0))
+      let n : length F′ ≡ suc s = length-set-record F s page l in
+      ap (λ (Q : Pages). recordsFrom 0 (recordedOn limits Q ps)) (set-record F s m page l (a .0))
       ∙ records-pages F′ k ps
       (ap (λ (z : ℕ). ascends z (map (λ q. q .slot) ps)) n ∙ and-r (leb (length F) s) _ t)
       (all-map (λ q u. omega (arith, a .0)) ps (a .1)) (b .1)
       ∙ ap (λ (qs : List Place). qs ++ ps)
-      (put-records F s page l ∙ ap (λ (q : Place). recordsFrom 0 F ++ (q ∷ [])) (b .0))
+      (records-set F s page l ∙ ap (λ (q : Place). recordsFrom 0 F ++ (q ∷ [])) (b .0))
       ∙ append-snoc (recordsFrom 0 F) p ps

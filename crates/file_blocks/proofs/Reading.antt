@@ -10,7 +10,7 @@ use lib.ListN.{length, getD, take, drop, length-append, length-take, length-drop
 use lib.Seq.{drop-drop, getD-drop, getD-take, drop-append-le, drop-append-add}
 use Rattle.theory.proofs.Lists.{and-l, and-of, and-r, eqb-eq, eqb-of, leb-le, le-leb, le-or-lt, lt-ltb, ltb-lt}
 use Rattle.theory.proofs.Lists.{or-cases, or-l, or-r, test}
-use Rattle.file_blocks.specs.Words.{wordAt, wordsIn}
+use Rattle.file_blocks.specs.Words.{BYTE, wordAt, wordsIn}
 use Rattle.file_blocks.specs.Places.{Place, placeAt}
 use Rattle.file_blocks.specs.Files.{blocksFor}
 use Rattle.file_blocks.specs.Questions.{blockCount, blocks, blocksIn, whole, counted, numbered, placesFrom, placesIn}
@@ -56,15 +56,15 @@ wordsIn-same :
 unfolding wordsIn
 wordsIn-same zero xs ys f = refl
 wordsIn-same (suc n) xs ys f =
-    ap₂ {C = List ℕ} _∷_ (ap₂ (λ (a b : ℕ). a + 256 * b) (f 0 (omega arith)) (f 1 (omega arith)))
+    ap₂ {C = List ℕ} _∷_ (ap₂ (λ (a b : ℕ). a + BYTE * b) (f 0 (omega arith)) (f 1 (omega arith)))
     (wordsIn-same n (drop 2 xs) (drop 2 ys)
     (λ i l. getD-drop 2 xs i 0 ∙ f (2 + i) (omega arith) ∙ sym (getD-drop 2 ys i 0)))
 
 pub placeAt-same :
     (xs ys : List ℕ) → ((i : ℕ) → i < 22 → getD xs i 0 ≡ getD ys i 0) → placeAt xs ≡ placeAt ys
 placeAt-same xs ys f = λ i. record {
-  slot = f 0 (omega arith) i + 256 * f 1 (omega arith) i;
-  head = f 2 (omega arith) i + 256 * f 3 (omega arith) i;
+  slot = f 0 (omega arith) i + BYTE * f 1 (omega arith) i;
+  head = f 2 (omega arith) i + BYTE * f 3 (omega arith) i;
   muted = leb 128 (f 4 (omega arith) i);
   positives = f 4 (omega arith) i % 128;
   negatives = f 5 (omega arith) i;
@@ -75,17 +75,17 @@ placeAt-same xs ys f = λ i. record {
 pub word-drop : (n k : ℕ) (bs : List ℕ) → wordAt (drop n bs) k ≡ wordAt bs (n + k)
 word-drop n k bs =
     let e : n + (k + 1) ≡ n + k + 1 = omega arith in
-    ap₂ (λ (a b : ℕ). a + 256 * b) (getD-drop n bs k 0)
+    ap₂ (λ (a b : ℕ). a + BYTE * b) (getD-drop n bs k 0)
     (getD-drop n bs (k + 1) 0 ∙ ap (λ (i : ℕ). getD bs i 0) e)
 
 pub word-take : (n k : ℕ) (bs : List ℕ) → k + 1 < n → wordAt (take n bs) k ≡ wordAt bs k
 word-take n k bs l =
-    ap₂ (λ (a b : ℕ). a + 256 * b) (getD-take n bs k 0 (omega arith)) (getD-take n bs (k + 1) 0 l)
+    ap₂ (λ (a b : ℕ). a + BYTE * b) (getD-take n bs k 0 (omega arith)) (getD-take n bs (k + 1) 0 l)
 
 -- What 18 says of a block.
 
 pub record Numbered (n index : ℕ) (b : List ℕ) : Type 0 where
-  pub place : wordAt b 0 ≡ index
+  pub number : wordAt b 0 ≡ index
   pub blocks : wordAt b 2 ≡ n
   pub count : counted n index (wordAt b 4) ≡ true
 
@@ -98,7 +98,7 @@ numbered-next n index b bs t =
     let u = and-l h (numbered n (suc index) bs) t in
     let w = and-r (eqb (wordAt b 0) index) _ u in (
       record {
-        place = eqb-eq _ _ (and-l (eqb (wordAt b 0) index) _ u);
+        number = eqb-eq _ _ (and-l (eqb (wordAt b 0) index) _ u);
         blocks = eqb-eq _ _ (and-l (eqb (wordAt b 2) n) _ w);
         count = and-r (eqb (wordAt b 2) n) _ w;
       },
@@ -110,7 +110,7 @@ pub numbered-of :
     → numbered n index (b ∷ bs) ≡ true
 unfolding numbered
 numbered-of n index b bs h t =
-    and-of _ _ (and-of _ _ (eqb-of _ _ (h .place)) (and-of _ _ (eqb-of _ _ (h .blocks)) (h .count))) t
+    and-of _ _ (and-of _ _ (eqb-of _ _ (h .number)) (and-of _ _ (eqb-of _ _ (h .blocks)) (h .count))) t
 
 -- Every block but the last holds 22 records.
 pub counted-full : (n index c : ℕ) → suc index < n → counted n index c ≡ true → c ≡ 22

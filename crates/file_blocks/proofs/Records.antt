@@ -21,6 +21,7 @@ use Rattle.theory.proofs.Pages.{all-length, held-page}
 use Rattle.theory.proofs.Sameness.{same-refl}
 use Rattle.theory.proofs.Questions.{first-no-none, held-below}
 use Rattle.theory.proofs.Cycles.{stratified-iff}
+use Rattle.file_blocks.specs.Words.{BYTE, WORD}
 use Rattle.file_blocks.specs.Places.{Place, recorded, records, recordsFrom, ruleIn}
 use Rattle.file_blocks.specs.Questions.{ascends, distinctRules, pagesWith, recordedOn, recordsRight, right}
 use Rattle.file_blocks.proofs.Bytes.{All, all-append, all-every, all-replicate, every-all, Fits}
@@ -146,14 +147,14 @@ module _ (limits : Limits) (few : limits .entries ≤ 8) where
 
   pub recorded-counts :
       (s : ℕ) (p : Page) → first-no (rule-questions limits (p .rule)) ≡ none
-      → (recorded s p .positives < 128) × (recorded s p .negatives < 256)
+      → (recorded s p .positives < 128) × (recorded s p .negatives < BYTE)
   recorded-counts s p e =
       let r = p .rule in
       let n = few-entries r e in
       omega (arith, n, length-append (r .positives) (r .negatives))
 
   pub recorded-fits :
-      (s : ℕ) (p : Page) → limits .atoms ≤ 65536 → s < 65536 → first-no (rule-questions limits (p .rule)) ≡ none
+      (s : ℕ) (p : Page) → limits .atoms ≤ WORD → s < WORD → first-no (rule-questions limits (p .rule)) ≡ none
       → Fits (recorded s p)
   recorded-fits s p a l e =
       let r = p .rule in
@@ -166,7 +167,7 @@ module _ (limits : Limits) (few : limits .entries ≤ 8) where
         positives = recorded-counts s p e .0;
         count = recorded-eight s p e;
         entries = all-append _ (entries r) (replicate (8 - length (entries r)) 0)
-            (every-all (λ x. x < 65536) (λ x. ltb x (limits .atoms))
+            (every-all (λ x. x < WORD) (λ x. ltb x (limits .atoms))
             (λ x t. omega (arith, ltb-lt x (limits .atoms) t, a)) (entries r) (three .0))
             (all-replicate _ (8 - length (entries r)) 0 (omega arith));
       }

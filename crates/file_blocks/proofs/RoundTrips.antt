@@ -20,6 +20,7 @@ use Rattle.theory.proofs.Cycles.{stratified-iff}
 use Rattle.theory.proofs.Lists.{and-l, and-of, and-r, eqb-of, leb-le, le-leb, le-or-lt, lt-ltb, ltb-lt}
 use Rattle.theory.proofs.Pages.{held-page}
 use Rattle.theory.proofs.Questions.{first-no-none, first-no-yes}
+use Rattle.file_blocks.specs.Words.{BYTE, WORD}
 use Rattle.file_blocks.specs.Places.{pageIn, Place, recorded, records, recordsFrom, ruleIn}
 use Rattle.file_blocks.specs.Files.{BLOCK, blocksFor, blocksFrom, fileOf, fileWith}
 use Rattle.file_blocks.specs.Questions.{ascends, blockCount, blocks, blocksIn, distinctRules, file-questions, filled}
@@ -78,7 +79,7 @@ module _ (limits : Limits) (few : limits .entries ≤ 8) where
       count-file = omega (arith, length-file)
 
       file-passes :
-          limits .atoms ≤ 65536 → length B ≤ 65536
+          limits .atoms ≤ WORD → length B ≤ WORD
           → Passes (blockCount (fileOf B)) 0 (blocks (fileOf B)) (records B)
       unfolding fileOf
       file-passes atoms slots =
@@ -92,7 +93,7 @@ module _ (limits : Limits) (few : limits .entries ≤ 8) where
 
   -- Sound pages, and limits that the format has room for.
   module _
-      (atoms : limits .atoms ≤ 65536) (slots : limits .slots ≤ 264) (B : Pages) (label : ℕ → Label)
+      (atoms : limits .atoms ≤ WORD) (slots : limits .slots ≤ 264) (B : Pages) (label : ℕ → Label)
       (sound : SoundLabels limits B label)
     where
       whole-file : whole (fileOf B) ≡ true
@@ -182,9 +183,9 @@ module _
     pub file-length : length (fileOf B) ≡ BLOCK * blocksFor (length (records B))
     file-length = length-file document (omega arith) B passes
 
-    pub file-bytes : every (λ b. ltb b 256) (fileOf B) ≡ true
+    pub file-bytes : every (λ b. ltb b BYTE) (fileOf B) ≡ true
     file-bytes =
-        all-every (λ b. b < 256) (λ b. ltb b 256) (λ b l. lt-ltb b 256 l) (fileOf B)
+        all-every (λ b. b < BYTE) (λ b. ltb b BYTE) (λ b l. lt-ltb b BYTE l) (fileOf B)
         (bytes-file document (omega arith) B passes)
 
 module _ (B : Pages) (label : ℕ → Label) (sound : SoundLabels document B label) where
@@ -198,10 +199,10 @@ module _ (B : Pages) (label : ℕ → Label) (sound : SoundLabels document B lab
 
 -- Each accepted file is, byte for byte, the one that its table writes.
 pub pages-file :
-    (bs : List ℕ) → every (λ b. ltb b 256) bs ≡ true → first-no (file-questions document bs) ≡ none
+    (bs : List ℕ) → every (λ b. ltb b BYTE) bs ≡ true → first-no (file-questions document bs) ≡ none
     → fileOf (pagesOf document bs) ≡ bs
 pages-file bs w e =
-    file-back document (omega arith) bs (every-all _ (λ b. ltb b 256) (λ b t. ltb-lt b 256 t) bs w) e
+    file-back document (omega arith) bs (every-all _ (λ b. ltb b BYTE) (λ b t. ltb-lt b BYTE t) bs w) e
 
 -- The rules of an accepted file, muted or not, have no loop through a negation.
 pub pages-acyclic :

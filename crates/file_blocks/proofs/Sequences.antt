@@ -10,7 +10,7 @@ use lib.ListN.{length, take, drop, length-append, length-take, length-drop, take
 use lib.Seq.{drop-at, take-at, take-all}
 use Rattle.theory.specs.Lists.{every}
 use Rattle.theory.proofs.Lists.{and-l, and-of, and-r}
-use Rattle.file_blocks.specs.Words.{wordAt, wordsIn}
+use Rattle.file_blocks.specs.Words.{BYTE, WORD, wordAt, wordsIn}
 use Rattle.file_blocks.specs.Places.{Place}
 use Rattle.file_blocks.specs.Files.{blockOf, blocksFrom}
 use Rattle.file_blocks.specs.Questions.{blocksIn, counted, numbered, placesFrom, placesIn, placesOf, summed, filled}
@@ -60,7 +60,7 @@ module _ (n : ℕ) where
       omega (arith, m, r, length-append b (blocksFrom k (suc index) n (drop 22 ps)))
 
   pub blocks-bytes :
-      (k index : ℕ) (ps : List Place) → All (λ p. (p .positives < 128) × (p .negatives < 256)) ps
+      (k index : ℕ) (ps : List Place) → All (λ p. (p .positives < 128) × (p .negatives < BYTE)) ps
       → Bytes (blocksFrom k index n ps)
   unfolding blocksFrom
   blocks-bytes zero index ps a = tt
@@ -102,7 +102,7 @@ module _ (n : ℕ) where
       ∙ take-append-drop 22 ps
 
   list-numbered :
-      (k index : ℕ) (ps : List Place) → n < 65536 → index + k ≡ n → length ps ≤ 22 * k
+      (k index : ℕ) (ps : List Place) → n < WORD → index + k ≡ n → length ps ≤ 22 * k
       → (22 * k < length ps + 22) ⊎ (n ≡ 1) → numbered n index (blockList k index n ps) ≡ true
   unfolding blockList
   list-numbered zero index ps l e m o = unfold numbered in refl
@@ -129,7 +129,7 @@ pub record Passes (n index : ℕ) (bl : List (List ℕ)) (ps : List Place) : Typ
   pub places : placesOf bl ≡ ps
 
 pub blocks-pass :
-    (n k index : ℕ) (ps : List Place) → All Fits ps → n < 65536 → index + k ≡ n → length ps ≤ 22 * k
+    (n k index : ℕ) (ps : List Place) → All Fits ps → n < WORD → index + k ≡ n → length ps ≤ 22 * k
     → (22 * k < length ps + 22) ⊎ (n ≡ 1) → Passes n index (blocksIn k (blocksFrom k index n ps)) ps
 blocks-pass n k index ps a l e m o =
     let eight : All Eight ps = all-map (λ p f. f .count) ps a in
@@ -177,7 +177,7 @@ module _ (n : ℕ) where
       let c = front (placesIn b) (placesOf (blocksIn k r)) (full-or-last k index b r e (h .0 .count)) in
       ap₂ (λ (xs ys : List Place). blockOf index n xs ++ blocksFrom k (suc index) n ys) (c .0) (c .1)
       ∙ ap₂ _++_
-      (ap₂ (λ (i m : ℕ). blockOf i m (placesIn b)) (sym (h .0 .place)) (sym (h .0 .blocks))
+      (ap₂ (λ (i m : ℕ). blockOf i m (placesIn b)) (sym (h .0 .number)) (sym (h .0 .blocks))
       ∙ block-back b (omega (arith, length-take 512 bs)) (all-take _ 512 bs w)
       (counted-most n index _ (h .0 .count) .0) (and-l (filled b) _ f) (and-l (summed b) _ s))
       (blocks-back k (suc index) r (omega arith) (omega (arith, length-drop 512 bs)) (all-drop _ 512 bs w)

@@ -9,10 +9,10 @@ use lib.Seq.{sets-eq}
 use Rattle.fields.specs.Written.{put}
 
 -- Two bytes stored one behind the other.
-pub two-put :
+pub two-sets-put :
     (out : List ℕ) (at low high : ℕ) → at + 2 ≤ length out
     → set (set out at low) (at + 1) high ≡ put out at (low ∷ high ∷ [])
 unfolding put
-two-put out at low high l =
+two-sets-put out at low high l =
     rw (add-one at) (sets-eq (low ∷ high ∷ []) out at (omega arith)
     ∙ append-assoc (take at out) (low ∷ high ∷ []) (drop (at + 2) out))

@@ -10,7 +10,7 @@ use lib.ListN.{take-append-drop}
 use lib.Seq.{drop-at, take-at, take-add, take-all, take-take, getD-append-add}
 use Rattle.theory.specs.Lists.{every}
 use Rattle.theory.proofs.Lists.{and-l, and-of, and-r, eqb-eq, eqb-of}
-use Rattle.file_blocks.specs.Words.{word, words, wordAt, wordsIn, padded}
+use Rattle.file_blocks.specs.Words.{BYTE, WORD, word, words, wordAt, wordsIn, padded}
 use Rattle.file_blocks.specs.Sums.{sumA, sumB}
 use Rattle.file_blocks.specs.Places.{Place}
 use Rattle.file_blocks.specs.Files.{placesBytes, bodyOf, blockOf}
@@ -26,7 +26,7 @@ pub length-padded : (n : ℕ) (xs : List ℕ) → length xs ≤ n → length (pa
 length-padded n xs l =
     omega (arith, length-append xs (replicate (n - length xs) 0), length-replicate {A = ℕ} (n - length xs) 0)
 
-zeros-every : (n : ℕ) → every (eqb 0) (replicate n 0) ≡ true
+pub zeros-every : (n : ℕ) → every (eqb 0) (replicate n 0) ≡ true
 zeros-every n = all-every (λ x. 0 ≡ x) (eqb 0) (λ x e. eqb-of 0 x e) (replicate n 0) (all-replicate _ n 0 refl)
 
 -- What stands behind the numbers is zero.
@@ -48,7 +48,7 @@ word-behind : (xs ys : List ℕ) (n k : ℕ) → length xs ≡ n → wordAt (xs 
 word-behind xs ys n k e =
     let a : length xs + k ≡ n + k = omega arith in
     let b : length xs + (k + 1) ≡ n + k + 1 = omega arith in
-    ap₂ (λ (p q : ℕ). p + 256 * q)
+    ap₂ (λ (p q : ℕ). p + BYTE * q)
     (ap (λ (i : ℕ). getD (xs ++ ys) i 0) (sym a) ∙ getD-append-add xs ys k 0)
     (ap (λ (i : ℕ). getD (xs ++ ys) i 0) (sym b) ∙ getD-append-add xs ys (k + 1) 0)
 
@@ -69,10 +69,10 @@ module _ (index n : ℕ) (ps : List Place) where
   block-count l = read-word (length ps) (omega arith)
 
   pub block-numbered :
-      length ps ≤ 22 → n < 65536 → index < 65536 → counted n index (length ps) ≡ true
+      length ps ≤ 22 → n < WORD → index < WORD → counted n index (length ps) ≡ true
       → Numbered n index (blockOf index n ps)
   block-numbered few l m t =
-      record { place = read-word index m; blocks = read-word n l; count = ap (counted n index) (block-count few) ∙ t }
+      record { number = read-word index m; blocks = read-word n l; count = ap (counted n index) (block-count few) ∙ t }
 
   pub block-places : length ps ≤ 22 → All Fits ps → placesIn (blockOf index n ps) ≡ ps
   block-places few fit =
@@ -83,7 +83,7 @@ module _ (index n : ℕ) (ps : List Place) where
       ∙ ap (placesFrom (length ps)) (append-assoc (placesBytes ps) rest ends) ∙ read-places ps (rest ++ ends) fit
 
   pub block-bytes :
-      All (λ p. (p .positives < 128) × (p .negatives < 256)) ps → Bytes (blockOf index n ps)
+      All (λ p. (p .positives < 128) × (p .negatives < BYTE)) ps → Bytes (blockOf index n ps)
   unfolding words
   block-bytes a =
       let body = bodyOf index n ps in

@@ -1,6 +1,6 @@
 -- The file of the pages of a book: their rules and marks as blocks of 512 bytes (specification 7.1 to 7.4). Assumes
 -- nothing.
-use Prim.Native.Nat.{ℕ, zero, suc, max, _+_, _/_}
+use Prim.Native.Nat.{ℕ, zero, suc, max, _+_, _-_, _/_}
 use mathlib.Core.List.{List, [], _∷_, _++_}
 use lib.ListN.{length, take, drop}
 use Rattle.theory.specs.Rules.{Pages}
@@ -53,7 +53,7 @@ blocksFrom (suc k) index blocks ps =
 
 -- How many blocks so many records take: the last holds at least 1, but the empty table is one block of 0.
 abbrev pub blocksFor : ℕ → ℕ
-blocksFor n = max 1 ((n + 21) / PLACES)
+blocksFor n = max 1 ((n + PLACES - 1) / PLACES)
 
 -- The file of some records, and of the pages of a book.
 abbrev pub fileWith : List Place → List ℕ

@@ -18,8 +18,9 @@ pub record Place : Type 0 where
   pub negatives : ℕ
   pub entries : List ℕ
 
-abbrev pub ENTRIES : ℕ
-ENTRIES = 8
+-- A place has room for eight entries.
+abbrev pub PLACE-ENTRIES : ℕ
+PLACE-ENTRIES = 8
 
 -- The byte of a mark and a positive count: the count takes the other seven bits.
 abbrev pub MARK : ℕ
@@ -43,7 +44,7 @@ placeAt bs =
       muted = leb MARK (getD bs 4 0);
       positives = getD bs 4 0 % MARK;
       negatives = getD bs 5 0;
-      entries = wordsIn ENTRIES (drop 6 bs);
+      entries = wordsIn PLACE-ENTRIES (drop 6 bs);
     }
 
 -- The place that records a page, of a slot: unused entries are zero.
@@ -55,7 +56,7 @@ recorded s p =
       muted = p .muted;
       positives = length (p .rule .positives);
       negatives = length (p .rule .negatives);
-      entries = padded ENTRIES (entries (p .rule));
+      entries = padded PLACE-ENTRIES (entries (p .rule));
     }
 
 -- The rule that a place records. Whatever the counts say, a list ends where the entries end.

@@ -33,7 +33,7 @@ whole bs = eqb (length bs % BLOCK) 0 && (leb 1 (blockCount bs) && leb (blockCoun
 
 -- 17: Are A and B of the block right?
 unfoldable pub summed : List ℕ → Bool
-summed b = eqb (wordAt b 508) (sumA (take BODY b)) && eqb (wordAt b 510) (sumB (take BODY b))
+summed b = eqb (wordAt b BODY) (sumA (take BODY b)) && eqb (wordAt b (BODY + 2)) (sumB (take BODY b))
 
 -- 18: Are index, number of blocks and number of records right? Every block but the last holds 22 records, the last at
 -- least 1, but a file of one block may hold none.

@@ -3,10 +3,10 @@
 use std::num::wrapping_add_u16;
 ghost use mathlib.Core.Path.{_≡_};
 ghost use mathlib.Core.List.{_∷_, []};
-ghost use Prim.Native.Nat.{_+_, _≤_};
+ghost use Prim.Native.Nat.{_+_, _≤_, _<_};
 ghost use lib.ListN.{length, getD};
 ghost use Rattle.fields.specs.Written.{Wrote};
-ghost use Rattle.file_blocks.specs.Words.{word, wordAt};
+ghost use Rattle.file_blocks.specs.Words.{BYTE, word, wordAt};
 ghost use Rattle.file_blocks.specs.Sums.{sumA, sumB};
 
 // The bytes of a block; those of them that are summed up, from the first on; those before the places.
@@ -24,8 +24,13 @@ pub const PLACE: usize = 22;
 // The top bit of the byte of the positive count: the mark of a muted rule (request #108).
 pub const MARK: u8 = 128;
 
-// The bytes of the longest file: 12 blocks.
-pub const LONGEST: usize = 6144;
+// The blocks of the longest file, and its bytes.
+pub const BLOCKS: usize = 12;
+
+pub const LONGEST: usize = BLOCK * BLOCKS;
+
+// A byte is below this number.
+const BYTE: u16 = 256;
 
 // The two sums, A and B, which are a block's checksum.
 pub struct Pair {
@@ -35,28 +40,28 @@ pub struct Pair {
 
 // A byte as a number of two bytes.
 fn wide(x: u8) -> u16
-    ensures { λ r. ⌜ (r ≡ x) × (r ≤ 255) ⌝ }
+    ensures { λ r. ⌜ (r ≡ x) × (r < BYTE) ⌝ }
 {
     x as u16
 }
 
-// The number of two bytes at a place.
+// The number of two bytes at an offset.
 pub fn word_at(bytes: &[u8], at: usize) -> u16
     requires { ⌜ at + 2 ≤ length (now bytes) ⌝ }
     ensures { λ r. ⌜ r ≡ wordAt (now (bytes .entry)) at ⌝ }
 {
     let low = wide(bytes[at]);
     let high = wide(bytes[at + 1]);
-    low + 256 * high
+    low + BYTE * high
 }
 
-// Writes a number of two bytes at a place, and answers the place behind it.
+// Writes a number of two bytes at an offset, and answers the offset behind it.
 pub fn write_word(out: &mut [u8], at: usize, n: u16) -> usize
     requires { ⌜ at + 2 ≤ length (now out) ⌝ }
     ensures { λ r. ⌜ Wrote (word n) (now (out .entry)) at (now (out .exit)) r ⌝ }
 {
-    out[at] = (n % 256) as u8;
-    out[at + 1] = (n / 256 % 256) as u8;
+    out[at] = (n % BYTE) as u8;
+    out[at + 1] = (n / BYTE % BYTE) as u8;
     at + 2
 }
 

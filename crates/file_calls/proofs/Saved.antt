@@ -13,14 +13,14 @@ use Rattle.table.specs.declared.Table.{Table}
 use Rattle.table.specs.Sound.{Sound}
 use Rattle.fields.specs.Written.{put, Wrote}
 use Rattle.file_blocks.specs.Places.{records}
-use Rattle.file_blocks.specs.Files.{blocksFor, fileOf}
+use Rattle.file_blocks.specs.Files.{BLOCK, blocksFor, fileOf}
 use Rattle.file_blocks.proofs.RoundTrips.{file-length}
 use Rattle.refusals.specs.declared.Refusal.the-variants.{BufferTooShort, TableUnsound}
 use Rattle.calls.specs.declared.ListAnswer.the-variants.{Count, Refused}
 use Rattle.calls.specs.Contracts as contract
 use Rattle.calls.specs.Contracts.{held, SaveEnds}
-use Rattle.file_saving.specs.declared.HeldSlots.{HeldSlots}
-use Rattle.file_saving.specs.Held.{HeldIn}
+use Rattle.file_records.specs.declared.HeldSlots.{HeldSlots}
+use Rattle.file_records.specs.Held.{HeldIn}
 
 pub save-unsound :
     (t : Table) (before : List ℕ) (b : Bool) → (b ≡ true) ↔ Sound t → not b ≡ true
@@ -34,19 +34,19 @@ no-question = refl
 
 module _ (t : Table) (S : Sound t) (before : List ℕ) (h : HeldSlots) (H : HeldIn (held t) h) (n : ℕ)
     (many : n ≡ blocksFor (h .count)) where
-  long : length (fileOf (held t)) ≡ 512 * n
+  long : length (fileOf (held t)) ≡ BLOCK * n
   long =
       file-length (held t) (S .labels .passes)
-      ∙ ap (λ (k : ℕ). 512 * k) (ap blocksFor (sym (H .count)) ∙ sym many)
+      ∙ ap (λ (k : ℕ). BLOCK * k) (ap blocksFor (sym (H .count)) ∙ sym many)
 
-  pub save-short : length before < 512 * n → SaveEnds t before (Refused (BufferTooShort (512 * n))) before
+  pub save-short : length before < BLOCK * n → SaveEnds t before (Refused (BufferTooShort (BLOCK * n))) before
   save-short l =
       subst (λ (k : ℕ). SaveEnds t before (Refused (BufferTooShort k)) before) long
       (contract.short (S .labels .model) (fileOf (held t)) S no-question (S .labels .admissible) refl
       (omega (arith, long)))
 
   pub save-written :
-      (after : List ℕ) → Wrote (fileOf (held t)) before 0 after (512 * n) → SaveEnds t before (Count (512 * n)) after
+      (after : List ℕ) → Wrote (fileOf (held t)) before 0 after (BLOCK * n) → SaveEnds t before (Count (BLOCK * n)) after
   unfolding put
   save-written after W =
       let here : 0 + length (fileOf (held t)) ≡ length (fileOf (held t)) = omega arith in

@@ -15,6 +15,7 @@ use Rattle.theory.specs.Limits.{document}
 use Rattle.table.specs.declared.Table.{Table}
 use Rattle.table.specs.Clean.{emptyTable}
 use Rattle.table.specs.Sound.{Sound}
+use Rattle.file_blocks.specs.Words.{BYTE}
 use Rattle.file_blocks.specs.Files.{fileOf}
 use Rattle.file_blocks.specs.Questions.{file-questions}
 use Rattle.file_blocks.proofs.RoundTrips.{file-accepted, file-pages, pages-file}
@@ -31,7 +32,7 @@ use Rattle.file_calls.proofs.Built.{built, built-held, built-sized, bui
 
 -- Numbers that are bytes.
 abbrev pub AreBytes : List ℕ → Type 0
-AreBytes bs = every (λ b. ltb b 256) bs ≡ true
+AreBytes bs = every (λ b. ltb b BYTE) bs ≡ true
 
 -- What saving wrote: the bytes counted are the table's file.
 pub saved-file :
@@ -44,7 +45,9 @@ saved-file {t} {before} (contract.accepted M xs S q A i l) n e =
     let same : length xs ≡ n = cc in
     take-at xs (drop (length xs) before) n same ∙ i
 
--- Loading what a sound table saves gives that table, every field.
+-- Loading the file of a sound table gives that table, every field. The idea: the file passes 16 to 19 and its pages are
+-- the table's (`file-accepted`, `file-pages`), and a sound table of given pages is one, since its labels are those that
+-- the rules define (`load-determined`).
 pub load-file :
     (t : Table) → Sized t → Sound t → (x : ChangeAnswer) (u : Table) → LoadEnds (fileOf (held t)) x u
     → (x ≡ Accepted) × (u ≡ t)
@@ -52,24 +55,29 @@ load-file t Z S x u E =
     load-determined (fileOf (held t)) x Accepted u t E
     (contract.accepted t (file-accepted (held t) _ (S .labels)) Z (sym (file-pages (held t) _ (S .labels))) S)
 
+-- So does loading the bytes that saving wrote, as many as it answered.
 pub load-saved :
     (t : Table) → Sized t → Sound t → (before after : List ℕ) (n : ℕ) → SaveEnds t before (Count n) after
     → (x : ChangeAnswer) (u : Table) → LoadEnds (take n after) x u → (x ≡ Accepted) × (u ≡ t)
 load-saved t Z S before after n E x u L =
     load-file t Z S x u (subst (λ (bs : List ℕ). LoadEnds bs x u) (saved-file E n refl) L)
 
--- Each accepted file is, byte for byte, the one that its table saves.
+-- Each accepted file is, byte for byte, the one that its table saves: so a table has one file, and no two accepted files
+-- give the same table. The idea: whatever a block could hold besides its records is asked to be zero, and records ascend
+-- by slot, so the records leave no byte free (`pages-file`).
 pub loaded-file :
     {bs : List ℕ} {x : ChangeAnswer} {u : Table} → AreBytes bs → LoadEnds bs x u → x ≡ Accepted → fileOf (held u) ≡ bs
 loaded-file b (contract.refused f q) e = (let z : _≡_ {A = ℕ} 0 1 = cc in absurd (omega arith))
 loaded-file {bs} b (contract.accepted u q Z h S) e = ap fileOf h ∙ pages-file bs b q
 
+-- Saving what was loaded writes the bytes that were loaded.
 pub loaded-saves :
     (bs : List ℕ) → AreBytes bs → (u : Table) → LoadEnds bs Accepted u → (before after : List ℕ) (n : ℕ)
     → SaveEnds u before (Count n) after → take n after ≡ bs
 loaded-saves bs b u L before after n E = saved-file E n refl ∙ loaded-file b L refl
 
--- A file is accepted exactly if it is the file of some sound table.
+-- A file is accepted exactly if it is the file of some sound table. The idea: the rules of an accepted file have no loop
+-- through a negation, so there are labels for them, and the table of both is sound (`built`).
 pub accepted-file :
     (bs : List ℕ) → AreBytes bs
     → (first-no (file-questions document bs) ≡ none) ↔ ((t : Table) × Sized t × Sound t × (bs ≡ fileOf (held t)))
@@ -79,9 +87,10 @@ accepted-file bs b = (
       (file-accepted (held (w .0)) _ (w .2 .labels)),
 )
 
--- A saved file with any one byte changed is refused by 17, and the empty table is handed back.
+-- A saved file with any one byte changed is refused by 17, and the empty table is handed back. The idea: a byte of the
+-- body moves A by less than 256, and a byte of the sums moves the sum that stands there, while the other side stays.
 pub changed-byte :
-    (t : Table) → Sound t → (i b : ℕ) → i < length (fileOf (held t)) → b < 256 → (b ≡ getD (fileOf (held t)) i 0 → ⊥)
+    (t : Table) → Sound t → (i b : ℕ) → i < length (fileOf (held t)) → b < BYTE → (b ≡ getD (fileOf (held t)) i 0 → ⊥)
     → (x : ChangeAnswer) (u : Table) → LoadEnds (set (fileOf (held t)) i b) x u
     → (x ≡ Refused WrongChecksum) × (u ≡ emptyTable)
 changed-byte t S i b l k n x u E =

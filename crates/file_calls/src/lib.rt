@@ -3,11 +3,11 @@ use calls::ChangeAnswer;
 use calls::Changed;
 use calls::ListAnswer;
 use file_blocks::BLOCK;
-use file_loading::check_blocks;
 use file_loading::read_records;
-use file_loading::whole;
+use file_questions::check_blocks;
+use file_questions::whole;
+use file_records::held_slots;
 use file_saving::blocks_for;
-use file_saving::held_slots;
 use file_saving::write_file;
 use labels::labels_of;
 use refusals::Refusal;
@@ -94,7 +94,7 @@ pub fn load(bytes: &[u8]) -> Changed
         return refuse(Refusal::WrongBlock);
     }
     if !checked.filled {
-        return refuse(Refusal::WrongRecord);
+        return refuse(Refusal::WrongRecord); // what stands behind the records
     }
     let read = read_records(bytes);
     if !read.right {

@@ -1,35 +1,38 @@
--- The records of a file, put into their slots one after the other. Assumes nothing.
+-- The records of a file, stored in their slots one after the other. Assumes nothing.
 use Prim.Native.Nat.{ℕ, suc, _+_, _-_, _*_, _/_, _%_, _≤_, _<_}
 use native.Mathlib.Omega.{arith}
 use native.Mathlib.Numerals.{add-one}
 use mathlib.Core.Path.{_≡_, refl, sym, _∙_, ap, ap₂, subst}
 use mathlib.Core.Logic.{_↔_, ⊎-elim}
 use mathlib.Core.Bool.{Bool, true, false, not, _&&_}
-use mathlib.Core.List.{List, [], _∷_, map, List·Memᴰ, List·Memᴰ·head, List·Memᴰ·tail, List·Memᴰ·cases-cons, List·Memᴰ·not-nil}
+use mathlib.Core.List.{List, [], _∷_, map}
 use mathlib.Core.Option.{Option, none, some, Option·some-injective}
 use lib.Dec.{eqb, leb, ltb}
 use lib.ListN.{length, getD, take, drop, set, replicate, length-set, length-drop, length-replicate, drop-of-length-le}
 use lib.ListN.{getD-replicate, List·getD-map, List·getD-eq-default}
-use lib.Seq.{getD-drop, drop-cons, getD-set-same, getD-set-other}
+use lib.Seq.{ext-getD, getD-drop, getD-set-same, getD-set-other}
 use Rattle.theory.specs.Lists.{_∈_, every}
 use Rattle.theory.specs.Rules.{Ascending, Pages, rule-on}
 use Rattle.theory.specs.Rules as theory
 use Rattle.theory.specs.Questions.{first-no, rule-questions, is-some}
 use Rattle.theory.specs.Limits.{document}
-use Rattle.theory.proofs.Lists.{and-l, and-r, and-of, test, clash, unless, same-test, every-at, every-of, eqb-eq, eqb-of}
+use Rattle.theory.proofs.Lists.{and-l, and-r, and-of, test, clash, unless, same-test, every-at, eqb-eq, eqb-of}
 use Rattle.theory.proofs.Lists.{leb-le, le-leb, ltb-lt, lt-ltb, le-or-lt, entry-in}
 use Rattle.table.specs.declared.Atom.{Atom}
 use Rattle.table.specs.declared.Rule.{Rule}
 use Rattle.table.specs.declared.Table.{Table}
 use Rattle.table.specs.Rules.{bookOf, noAtom, numbers, pageOf, pastRule, ruleOf, slotOf, stateOf}
 use Rattle.table.specs.Clean.{freeRule, emptyTable, WellFormed}
+use Rattle.table.proofs.Members.{all-alike}
 use Rattle.table.proofs.Entries.{numbers-take, numbers-drop}
 use Rattle.table.proofs.Programs.{book-set, page-stated, slot-state}
 use Rattle.table.proofs.Empty.{free-clean, free-book}
 use Rattle.file_blocks.specs.Words.{wordAt}
 use Rattle.file_blocks.specs.Places.{pageIn, Place, placeAt, ruleIn}
+use Rattle.file_blocks.specs.Files.{BLOCK, HEADER, PLACE, PLACES}
 use Rattle.file_blocks.specs.Questions.{blocks, blockCount, placesOf, whole, numbered, ascends, right, recordedOn}
 use Rattle.file_blocks.specs.Questions.{pagesWith}
+use Rattle.file_blocks.proofs.Written.{zeros-every}
 use Rattle.file_blocks.proofs.Reading.{place-at, word-drop}
 use Rattle.file_blocks.proofs.Records.{ascends-sorted}
 use Rattle.file_loading.specs.declared.Records.{Records}
@@ -60,14 +63,6 @@ page-from p =
 slot-from : (p : Place) → slotOf (slotFrom p) ≡ some (ruleIn p)
 slot-from p = ap rule-on (page-from p)
 
--- What stands in a list stands at a place of it.
-in-getD : (xs : List ℕ) (x : ℕ) → x ∈ xs → (i : ℕ) × (i < length xs) × (getD xs i 0 ≡ x)
-in-getD [] x m = absurd (List·Memᴰ·not-nil m)
-in-getD (y ∷ ys) x m = ⊎-elim
-    (λ (e : x ≡ y). (0, omega arith, sym e))
-    (λ (n : x ∈ ys). (let w = in-getD ys x n in (suc (w .0), omega (arith, w .1), w .2)))
-    (List·Memᴰ·cases-cons m)
-
 -- No question answered no.
 none-asked : (o : Option ℕ) → not (is-some o) ≡ true → o ≡ none
 none-asked none t = refl
@@ -96,20 +91,22 @@ module _ (p : Place) where
   filler-zero :
       ((i : ℕ) → lists ≤ i → getD (map atom (p .entries)) i noAtom ≡ noAtom)
       → every (eqb 0) (drop lists (p .entries)) ≡ true
-  filler-zero f = every-of (eqb 0) (drop lists (p .entries)) (λ x m. (
-      let w = in-getD (drop lists (p .entries)) x m in
-      eqb-of 0 x (sym (sym (w .2) ∙ getD-drop lists (p .entries) (w .0) 0
-      ∙ ap (λ (a : Atom). a .0) (sym (List·getD-map atom (p .entries) (lists + w .0) 0)
-      ∙ f (lists + w .0) (omega arith))))))
+  filler-zero f =
+      let xs = drop lists (p .entries) in
+      ap (every (eqb 0)) (ext-getD 0 xs (replicate (length xs) 0) (sym (length-replicate {A = ℕ} (length xs) 0))
+      (λ i l. getD-drop lists (p .entries) i 0
+      ∙ ap (λ (a : Atom). a .0) (sym (List·getD-map atom (p .entries) (lists + i) 0) ∙ f (lists + i) (omega arith))
+      ∙ sym (all-alike {A = ℕ} (length xs) i 0)))
+      ∙ zeros-every (length xs)
 
   -- the slot is not free, and its state is one of the two of rules
-  known : (m : Bool) → stateOf m ≤ 2
-  known true = omega arith
-  known false = omega arith
+  state-known : (m : Bool) → stateOf m ≤ 2
+  state-known true = omega arith
+  state-known false = omega arith
 
-  there : (m : Bool) → stateOf m ≡ 0 → ⊥
-  there true e = omega arith
-  there false e = omega arith
+  state-held : (m : Bool) → stateOf m ≡ 0 → ⊥
+  state-held true e = omega arith
+  state-held false e = omega arith
 
   pub right-well : right document p ≡ true → WellFormed (slotFrom p)
   unfolding right
@@ -124,8 +121,8 @@ module _ (p : Place) where
       λ q h. Option·some-injective (ruleIn p) q (sym (slot-from p) ∙ h) in
       record {
         clean = record {
-          known = known (p .muted);
-          free = λ e. absurd (there (p .muted) e);
+          known = state-known (p .muted);
+          free = λ e. absurd (state-held (p .muted) e);
           fits = leb-le lists (document .entries) fits;
           filler = zero-filler zeros;
         };
@@ -264,10 +261,10 @@ going-all ps rules least k G l =
       well = λ e. G .well;
     }
 
--- One turn of the code's loop: the record that is read at its place of the file.
+-- One turn of the code's loop: the record that is read where it stands in the file.
 module _ (bs : List ℕ) (w : whole bs ≡ true) (t : numbered (blockCount bs) 0 (blocks bs) ≡ true) (rules : List Rule)
     (least k : ℕ) (G : Going (placesOf (blocks bs)) rules least k) (low : k < length (placesOf (blocks bs)))
-    (at slot : ℕ) (rule : Rule) (there : at ≡ k / 22 * 512 + 6 + k % 22 * 22) (number : slot ≡ wordAt bs at)
+    (at slot : ℕ) (rule : Rule) (there : at ≡ k / PLACES * BLOCK + HEADER + k % PLACES * PLACE) (number : slot ≡ wordAt bs at)
     (fields : rule ≡ slotFrom (placeAt (drop at bs))) where
   p : Place
   p = placeAt (drop at bs)

@@ -1,6 +1,3 @@
--- Laws behind the reading of a file. Nothing here needs to be believed.
-pub mod Tests
-pub mod Filler
+-- Laws behind the functions' proofs. Nothing here needs to be believed: all of it is checked.
 pub mod Slots
-pub mod Blocks
 pub mod Gathering

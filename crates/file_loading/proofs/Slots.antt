@@ -15,7 +15,7 @@ use Rattle.table.specs.declared.Rule.{Rule}
 use Rattle.table.specs.Clean.{WellFormed}
 use Rattle.table.specs.Rules.{stateOf}
 use Rattle.theory.proofs.Lists.{is-not}
-use Rattle.file_blocks.specs.Words.{wordAt, wordsIn}
+use Rattle.file_blocks.specs.Words.{BYTE, wordAt, wordsIn}
 use Rattle.file_blocks.specs.Places.{placeAt}
 use Rattle.file_blocks.proofs.Reading.{word-drop}
 use Rattle.file_loading.specs.Reading.{Stands, atom, slotFrom}
@@ -32,7 +32,7 @@ module _ (slot least : ℕ) (rule : Rule) where
       → (t ≡ true) ↔ Stands slot least rule
   stands-well b l t w = ((λ e. record { behind = b; below = l; well = w .0 e }), (λ s. w .1 (s .well)))
 
--- The entries of a record that begins at a place of some bytes, one by one.
+-- The entries of a record that begins at an offset of some bytes, one by one.
 
 pub words-length : (n : ℕ) (bs : List ℕ) → n ≡ length (wordsIn n bs)
 unfolding wordsIn
@@ -47,7 +47,7 @@ word-here (suc n) (suc j) bs l =
     let here : 2 + 2 * j ≡ 2 * suc j = omega arith in
     let next : 2 + (2 * j + 1) ≡ 2 * suc j + 1 = omega arith in
     word-here n j (drop 2 bs) (omega arith)
-    ∙ ap₂ (λ (x y : ℕ). x + 256 * y)
+    ∙ ap₂ (λ (x y : ℕ). x + BYTE * y)
     (getD-drop 2 bs (2 * j) 0 ∙ ap (λ (k : ℕ). getD bs k 0) here)
     (getD-drop 2 bs (2 * j + 1) 0 ∙ ap (λ (k : ℕ). getD bs k 0) next)
 
@@ -63,7 +63,7 @@ state-plain count l = sym (ap stateOf (unless (leb 128 count) (λ t. (let m = le
 pub state-marked : (count : ℕ) → 128 ≤ count → 2 ≡ stateOf (leb 128 count)
 state-marked count l = sym (ap stateOf (le-leb 128 count l))
 
--- The slot read from a place of some bytes is that of the place.
+-- The slot read at an offset of some bytes is that of the place that they begin with there.
 pub fields-at :
     (bs : List ℕ) (at head state : ℕ) (entries : List Atom) → head ≡ wordAt bs (at + 2)
     → state ≡ stateOf (leb 128 (getD bs (at + 4) 0)) → entries ≡ map atom (wordsIn 8 (drop (at + 6) bs))

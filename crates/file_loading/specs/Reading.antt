@@ -1,10 +1,10 @@
--- Private: what the functions that read a file tell each other and `files`. No contract of a call speaks of it. Assumes
--- nothing.
+-- Private: what the functions that read a file's records tell each other and `file_calls`. No contract of a call speaks
+-- of it. Assumes nothing.
 use Prim.Native.Nat.{ℕ, _<_, _≤_}
 use mathlib.Core.Path.{_≡_}
 use mathlib.Core.Bool.{Bool, true, _&&_}
 use mathlib.Core.List.{List, map}
-use lib.Dec.{eqb, ltb}
+use lib.Dec.{ltb}
 use lib.ListN.{length, getD}
 use Rattle.theory.specs.Lists.{every}
 use Rattle.theory.specs.Limits.{document}
@@ -12,29 +12,11 @@ use Rattle.table.specs.declared.Atom.{Atom}
 use Rattle.table.specs.declared.Rule.{Rule}
 use Rattle.table.specs.Rules.{stateOf, bookOf, pastRule}
 use Rattle.table.specs.Clean.{WellFormed}
-use Rattle.file_blocks.specs.Words.{wordAt}
 use Rattle.file_blocks.specs.Places.{Place}
-use Rattle.file_blocks.specs.Questions.{blocks, blockCount, summed, counted, numbered, filled, ascends, right, pagesWith}
-use Rattle.file_loading.specs.declared.Checked.{Checked}
+use Rattle.file_blocks.specs.Questions.{ascends, right, pagesWith}
 use Rattle.file_loading.specs.declared.Records.{Records}
 
--- Question 18 of one block.
-abbrev pub blockNumbered : ℕ → ℕ → List ℕ → Bool
-blockNumbered n index b = eqb (wordAt b 0) index && (eqb (wordAt b 2) n && counted n index (wordAt b 4))
-
--- The questions of a block, and of those before it.
-pub record CheckedNext (n index : ℕ) (before : Checked) (b : List ℕ) (r : Checked) : Type 0 where
-  pub summed : r .summed ≡ (before .summed && summed b)
-  pub numbered : r .numbered ≡ (before .numbered && blockNumbered n index b)
-  pub filled : r .filled ≡ (before .filled && filled b)
-
--- The questions of all blocks.
-pub record CheckedOf (bs : List ℕ) (r : Checked) : Type 0 where
-  pub summed : r .summed ≡ every summed (blocks bs)
-  pub numbered : r .numbered ≡ numbered (blockCount bs) 0 (blocks bs)
-  pub filled : r .filled ≡ every filled (blocks bs)
-
--- An atom by its number; the slot that a place records.
+-- An atom by its number; the slot that a place of a file records.
 abbrev pub atom : ℕ → Atom
 atom x = record { 0 = x }
 

@@ -17,9 +17,10 @@ use Rattle.file_blocks.specs.Sums.{sumA, sumB}
 use Rattle.file_blocks.specs.Places.{Place, records}
 use Rattle.file_blocks.specs.Files.{BLOCK, BODY, HEADER, PLACES, PLACE}
 use Rattle.file_blocks.specs.Files.{placesBytes, bodyOf, blockOf, blocksFrom, blocksFor, fileOf}
-use Rattle.file_saving.specs.declared.HeldSlots.{HeldSlots}
-use Rattle.file_saving.specs.Held.{HeldIn}
-use Rattle.file_saving.specs.Bytes.{recordsBytes, headerBytes, sumsBytes, blockBytes}
+use Rattle.file_records.specs.declared.HeldSlots.{HeldSlots}
+use Rattle.file_records.specs.Held.{HeldIn}
+use Rattle.file_records.specs.Bytes.{recordsBytes}
+use Rattle.file_saving.specs.Bytes.{headerBytes, sumsBytes, blockBytes}
 
 -- So many elements of a list, or as many of these as it has.
 take-there : {A : Type 0} (n m : ℕ) (xs : List A) → m ≡ min n (length xs) → take m xs ≡ take n xs

@@ -1,5 +1,3 @@
 -- Laws behind the functions' proofs. Nothing here needs to be believed: all of it is checked.
 pub mod Written
-pub mod Held
-pub mod Records
 pub mod Blocks

@@ -1,3 +1,2 @@
--- What the functions of this crate promise one another and `files`.
-pub mod Held
+-- What the functions of this crate promise one another.
 pub mod Bytes

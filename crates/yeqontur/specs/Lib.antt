@@ -1,3 +1,2 @@
--- What crosses the boundary to C, and the numbers by which a program knows the library.
-pub mod Crossing
+-- The numbers by which a program knows the library.
 pub mod Versions

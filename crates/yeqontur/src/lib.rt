@@ -1,36 +1,30 @@
 // The calls for C: numbers, slices and structs of numbers cross the boundary, and nothing else. include/yeqontur.h says
-// the same for C.
-use add_remove::add;
-use add_remove::remove;
+// the same for C. A library for C has the functions of its own crate alone, so each call stands here under its name in C,
+// over the function of the c_.. crate that makes it.
 use c_answers::Accepted;
 use c_answers::AtomLabel;
 use c_answers::Change;
 use c_answers::Completeness;
 use c_answers::RuleSpoiler;
 use c_answers::Written;
-use c_answers::crossed_add;
-use c_answers::crossed_change;
-use c_answers::crossed_complete;
-use c_answers::crossed_label;
-use c_answers::crossed_list;
-use c_answers::crossed_remove;
-use c_answers::crossed_spoiler;
-use checklist::complete;
-use checklist::missing;
-use checklist_marks::file_sent;
-use checklist_marks::file_skipped;
-use checklist_marks::skip_withdrawn;
-use checklist_open::open;
-use file_calls::load;
-use file_calls::save;
-use muting::mute;
-use queries::consequences;
-use queries::justifications;
-use queries::label;
-use queries::repercussions;
-use queries::spoiler;
-use reason_call::reason;
-use replacing::replace;
+use c_changes::c_add;
+use c_changes::c_mute;
+use c_changes::c_remove;
+use c_changes::c_replace;
+use c_checklists::c_complete;
+use c_checklists::c_missing;
+use c_checklists::c_open;
+use c_checklists::c_sent;
+use c_checklists::c_skipped;
+use c_checklists::c_withdraw;
+use c_files::c_load;
+use c_files::c_save;
+use c_queries::c_consequences;
+use c_queries::c_justifications;
+use c_queries::c_label;
+use c_queries::c_reason;
+use c_queries::c_repercussions;
+use c_queries::c_spoiler;
 use table::Table;
 ghost use mathlib.Core.Path.{_≡_};
 ghost use mathlib.Core.Bool.{not};
@@ -41,8 +35,8 @@ ghost use Rattle.calls.specs.Contracts.{JustificationsEnd, ConsequencesEnd, Rep
 ghost use Rattle.calls.specs.Contracts.{ReplaceEnds, MuteEnds, SaveEnds, LoadEnds};
 ghost use Rattle.checklist_meaning.specs.Questions.{file-sent, file-skipped, skip-withdrawn};
 ghost use Rattle.checklist_meaning.specs.Contracts.{OpenEnds, FileEnds, MissingEnds};
-ghost use Rattle.yeqontur.specs.Crossing.{AddCrosses, RemoveCrosses, LabelCrosses, SpoilerCrosses, ListCrosses};
-ghost use Rattle.yeqontur.specs.Crossing.{ChangeCrosses, CompleteCrosses};
+ghost use Rattle.c_answers.specs.Crossing.{AddCrosses, RemoveCrosses, LabelCrosses, SpoilerCrosses, ListCrosses};
+ghost use Rattle.c_answers.specs.Crossing.{ChangeCrosses, CompleteCrosses};
 ghost use Rattle.yeqontur.specs.Versions.{version, layout};
 
 const VERSION: u32 = 200;
@@ -82,20 +76,14 @@ pub extern "C" fn yeqontur_add(
 ) -> Change
     ensures { λ r. ⌜ AddCrosses table (ruleFrom head (now (positives .entry)) (now (negatives .entry))) r ⌝ }
 {
-    let done = add(table, head, positives, negatives);
-    let answer = done.answer;
-    let after = done.table;
-    crossed_add(answer, after)
+    c_add(table, head, positives, negatives)
 }
 
 #[no_mangle]
 pub extern "C" fn yeqontur_remove(table: Table, slot: u32) -> Change
     ensures { λ r. ⌜ RemoveCrosses table slot r ⌝ }
 {
-    let done = remove(table, slot);
-    let answer = done.answer;
-    let after = done.table;
-    crossed_remove(slot, answer, after)
+    c_remove(table, slot)
 }
 
 #[no_mangle]
@@ -109,10 +97,7 @@ pub extern "C" fn yeqontur_replace(
     ensures { λ r. ⌜ ChangeCrosses
         (ReplaceEnds table slot (ruleFrom head (now (positives .entry)) (now (negatives .entry)))) r ⌝ }
 {
-    let done = replace(table, slot, head, positives, negatives);
-    let answer = done.answer;
-    let replaced = done.table;
-    crossed_change(answer, replaced)
+    c_replace(table, slot, head, positives, negatives)
 }
 
 // 0 unmutes, any other number mutes.
@@ -120,130 +105,103 @@ pub extern "C" fn yeqontur_replace(
 pub extern "C" fn yeqontur_mute(table: Table, slot: u32, muted: u32) -> Accepted
     ensures { λ r. ⌜ ChangeCrosses (MuteEnds table slot (not (eqb muted 0))) r ⌝ }
 {
-    let done = mute(table, slot, muted != 0);
-    let answer = done.answer;
-    let marked = done.table;
-    crossed_change(answer, marked)
+    c_mute(table, slot, muted)
 }
 
 #[no_mangle]
 pub extern "C" fn yeqontur_label(table: Table, atom: u32) -> AtomLabel
     ensures { λ r. ⌜ LabelCrosses table atom r ⌝ }
 {
-    let answer = label(table, atom);
-    crossed_label(answer)
+    c_label(table, atom)
 }
 
 #[no_mangle]
 pub extern "C" fn yeqontur_spoiler(table: Table, slot: u32) -> RuleSpoiler
     ensures { λ r. ⌜ SpoilerCrosses table slot r ⌝ }
 {
-    let answer = spoiler(table, slot);
-    crossed_spoiler(answer)
+    c_spoiler(table, slot)
 }
 
 #[no_mangle]
 pub extern "C" fn yeqontur_justifications(table: Table, atom: u32, buffer: &mut [u32]) -> Written
     ensures { λ r. ⌜ ListCrosses (JustificationsEnd table atom (now (buffer .entry))) (now (buffer .exit)) r ⌝ }
 {
-    let answer = justifications(table, atom, buffer);
-    crossed_list(answer)
+    c_justifications(table, atom, buffer)
 }
 
 #[no_mangle]
 pub extern "C" fn yeqontur_consequences(table: Table, atom: u32, buffer: &mut [u32]) -> Written
     ensures { λ r. ⌜ ListCrosses (ConsequencesEnd table atom (now (buffer .entry))) (now (buffer .exit)) r ⌝ }
 {
-    let answer = consequences(table, atom, buffer);
-    crossed_list(answer)
+    c_consequences(table, atom, buffer)
 }
 
 #[no_mangle]
 pub extern "C" fn yeqontur_repercussions(table: Table, atom: u32, buffer: &mut [u32]) -> Written
     ensures { λ r. ⌜ ListCrosses (RepercussionsEnd table atom (now (buffer .entry))) (now (buffer .exit)) r ⌝ }
 {
-    let answer = repercussions(table, atom, buffer);
-    crossed_list(answer)
+    c_repercussions(table, atom, buffer)
 }
 
 #[no_mangle]
 pub extern "C" fn yeqontur_reason(table: Table, atom: u32, buffer: &mut [u32]) -> Written
     ensures { λ r. ⌜ ListCrosses (ReasonEnds table atom (now (buffer .entry))) (now (buffer .exit)) r ⌝ }
 {
-    let answer = reason(table, atom, buffer);
-    crossed_list(answer)
+    c_reason(table, atom, buffer)
 }
 
 #[no_mangle]
 pub extern "C" fn yeqontur_save(table: Table, bytes: &mut [u8]) -> Written
     ensures { λ r. ⌜ ListCrosses (SaveEnds table (now (bytes .entry))) (now (bytes .exit)) r ⌝ }
 {
-    let answer = save(table, bytes);
-    crossed_list(answer)
+    c_save(table, bytes)
 }
 
 #[no_mangle]
 pub extern "C" fn yeqontur_load(bytes: &[u8]) -> Accepted
     ensures { λ r. ⌜ ChangeCrosses (LoadEnds (now (bytes .entry))) r ⌝ }
 {
-    let done = load(bytes);
-    let answer = done.answer;
-    let loaded = done.table;
-    crossed_change(answer, loaded)
+    c_load(bytes)
 }
 
 #[no_mangle]
 pub extern "C" fn yeqontur_checklist_open(files: u32) -> Accepted
     ensures { λ r. ⌜ ChangeCrosses (OpenEnds files) r ⌝ }
 {
-    let done = open(files);
-    let answer = done.answer;
-    let opened = done.table;
-    crossed_change(answer, opened)
+    c_open(files)
 }
 
 #[no_mangle]
 pub extern "C" fn yeqontur_checklist_sent(table: Table, file: u32) -> Accepted
     ensures { λ r. ⌜ ChangeCrosses (FileEnds table (file-sent file)) r ⌝ }
 {
-    let done = file_sent(table, file);
-    let answer = done.answer;
-    let sent = done.table;
-    crossed_change(answer, sent)
+    c_sent(table, file)
 }
 
 #[no_mangle]
 pub extern "C" fn yeqontur_checklist_skipped(table: Table, file: u32) -> Accepted
     ensures { λ r. ⌜ ChangeCrosses (FileEnds table (file-skipped file)) r ⌝ }
 {
-    let done = file_skipped(table, file);
-    let answer = done.answer;
-    let skipped = done.table;
-    crossed_change(answer, skipped)
+    c_skipped(table, file)
 }
 
 #[no_mangle]
 pub extern "C" fn yeqontur_checklist_withdraw(table: Table, file: u32) -> Accepted
     ensures { λ r. ⌜ ChangeCrosses (FileEnds table (skip-withdrawn file)) r ⌝ }
 {
-    let done = skip_withdrawn(table, file);
-    let answer = done.answer;
-    let withdrawn = done.table;
-    crossed_change(answer, withdrawn)
+    c_withdraw(table, file)
 }
 
 #[no_mangle]
 pub extern "C" fn yeqontur_checklist_missing(table: Table, buffer: &mut [u32]) -> Written
     ensures { λ r. ⌜ ListCrosses (MissingEnds table (now (buffer .entry))) (now (buffer .exit)) r ⌝ }
 {
-    let answer = missing(table, buffer);
-    crossed_list(answer)
+    c_missing(table, buffer)
 }
 
 #[no_mangle]
 pub extern "C" fn yeqontur_checklist_complete(table: Table) -> Completeness
     ensures { λ r. ⌜ CompleteCrosses table r ⌝ }
 {
-    let answer = complete(table);
-    crossed_complete(answer)
+    c_complete(table)
 }

@@ -3,7 +3,7 @@ use native.Mathlib.Omega.{arith}
 use mathlib.Core.Path.{refl}
 use lib.ListN.{length-set}
 use borrow.Author.Needs.{needs}
-use Rattle.file_blocks.proofs.Words.{two-put}
+use Rattle.file_blocks.proofs.Words.{two-sets-put}
 use Rattle.file_blocks.proofs.write_word.Statement.{statement}
 use Rattle.file_blocks.proofs.write_word.Tie as tie
 
@@ -29,7 +29,7 @@ same-length : tie.Need-same-length
 same-length c = search needs
 
 returns : tie.Need-returns
-returns c = record { room = search needs; buffer = two-put _ _ _ _ (search needs); place = refl }
+returns c = record { room = search needs; buffer = two-sets-put _ _ _ _ (search needs); place = refl }
 
 pub write-word-spec : {M : Type 1} → statement M
 write-word-spec =

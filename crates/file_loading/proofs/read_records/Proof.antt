@@ -36,8 +36,8 @@ loop-holds c =
       going-from (placesOf (blocks bs)) (c .before .empty .result) (c .before .empty .ensures),
     )
 
-place-at-requires : tie.Need-place-at-requires Inv-loop μ-loop
-place-at-requires c κs =
+record-start-requires : tie.Need-record-start-requires Inv-loop μ-loop
+record-start-requires c κs =
     let l = c .before in
     let s = l .before .before .before .before .before in
     let bs = s .args .bytes .now in
@@ -51,10 +51,7 @@ word-at-requires c κs =
     let s = l .before .before .before .before .before in
     let bs = s .args .bytes .now in
     let within = place-within bs (s .pre .0) (s .pre .1) (l .loop .k) (omega (arith, l .loop .inv .0)) in
-    omega (arith, c .place-at .ensures, within)
-
-cast-slot : tie.Need-cast-slot Inv-loop μ-loop
-cast-slot c = search needs
+    omega (arith, c .record-start .ensures, within)
 
 rule-at-requires : tie.Need-rule-at-requires Inv-loop μ-loop
 rule-at-requires c κs =
@@ -62,7 +59,7 @@ rule-at-requires c κs =
     let s = l .before .before .before .before .before in
     let bs = s .args .bytes .now in
     let within = place-within bs (s .pre .0) (s .pre .1) (l .loop .k) (omega (arith, l .loop .inv .0)) in
-    omega (arith, c .before .place-at .ensures, within)
+    omega (arith, c .before .record-start .ensures, within)
 
 stands-requires : tie.Need-stands-requires Inv-loop μ-loop
 stands-requires c κs = tt
@@ -73,15 +70,20 @@ returns c =
     let l = read .before .before .before .before in
     let s = l .before .before .before .before .before in
     read-bad (s .args .bytes .now) (s .pre .0) (s .pre .1) (l .loop .rules) (l .loop .least) (l .loop .k)
-    (l .loop .inv .1) (omega (arith, l .loop .inv .0)) _ _ _ (read .before .before .place-at .ensures)
+    (l .loop .inv .1) (omega (arith, l .loop .inv .0)) _ _ _ (read .before .before .record-start .ensures)
     (read .before .word-at .ensures) (read .rule-at .ensures)
     (λ S. clash (c .before .stands .ensures .1 S) (not-true _ (c .if1 .taken)))
+
+cast-s : tie.Need-cast-s Inv-loop μ-loop
+cast-s c = search needs
 
 mul-rules : tie.Need-mul-rules Inv-loop μ-loop
 mul-rules c = search needs
 
 array-set-from-rules : tie.Need-array-set-from-rules Inv-loop μ-loop
-array-set-from-rules c = (let S = c .before .stands .ensures .0 (not-false _ (c .if1 .left)) in S .below)
+array-set-from-rules c =
+    let S = c .before .before .stands .ensures .0 (not-false _ (c .before .if1 .left)) in
+    S .below
 
 add-least : tie.Need-add-least Inv-loop μ-loop
 add-least c = search needs
@@ -94,14 +96,14 @@ loop-less c = search needs
 
 loop-again : tie.Need-loop-again Inv-loop μ-loop
 loop-again c =
-    let read = c .before .before in
+    let read = c .before .before .before in
     let l = read .before .before .before .before in
     let s = l .before .before .before .before .before in (
       l .loop .inv .0,
       read-next (s .args .bytes .now) (s .pre .0) (s .pre .1) (l .loop .rules) (l .loop .least) (l .loop .k)
-          (l .loop .inv .1) (omega (arith, l .loop .inv .0)) _ _ _ (read .before .before .place-at .ensures)
+          (l .loop .inv .1) (omega (arith, l .loop .inv .0)) _ _ _ (read .before .before .record-start .ensures)
           (read .before .word-at .ensures) (read .rule-at .ensures)
-          (c .before .stands .ensures .0 (not-false _ (c .if1 .left))),
+          (c .before .before .stands .ensures .0 (not-false _ (c .before .if1 .left))),
     )
 
 returns-2 : tie.Need-returns-2 Inv-loop μ-loop
@@ -118,12 +120,12 @@ read-records-spec =
     record-count-requires
     empty-requires
     loop-holds
-    place-at-requires
+    record-start-requires
     word-at-requires
-    cast-slot
     rule-at-requires
     stands-requires
     returns
+    cast-s
     mul-rules
     array-set-from-rules
     add-least

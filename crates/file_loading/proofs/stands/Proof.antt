@@ -4,6 +4,9 @@ use borrow.Author.Needs.{needs}
 use Rattle.file_loading.proofs.stands.Statement.{statement}
 use Rattle.file_loading.proofs.stands.Tie as tie
 
+cast-s : tie.Need-cast-s
+cast-s c = search needs
+
 returns : tie.Need-returns
 returns c = stands-behind _ _ _ (search needs)
 
@@ -17,4 +20,4 @@ returns-3 : tie.Need-returns-3
 returns-3 c = stands-well _ _ _ (search needs) (search needs) _ (c .well-formed .ensures)
 
 pub stands-spec : {M : Type 1} → statement M
-stands-spec = tie.close (tie.spec returns returns-2 well-formed-requires returns-3)
+stands-spec = tie.close (tie.spec cast-s returns returns-2 well-formed-requires returns-3)

@@ -1,0 +1,4 @@
+-- Laws behind the functions' proofs. Nothing here needs to be believed: all of it is checked.
+pub mod Tests
+pub mod Filler
+pub mod Blocks

@@ -1,0 +1,3 @@
+-- What the functions of this crate promise one another and `file_saving`.
+pub mod Held
+pub mod Bytes
