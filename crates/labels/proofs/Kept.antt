@@ -25,14 +25,14 @@ use Rattle.labels.specs.Assembling.{labelFor, Assembled}
 
 -- The label of one atom, by whether it is in and whether it occurs.
 module _ (i o : Bool) (d s : ℕ) where
-  pub kept-in : i ≡ true → record { state = 2; depth = d; slot = record { 0 = s } } ≡ labelFor i o d s
-  kept-in t = cc
+  pub label-for-in : i ≡ true → record { state = 2; depth = d; slot = record { 0 = s } } ≡ labelFor i o d s
+  label-for-in t = cc
 
-  pub kept-out : i ≡ false → o ≡ true → record { state = 1; depth = 0; slot = record { 0 = 0 } } ≡ labelFor i o d s
-  kept-out t u = cc
+  pub label-for-out : i ≡ false → o ≡ true → record { state = 1; depth = 0; slot = record { 0 = 0 } } ≡ labelFor i o d s
+  label-for-out t u = cc
 
-  pub kept-absent : i ≡ false → o ≡ false → absentLabel ≡ labelFor i o d s
-  kept-absent t u = cc
+  pub label-for-absent : i ≡ false → o ≡ false → absentLabel ≡ labelFor i o d s
+  label-for-absent t u = cc
 
   pub clean-for : CleanLabel (labelFor i o d s)
   clean-for = go i o

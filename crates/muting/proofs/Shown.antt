@@ -36,12 +36,12 @@ use Rattle.calls.proofs.Asking.{slot-asked}
 use Rattle.calls.proofs.OneTable.{table-unique}
 use Rattle.calls.proofs.Determined.{both}
 
--- Unmuting never meets 7, nor does muting: it is not asked.
+-- Unmuting never meets 7, nor does muting: it is not asked. That it need not be are the next two laws.
 pub never-7 : (t u : Table) (s : ℕ) (m : Bool) → MuteEnds t s m (changed.Refused refusal.NegativeCycle) u → ⊥
 unfolding every
 never-7 t u s m (contract.refused f S e) = never-refused 7 (slot-questions document (all (held t)) s) refl e
 
--- And it need not be: with the marks of any pages of a sound table taken off, or put on, the unmuted rules have no loop
+-- With the marks of any pages of a sound table taken off, or put on, the unmuted rules have no loop
 -- through a negation. (Pages that hold the same rules, whatever the marks.)
 pub any-marks-acyclic :
     (t : Table) → Sound t → (B : Pages) → all B ≡ all (held t) → NegativeCycle (active B) → ⊥

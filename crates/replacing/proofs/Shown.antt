@@ -31,7 +31,7 @@ use Rattle.calls.specs.Contracts.{held, Sized, AddEnds, RemoveEnds, ReplaceEnds
 use Rattle.calls.proofs.OneTable.{table-unique}
 use Rattle.calls.proofs.Determined.{refusal-unique, both}
 
--- No replacement is refused by 6.
+-- No replacement is refused by 6: it is not asked. That it need not be is `free-left` (crates/theory/proofs/Replacing).
 pub not-full : (t u : Table) (s : ℕ) (r : Rule) → ReplaceEnds t s r (changed.Refused refusal.TableFull) u → ⊥
 unfolding every
 not-full t u s r (contract.refused f S e) = never-refused 6 (replace-questions document (all (held t)) s r) refl e

@@ -46,7 +46,7 @@ agrees-requires c κs = tt
 returns : tie.Need-returns Inv-loop μ-loop
 returns c =
     let o = c .before .before .before .before .before .before .before .before in
-    let a = c .before .before .before .before .before .before .before .before .before .before .before .before in
+    let a = o .before .before .before .before in
     let s = a .before in
     of-labels (s .args .labels) _ (a .arrays-of .ensures) _ _
     (slot-fails (s .args .t1) _ _ _ (o .loop .i) _ _ _ (c .before .agrees .ensures) (not-true _ (c .if1 .taken)))
@@ -60,7 +60,7 @@ loop-less c = search needs
 loop-again : tie.Need-loop-again Inv-loop μ-loop
 loop-again c =
     let o = c .before .before .before .before .before .before .before .before in
-    let a = c .before .before .before .before .before .before .before .before .before .before .before .before in
+    let a = o .before .before .before .before in
     let s = a .before in
     let long : length (s .args .labels) ≡ 256 = search needs in
     slot-passes (s .args .t1) _ _ _ (o .loop .i) _ _ _ (c .before .agrees .ensures) 256
@@ -73,7 +73,7 @@ all-found-requires c κs = tt
 returns-2 : tie.Need-returns-2 Inv-loop μ-loop
 returns-2 c =
     let o = c .before .before .before .before in
-    let a = c .before .before .before .before .before .before .before .before in
+    let a = o .before .before .before .before in
     let s = a .before in
     let long : length (s .args .t1) ≡ 256 = search needs in
     let over : length (activeOf (s .args .t1)) ≤ o .loop .i = simp length-map (omega arith) in

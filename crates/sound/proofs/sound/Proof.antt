@@ -19,10 +19,24 @@ rules-long s = simp length-map at (s .good .0 .1 .1 .0 .1 .0 .1)
 labels-long : (s : tie.Start) → length (s .args .table .labels) ≡ document .atoms
 labels-long s = simp length-map at (s .good .0 .1 .1 .1 .0 .1 .0 .1)
 
+-- from behind each test back to behind the one before it, and to the start
+abbrev start : tie.Else1 → tie.Start
+start c = c .before .before .before .before
+
+abbrev slots-passed : tie.Else2 → tie.Else1
+slots-passed c = c .before .before
+
+abbrev clean-passed : tie.Else3 → tie.Else2
+clean-passed c = c .before .before
+
+abbrev kept-passed : tie.Else4 → tie.Else3
+kept-passed c = c .before .before
+
+abbrev occurs-passed : tie.Else5 → tie.Else4
+occurs-passed c = c .before .before
+
 -- what the first test tells
-well :
-    (c : tie.Else1) → (s : ℕ) → s < document .slots
-    → WellFormed (getD (c .before .before .before .before .args .table .rules) s pastRule)
+well : (c : tie.Else1) → (s : ℕ) → s < document .slots → WellFormed (getD (start c .args .table .rules) s pastRule)
 well c = granted _ (c .before .slots-well-formed .ensures) (c .if1 .left)
 
 slots-well-formed-requires : tie.Need-slots-well-formed-requires
@@ -47,7 +61,7 @@ certified-requires c κs = tt
 
 returns-3 : tie.Need-returns-3
 returns-3 c =
-    let s = c .before .before .before .before .before .before .before .before in
+    let s = start (slots-passed (c .before .before)) in
     let n = rules-long s in
     let m = labels-long s in
     let t = s .args .table in
@@ -55,15 +69,16 @@ returns-3 c =
 
 occurrence-kept-requires : tie.Need-occurrence-kept-requires
 occurrence-kept-requires c κs =
-    let s = c .before .before .before .before .before .before .before .before in
+    let first = slots-passed (clean-passed c) in
+    let s = start first in
     let n = rules-long s in
     let m = labels-long s in
     let t = s .args .table in
-    well-formed-bounded t n m (well (c .before .before .before .before))
+    well-formed-bounded t n m (well first)
 
 returns-4 : tie.Need-returns-4
 returns-4 c =
-    let s = c .before .before .before .before .before .before .before .before .before .before in
+    let s = start (slots-passed (clean-passed (c .before .before))) in
     let n = rules-long s in
     let m = labels-long s in
     let t = s .args .table in
@@ -74,7 +89,7 @@ no-two-equal-requires c κs = tt
 
 returns-5 : tie.Need-returns-5
 returns-5 c =
-    let s = c .before .before .before .before .before .before .before .before .before .before .before .before in
+    let s = start (slots-passed (clean-passed (kept-passed (c .before .before)))) in
     let n = rules-long s in
     let m = labels-long s in
     let t = s .args .table in
@@ -82,24 +97,25 @@ returns-5 c =
 
 acyclic-requires : tie.Need-acyclic-requires
 acyclic-requires c κs =
-    let s = c .before .before .before .before .before .before .before .before .before .before .before .before in
+    let first = slots-passed (clean-passed (kept-passed (occurs-passed c))) in
+    let s = start first in
     let n = rules-long s in
     let m = labels-long s in
     let t = s .args .table in
-    well-formed-bounded t n m (well (c .before .before .before .before .before .before .before .before))
+    well-formed-bounded t n m (well first)
 
 returns-6 : tie.Need-returns-6
 returns-6 c =
-    let s = c .before .before .before .before .before .before .before .before .before .before .before .before .before in
+    let single = c .before in
+    let occurs = occurs-passed single in
+    let kept = kept-passed occurs in
+    let clean = clean-passed kept in
+    let first = slots-passed clean in
+    let s = start first in
     let n = rules-long s in
     let m = labels-long s in
-    let t = s .args .table in
-    let single = c .before in
-    let occurs = c .before .before .before in
-    let kept = c .before .before .before .before .before in
-    let clean = c .before .before .before .before .before .before .before in (
-      λ u. sound-of t n m
-          (well (c .before .before .before .before .before .before .before .before .before))
+    let t = s .args .table in (
+      λ u. sound-of t n m (well first)
           (granted _ (clean .before .labels-clean .ensures) (clean .if2 .left))
           (granted _ (kept .before .certified .ensures) (kept .if3 .left))
           (granted _ (occurs .before .occurrence-kept .ensures) (occurs .if4 .left))

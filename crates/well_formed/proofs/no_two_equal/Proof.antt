@@ -30,6 +30,10 @@ Inv-loop rules last₀ before₀ i₀ last before i =
 abbrev μ-loop : tie.MeasureT-loop
 μ-loop rules last₀ before₀ i₀ last before i = document .slots - i
 
+-- from a link that is followed to the slot whose links they are
+abbrev slot-of : (c : tie.At-loop2 Inv-loop2 μ-loop2 Inv-loop μ-loop) → tie.At-loop Inv-loop2 μ-loop2 Inv-loop μ-loop
+slot-of c = c .before .before .before .before .before .before
+
 loop-holds : tie.Need-loop-holds Inv-loop2 μ-loop2 Inv-loop μ-loop
 loop-holds c = links-start _ _ _ _ refl refl (λ h. all-alike keys h 0)
 
@@ -67,8 +71,9 @@ equal-requires c κs = tt
 
 returns : tie.Need-returns Inv-loop2 μ-loop2 Inv-loop μ-loop
 returns c =
-    let l = c .before .before .before .before .loop2 in
-    let o = c .before .before .before .before .before .before .before .before .before .before in
+    let v = c .before .before .before .before in
+    let l = v .loop2 in
+    let o = slot-of v in
     let s = o .before in
     let x = s .args .t1 in
     is-not (follow-equal _ (document .slots) _ _ (o .loop .i) (o .loop .inv) _ (program-at x (o .loop .i)) (l .link)
@@ -88,8 +93,9 @@ array-read-link c = (let l = c .before .before .before .before .loop2 .inv .unde
 
 cast-link-2 : tie.Need-cast-link-2 Inv-loop2 μ-loop2 Inv-loop μ-loop
 cast-link-2 c =
-    let l = c .before .before .before .before .loop2 in
-    let o = c .before .before .before .before .before .before .before .before .before .before in
+    let v = c .before .before .before .before in
+    let l = v .loop2 in
+    let o = slot-of v in
     let s = o .before in
     let u = l .inv .under in
     let f = follow-falls _ (document .slots) _ _ (o .loop .i) (o .loop .inv) _ (program-at (s .args .t1) (o .loop .i))
@@ -98,16 +104,18 @@ cast-link-2 c =
 
 loop2-less : tie.Need-loop2-less Inv-loop2 μ-loop2 Inv-loop μ-loop
 loop2-less c =
-    let l = c .before .before .before .before .loop2 in
-    let o = c .before .before .before .before .before .before .before .before .before .before in
+    let v = c .before .before .before .before in
+    let l = v .loop2 in
+    let o = slot-of v in
     let s = o .before in
     follow-falls _ (document .slots) _ _ (o .loop .i) (o .loop .inv) _ (program-at (s .args .t1) (o .loop .i))
     (l .link) (c .before .before .before .loop2-test .taken) (l .inv)
 
 loop2-again : tie.Need-loop2-again Inv-loop2 μ-loop2 Inv-loop μ-loop
 loop2-again c =
-    let l = c .before .before .before .before .loop2 in
-    let o = c .before .before .before .before .before .before .before .before .before .before in
+    let v = c .before .before .before .before in
+    let l = v .loop2 in
+    let o = slot-of v in
     let s = o .before in
     let x = s .args .t1 in
     follow-next _ (document .slots) _ _ (o .loop .i) (o .loop .inv) _ (program-at x (o .loop .i)) (l .link)
@@ -139,14 +147,14 @@ loop-less c = search needs
 
 loop-again : tie.Need-loop-again Inv-loop2 μ-loop2 Inv-loop μ-loop
 loop-again c =
-    let l = c .before .before .before .loop2 in
-    let o = c .before .before .before .before .before .before .before .before .before in
+    let v = c .before .before .before in
+    let l = v .loop2 in
+    let o = slot-of v in
     let s = o .before in
     links-step _ (document .slots) _ _ (o .loop .i) (o .loop .inv)
-    (c .before .before .before .before .before .before .before .before .loop-test .taken) _
+    (v .before .before .before .before .before .loop-test .taken) _
     (program-at (s .args .t1) (o .loop .i)) (l .link) (omega (arith, c .before .before .loop2-test .left)) (l .inv)
-    _ _ (c .before .before .before .before .before .before .slot-key .ensures)
-    (c .before .before .before .before .last-of .ensures) _ (c .note .ensures)
+    _ _ (v .before .before .before .slot-key .ensures) (v .before .last-of .ensures) _ (c .note .ensures)
 
 returns-2 : tie.Need-returns-2 Inv-loop2 μ-loop2 Inv-loop μ-loop
 returns-2 c =
