@@ -32,9 +32,11 @@ use Rattle.calls.specs.declared.LabelAnswer.{LabelAnswer}
 use Rattle.calls.specs.declared.LabelAnswer.the-variants as label
 use Rattle.calls.specs.Contracts as contract
 use Rattle.calls.specs.Contracts.{held, AddEnds, RemoveEnds, LabelEnds}
+use Rattle.checklist_frame.specs.declared.Mark.{Mark}
 use Rattle.checklist_frame.specs.declared.Mark.the-variants.{Sent, Skipped}
 use Rattle.checklist_frame.specs.Frame.{Checklist, sent, skipped, fact, on-list, is-mark, files-of, marked}
 use Rattle.checklist_frame.specs.Frame.{first-slot}
+use Rattle.checklist_frame.specs.Parts.{mark-atom}
 use Rattle.checklist_frame.proofs.Frames.{on-list-between, checklist-of, mark-below, sent-mark, skipped-mark}
 use Rattle.checklist_meaning.specs.Questions.{FileCall, file-sent, file-skipped, skip-withdrawn, file, allowed}
 use Rattle.checklist_meaning.specs.Book.{with-fact, marks-changed}
@@ -46,7 +48,8 @@ use Rattle.checklist_meaning.proofs.Marks.{rules-added, fact-slot}
 use Rattle.checklist_meaning.proofs.Model.{mark-in, mark-support}
 use Rattle.checklist_marks.specs.declared.AskedFile.{AskedFile}
 use Rattle.checklist_marks.specs.declared.AskedFile.the-variants as asked
-use Rattle.checklist_marks.specs.Parts.{FileAsked, FactAdded, taken, stands, other, FactRemoved, MarkAdded, MarkRemoved}
+use Rattle.checklist_marks.specs.Parts.{FileAsked, FactAdded, taken, stands, other, FactRemoved, Handled, MarkAdded}
+use Rattle.checklist_marks.specs.Parts.{MarkRemoved}
 use Rattle.checklist_marks.specs.Parts as parts
 use Rattle.checklist.proofs.Labels.{Told, told-absent, told-out, told-in, told-refused}
 use Rattle.checklist.proofs.Labels.{in?, slot?, model-in, supporting-slot}
@@ -57,20 +60,19 @@ pub handed :
     → r ≡ record { answer = x; table = u } → Q x u → Q (r .answer) (r .table)
 handed Q r e q = subst (λ (z : Changed). Q (z .answer) (z .table)) (sym e) q
 
--- A refusal of the file is handed on; what passed is added, or removed.
-module _ (t : Table) {r : AskedFile} where
-  pub add-refused : {f : Refusal} → r ≡ asked.Refused f → MarkAdded t r (change.Refused f) t
-  add-refused {f} e = subst (λ (q : AskedFile). MarkAdded t q (change.Refused f) t) (sym e) (refl, refl)
+-- A refusal of the file is handed on; to what passed something is done.
+module _ (Done : ℕ → ChangeAnswer → Table → Type 0) (t : Table) {r : AskedFile} where
+  pub hands-on :
+      {f : Refusal} → r ≡ asked.Refused f
+      → Handled (λ a. Done a (change.Refused f) t) t r (change.Refused f) t
+  hands-on {f} e =
+      subst (λ (q : AskedFile). Handled (λ a. Done a (change.Refused f) t) t q (change.Refused f) t) (sym e)
+      (refl, refl)
 
-  pub remove-refused : {f : Refusal} → r ≡ asked.Refused f → MarkRemoved t r (change.Refused f) t
-  remove-refused {f} e = subst (λ (q : AskedFile). MarkRemoved t q (change.Refused f) t) (sym e) (refl, refl)
-
-  module _ {a : Atom} {x : ChangeAnswer} {u : Table} (e : r ≡ asked.Passed a) where
-    pub add-passed : FactAdded t (a .0) x u → MarkAdded t r x u
-    add-passed F = subst (λ (q : AskedFile). MarkAdded t q x u) (sym e) F
-
-    pub remove-passed : FactRemoved t (a .0) x u → MarkRemoved t r x u
-    remove-passed F = subst (λ (q : AskedFile). MarkRemoved t q x u) (sym e) F
+  pub does :
+      {a : Atom} {x : ChangeAnswer} {u : Table} → r ≡ asked.Passed a → Done (a .0) x u
+      → Handled (λ b. Done b x u) t r x u
+  does {x = x} {u = u} e d = subst (λ (q : AskedFile). Handled (λ b. Done b x u) t q x u) (sym e) d
 
 -- What add answered of a mark's fact, by the case that it is.
 module _ (t : Table) (a : ℕ) {x : AddAnswer} {u : Table} (E : AddEnds t (fact a) x u) where
@@ -226,44 +228,35 @@ module _
         (h ∙ sym (removes
         ∙ ap (λ (k : ℕ). set (held t) k none) (fact-slot (all (held t)) (S .labels .single) a (s .0) (w .0)))) U
 
--- File sent, file skipped, skip withdrawn: 15 and 20 as they were asked, or the mark added or removed.
-module _ (t : Table) (i : ℕ) where
-  -- the table handed back with a refusal
-  refused-ends :
-      (c : FileCall) {f : Refusal} {x : ChangeAnswer} {u : Table} → (x ≡ change.Refused f) × (u ≡ t)
-      → FileEnds t c (change.Refused f) t → FileEnds t c x u
-  refused-ends c {x = x} (d, e) E =
+-- A call on a file: 15 and 20 as they were asked, or what is done to the mark of a file on the list.
+module _ (t : Table) (c : FileCall) (m : Mark) {x : ChangeAnswer} {u : Table} where
+  handed-back : {f : Refusal} → (x ≡ change.Refused f) × (u ≡ t) → FileEnds t c (change.Refused f) t → FileEnds t c x u
+  handed-back (d, e) E =
       subst (λ (z : Table). FileEnds t c x z) (sym e) (subst (λ (y : ChangeAnswer). FileEnds t c y t) (sym d) E)
 
-  pub sent-ends :
-      {r : AskedFile} {x : ChangeAnswer} {u : Table} → FileAsked t i Sent r → MarkAdded t r x u
-      → FileEnds t (file-sent i) x u
-  sent-ends (parts.unsound un) E = refused-ends (file-sent i) E (ends.unsound un)
-  sent-ends (parts.off-list n S e l) E =
-      refused-ends (file-sent i) E (ends.refused FileNotListed S (off-list (held t) (file-sent i) n e l))
-  sent-ends {x = x} {u = u} (parts.passed n a e l q) E =
-      let b = on-list-between n i l in
-      mark-added t (file-sent i) n (sent i) e l (sent-mark n i (b .0) (b .1)) refl refl
-      (subst (λ (k : ℕ). FactAdded t k x u) q E)
+  asked-ends :
+      (Done : ℕ → Type 0)
+      → ((n : ℕ) → files-of (held t) ≡ some n → on-list (some n) (file c) ≡ true → Done (mark-atom m (file c))
+      → FileEnds t c x u)
+      → {r : AskedFile} → FileAsked t (file c) m r → Handled Done t r x u → FileEnds t c x u
+  asked-ends Done f (parts.unsound un) h = handed-back h (ends.unsound un)
+  asked-ends Done f (parts.off-list n S e l) h =
+      handed-back h (ends.refused FileNotListed S (off-list (held t) c n e l))
+  asked-ends Done f (parts.passed n a e l q) d = f n e l (subst Done q d)
 
-  pub skipped-ends :
-      {r : AskedFile} {x : ChangeAnswer} {u : Table} → FileAsked t i Skipped r → MarkAdded t r x u
-      → FileEnds t (file-skipped i) x u
-  skipped-ends (parts.unsound un) E = refused-ends (file-skipped i) E (ends.unsound un)
-  skipped-ends (parts.off-list n S e l) E =
-      refused-ends (file-skipped i) E (ends.refused FileNotListed S (off-list (held t) (file-skipped i) n e l))
-  skipped-ends {x = x} {u = u} (parts.passed n a e l q) E =
+-- File sent, file skipped, skip withdrawn.
+module _ (t : Table) (i : ℕ) {r : AskedFile} {x : ChangeAnswer} {u : Table} where
+  pub sent-ends : FileAsked t i Sent r → MarkAdded t r x u → FileEnds t (file-sent i) x u
+  sent-ends = asked-ends t (file-sent i) Sent (λ a. FactAdded t a x u) (λ n e l d. (
       let b = on-list-between n i l in
-      mark-added t (file-skipped i) n (skipped i) e l (skipped-mark n i (b .0) (b .1)) refl refl
-      (subst (λ (k : ℕ). FactAdded t k x u) q E)
+      mark-added t (file-sent i) n (sent i) e l (sent-mark n i (b .0) (b .1)) refl refl d))
 
-  pub withdrawn-ends :
-      {r : AskedFile} {x : ChangeAnswer} {u : Table} → FileAsked t i Skipped r → MarkRemoved t r x u
-      → FileEnds t (skip-withdrawn i) x u
-  withdrawn-ends (parts.unsound un) E = refused-ends (skip-withdrawn i) E (ends.unsound un)
-  withdrawn-ends (parts.off-list n S e l) E =
-      refused-ends (skip-withdrawn i) E (ends.refused FileNotListed S (off-list (held t) (skip-withdrawn i) n e l))
-  withdrawn-ends {x = x} {u = u} (parts.passed n a e l q) E =
+  pub skipped-ends : FileAsked t i Skipped r → MarkAdded t r x u → FileEnds t (file-skipped i) x u
+  skipped-ends = asked-ends t (file-skipped i) Skipped (λ a. FactAdded t a x u) (λ n e l d. (
       let b = on-list-between n i l in
-      mark-removed t (skip-withdrawn i) n (skipped i) e l (skipped-mark n i (b .0) (b .1)) refl refl
-      (subst (λ (k : ℕ). FactRemoved t k x u) q E)
+      mark-added t (file-skipped i) n (skipped i) e l (skipped-mark n i (b .0) (b .1)) refl refl d))
+
+  pub withdrawn-ends : FileAsked t i Skipped r → MarkRemoved t r x u → FileEnds t (skip-withdrawn i) x u
+  withdrawn-ends = asked-ends t (skip-withdrawn i) Skipped (λ a. FactRemoved t a x u) (λ n e l d. (
+      let b = on-list-between n i l in
+      mark-removed t (skip-withdrawn i) n (skipped i) e l (skipped-mark n i (b .0) (b .1)) refl refl d))

@@ -52,11 +52,13 @@ pub data FactRemoved (t : Table) (a : ℕ) : ChangeAnswer → Table → Type 0 w
   absent : LabelEnds t a label.Absent → FactRemoved t a (change.Refused MarkUnchanged) t
   refused : {f : Refusal} → LabelEnds t a (label.Refused f) → FactRemoved t a (change.Refused f) t
 
--- The fact of the mark that passed was added, or removed; else the table was handed back with the refusal.
+-- What was done to the atom that passed; or else the table was handed back with the refusal.
+abbrev pub Handled : (ℕ → Type 0) → Table → AskedFile → ChangeAnswer → Table → Type 0
+Handled Done t (asked.Passed a) x u = Done (a .0)
+Handled Done t (asked.Refused f) x u = (x ≡ change.Refused f) × (u ≡ t)
+
 abbrev pub MarkAdded : Table → AskedFile → ChangeAnswer → Table → Type 0
-MarkAdded t (asked.Passed a) x u = FactAdded t (a .0) x u
-MarkAdded t (asked.Refused f) x u = (x ≡ change.Refused f) × (u ≡ t)
+MarkAdded t r x u = Handled (λ a. FactAdded t a x u) t r x u
 
 abbrev pub MarkRemoved : Table → AskedFile → ChangeAnswer → Table → Type 0
-MarkRemoved t (asked.Passed a) x u = FactRemoved t (a .0) x u
-MarkRemoved t (asked.Refused f) x u = (x ≡ change.Refused f) × (u ≡ t)
+MarkRemoved t r x u = Handled (λ a. FactRemoved t a x u) t r x u

@@ -1,6 +1,6 @@
 -- `checklist_marks::add_mark` adds the fact of the mark that passed. Assumes nothing.
-use Rattle.checklist_marks.specs.Parts.{MarkAdded}
-use Rattle.checklist_marks.proofs.Ends.{handed, add-refused, add-passed, mark-taken, mark-stands, mark-other}
+use Rattle.checklist_marks.specs.Parts.{FactAdded, MarkAdded}
+use Rattle.checklist_marks.proofs.Ends.{handed, hands-on, does, mark-taken, mark-stands, mark-other}
 use borrow.Author.Needs.{needs}
 use Rattle.checklist_marks.proofs.add_mark.Statement.{statement}
 use Rattle.checklist_marks.proofs.add_mark.Tie as tie
@@ -50,7 +50,7 @@ returns c =
     let add = answer .before .before .before in
     let passed = passed-of add in
     let a = passed .before .before .args in
-    let done = add-passed (a .table) (passed .asked2 .given .1) (mark-stands (a .table) _ (add .add .ensures)
+    let done = does (FactAdded (a .table)) (a .table) (passed .asked2 .given .1) (mark-stands (a .table) _ (add .add .ensures)
     (answer .answer2 .given .1) _ (number .refusal-number .ensures) (five .if1 .taken)) in
     handed (MarkAdded (a .table) (a .asked)) _ (c .refuse2 .ensures) done
 
@@ -62,7 +62,7 @@ returns-2 c =
     let told = c .before .before in
     let a = told .before .before .args in
     handed (MarkAdded (a .table) (a .asked)) _ (c .refuse .ensures)
-    (add-refused (a .table) (told .asked .given .1))
+    (hands-on (FactAdded (a .table)) (a .table) (told .asked .given .1))
 
 returns-3 : tie.Need-returns-3
 returns-3 c =
@@ -70,7 +70,7 @@ returns-3 c =
     let add = answer .before .before .before in
     let passed = passed-of add in
     let a = passed .before .before .args in
-    add-passed (a .table) (passed .asked2 .given .1)
+    does (FactAdded (a .table)) (a .table) (passed .asked2 .given .1)
     (mark-taken (a .table) _ (add .add .ensures) (answer .answer .given .1))
 
 returns-4 : tie.Need-returns-4
@@ -81,7 +81,7 @@ returns-4 c =
     let add = answer .before .before .before in
     let passed = passed-of add in
     let a = passed .before .before .args in
-    let done = add-passed (a .table) (passed .asked2 .given .1) (mark-other (a .table) _ (add .add .ensures)
+    let done = does (FactAdded (a .table)) (a .table) (passed .asked2 .given .1) (mark-other (a .table) _ (add .add .ensures)
     (answer .answer2 .given .1) _ (number .refusal-number .ensures) (other .if1 .left)) in
     handed (MarkAdded (a .table) (a .asked)) _ (c .refuse3 .ensures) done
 

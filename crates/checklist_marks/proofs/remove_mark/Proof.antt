@@ -1,6 +1,6 @@
 -- `checklist_marks::remove_mark` removes the fact of the mark that passed. Assumes nothing.
-use Rattle.checklist_marks.specs.Parts.{MarkRemoved}
-use Rattle.checklist_marks.proofs.Ends.{handed, remove-refused, remove-passed}
+use Rattle.checklist_marks.specs.Parts.{FactRemoved, MarkRemoved}
+use Rattle.checklist_marks.proofs.Ends.{handed, hands-on, does}
 use Rattle.checklist_marks.proofs.Ends.{mark-freed, mark-out, mark-absent, mark-unsound}
 use borrow.Author.Needs.{needs}
 use Rattle.checklist_marks.proofs.remove_mark.Statement.{statement}
@@ -54,7 +54,7 @@ returns c =
     let told = c .before .before in
     let a = told .before .before .args in
     handed (MarkRemoved (a .table) (a .asked)) _ (c .refuse .ensures)
-    (remove-refused (a .table) (told .asked .given .1))
+    (hands-on (FactRemoved (a .table)) (a .table) (told .asked .given .1))
 
 returns-2 : tie.Need-returns-2
 returns-2 c =
@@ -62,7 +62,7 @@ returns-2 c =
     let l = told .before .before in
     let passed = passed-of l in
     let a = passed .before .before .args in
-    remove-passed (a .table) (passed .asked2 .given .1)
+    does (FactRemoved (a .table)) (a .table) (passed .asked2 .given .1)
     (mark-freed (a .table) _ (l .label .ensures) (told .told .given .1) (c .remove .ensures))
 
 returns-3 : tie.Need-returns-3
@@ -71,7 +71,7 @@ returns-3 c =
     let l = unsound .before .before in
     let passed = passed-of l in
     let a = passed .before .before .args in
-    let done = remove-passed (a .table) (passed .asked2 .given .1)
+    let done = does (FactRemoved (a .table)) (a .table) (passed .asked2 .given .1)
     (mark-unsound (a .table) _ (l .label .ensures) (unsound .told2 .given .1)) in
     handed (MarkRemoved (a .table) (a .asked)) _ (c .refuse2 .ensures) done
 
@@ -81,7 +81,7 @@ returns-4 c =
     let l = absent .before .before in
     let passed = passed-of l in
     let a = passed .before .before .args in
-    let done = remove-passed (a .table) (passed .asked2 .given .1)
+    let done = does (FactRemoved (a .table)) (a .table) (passed .asked2 .given .1)
     (mark-absent (a .table) _ (l .label .ensures) (absent .enum-told .given .1)) in
     handed (MarkRemoved (a .table) (a .asked)) _ (c .refuse3 .ensures) done
 
@@ -91,7 +91,7 @@ returns-5 c =
     let l = out .before .before in
     let passed = passed-of l in
     let a = passed .before .before .args in
-    let done = remove-passed (a .table) (passed .asked2 .given .1)
+    let done = does (FactRemoved (a .table)) (a .table) (passed .asked2 .given .1)
     (mark-out (a .table) _ (l .label .ensures) (out .enum-told2 .given .1)) in
     handed (MarkRemoved (a .table) (a .asked)) _ (c .refuse4 .ensures) done
 

@@ -1,5 +1,5 @@
 -- `history_replay::step` meets its contract. Assumes nothing.
-use Prim.Native.Nat.{_≤_}
+use Prim.Native.Nat.{ℕ, _≤_}
 use mathlib.Core.Path.{refl}
 use lib.ListN.{length}
 use borrow.Author.Needs.{needs}
@@ -28,9 +28,16 @@ step-changed-requires c κs = tt
 enum-known-next-2 : tie.Need-enum-known-next-2
 enum-known-next-2 c = search needs
 
+-- how long the words and the files are that the call was read from
+abbrev words-at : tie.After-next-call → ℕ
+words-at c = length (c .before .before .before .args .words .now)
+
+abbrev bytes-at : tie.After-next-call → ℕ
+bytes-at c = length (c .before .before .before .args .files .now)
+
 -- what the reader tells of an addition's parts
 order : (c : tie.After-known-told2)
-    → Parts (length (c .before .before .before .before .before .before .args .words .now))
+    → Parts (words-at (c .before .before .before))
     (c .before .next2 .given .0 .1 .0) (c .before .next2 .given .0 .1 .1 .0) (c .before .next2 .given .0 .1 .1 .1 .0)
 order c = order-of _ _ _ _ (c .before .next2 .given .1) (c .before .before .before .next-call .ensures .order)
 
@@ -70,7 +77,7 @@ enum-known-next-3 c = search needs
 -- and of a load's file
 file-order : (c : tie.After-known-told3)
     → (c .before .next3 .given .0 .0 ≤ c .before .next3 .given .0 .1 .0) ×
-    (c .before .next3 .given .0 .1 .0 ≤ length (c .before .before .before .before .before .before .args .files .now))
+    (c .before .next3 .given .0 .1 .0 ≤ bytes-at (c .before .before .before))
 file-order c =
     order-of _ _ _ _ (c .before .next3 .given .1) (c .before .before .before .next-call .ensures .order)
 
@@ -103,7 +110,7 @@ enum-known-next-5 c = search needs
 
 -- and of the parts of a replacement's rule
 new-order : (c : tie.After-known-told5)
-    → Parts (length (c .before .before .before .before .before .before .args .words .now))
+    → Parts (words-at (c .before .before .before))
     (c .before .next5 .given .0 .1 .1 .0) (c .before .next5 .given .0 .1 .1 .1 .0)
     (c .before .next5 .given .0 .1 .1 .1 .1 .0)
 new-order c =
