@@ -21,8 +21,8 @@ writes-none shown lost e =
       count = omega (arith, e);
       few = omega (arith, e);
       shows = λ before s. subst (λ (xs : List ℕ). Shown xs shown lost)
-      (sym (ap (λ (xs : List ℕ). before ++ xs) (take-nil (0 - lost)) ∙ append-nil before))
-      (subst (Shown before shown) (sym e) s);
+          (sym (ap (λ (xs : List ℕ). before ++ xs) (take-nil (0 - lost)) ∙ append-nil before))
+          (subst (Shown before shown) (sym e) s);
     }
 
 -- All were written.
@@ -35,7 +35,7 @@ writes-all bytes shown lost e =
       count = omega (arith, e);
       few = omega (arith, e);
       shows = λ before s. subst (λ (xs : List ℕ). Shown (before ++ xs) (shown + length bytes) lost) (sym all)
-      (subst (Shown (before ++ bytes) (shown + length bytes)) (sym e) (shown-more bytes s));
+          (subst (Shown (before ++ bytes) (shown + length bytes)) (sym e) (shown-more bytes s));
     }
 
 -- The write failed.
@@ -47,7 +47,7 @@ writes-failed bytes shown lost e =
       count = omega (arith, e);
       few = omega (arith, e);
       shows = λ before s. subst (λ (xs : List ℕ). Shown xs shown lost)
-      (sym (ap (λ (xs : List ℕ). before ++ xs) nothing ∙ append-nil before)) (shown-failed lost s);
+          (sym (ap (λ (xs : List ℕ). before ++ xs) nothing ∙ append-nil before)) (shown-failed lost s);
     }
 
 -- Bytes behind bytes, of which none were lost.
@@ -67,11 +67,11 @@ writes-then {xs} {ys} {s} {t} {u} {lost₀} {lost} w e v =
       count = omega (arith, e, w .count, v .count, long);
       few = omega (arith, v .few, long);
       shows = λ before h.
-      let one : Shown (before ++ xs) t 0 =
-      subst (λ (zs : List ℕ). Shown (before ++ zs) t 0) first (subst (Shown (before ++ take (length xs - lost₀) xs) t) e (w .shows before h)) in
-      subst (λ (zs : List ℕ). Shown zs u lost)
-      (append-assoc before xs (take (length ys - lost) ys) ∙ ap (λ (zs : List ℕ). before ++ zs) both)
-      (v .shows (before ++ xs) one);
+          let one : Shown (before ++ xs) t 0 =
+          subst (λ (zs : List ℕ). Shown (before ++ zs) t 0) first (subst (Shown (before ++ take (length xs - lost₀) xs) t) e (w .shows before h)) in
+          subst (λ (zs : List ℕ). Shown zs u lost)
+          (append-assoc before xs (take (length ys - lost) ys) ∙ ap (λ (zs : List ℕ). before ++ zs) both)
+          (v .shows (before ++ xs) one);
     }
 
 -- What is shown of two lists, one behind the other.

@@ -56,14 +56,7 @@ fn take_piece(
     ensures { λ r. ⌜ Takes task sheet (take (end - from) (drop from (now (input .entry)))) (now (shown .entry)) (now (shown .exit)) (now (lost .exit)) r ⌝ }
 {
     match task {
-        Task::Answer(showing) => answer(
-            sheet,
-            &input[from..end],
-            showing,
-            out,
-            shown,
-            lost,
-        ),
+        Task::Answer(showing) => answer(sheet, &input[from..end], showing, out, shown, lost),
         Task::Keep => sheet,
     }
 }
