@@ -1,0 +1,38 @@
+// What is printed of a file: the labels of its table as `L` prints them, or `refused` and the number.
+use calls::ChangeAnswer;
+use calls::ListAnswer;
+use file_calls::load;
+use refusals::Refusal;
+use refusals::refusal_number;
+use sheet_label_lines::write_labels;
+use sheet_printing::write_named;
+use table::Table;
+ghost use Rattle.file_lines.specs.Loads.{LoadWrites};
+
+// The room that the lines of every atom need: 32 bytes for each.
+pub const LINES: usize = 32 * Table::ATOMS;
+
+// Writes what is printed of any bytes from the start of the buffer: the labels of the table that they record, or `refused`
+// and the number of the first question answered no. Answers how many bytes that are. A buffer without room for the lines
+// of every atom is refused by 11, and nothing is written.
+pub fn load_lines(bytes: &[u8], out: &mut [u8]) -> ListAnswer
+    ensures { λ r. ⌜ LoadWrites (now (bytes .entry)) (now (out .entry)) r (now (out .exit)) ⌝ }
+{
+    if out.len() < LINES {
+        return ListAnswer::Refused(Refusal::BufferTooShort(LINES));
+    }
+    let loading = load(bytes);
+    let answer = loading.answer;
+    let table = loading.table;
+    let labels = table.labels;
+    match answer {
+        ChangeAnswer::Accepted => {
+            let n = write_labels(out, 0, labels);
+            ListAnswer::Count(n)
+        }
+        ChangeAnswer::Refused(f) => {
+            let n = write_named(out, 0, b"refused", refusal_number(f));
+            ListAnswer::Count(n)
+        }
+    }
+}
