@@ -1,15 +1,15 @@
 // The lines of standard input answered with one table, empty at the start; each reply is shown on standard output, or
 // none is.
-use feed::feed;
-use feed::reply_at;
 use libc::STDERR_FILENO;
 use libc::STDIN_FILENO;
 use libc::STDOUT_FILENO;
-use passing::Sheet;
-use replies::Reply;
+use sheet_feed::Reply;
+use sheet_feed::Sheet;
+use sheet_feed::feed;
+use sheet_feed::reply_at;
 ghost use Prim.Native.Nat.{_≤_};
 ghost use lib.ListN.{length, take};
-ghost use Rattle.judging.specs.Judging.{ROOM};
+ghost use Rattle.sheet_label_lines.specs.LabelLines.{LABELS_ROOM};
 ghost use Rattle.stream.specs.Answered.{AnswersPiece, AnswersLines, AnswersFrom, AnswersLast};
 
 // The most bytes of input that are read (`MOST` in crates/sheet_meaning/specs/Sheets.antt): what follows is as if the input
@@ -61,7 +61,7 @@ pub fn read_some(input: &mut [u8], left: usize) -> usize
 
 // Answers the lines of a piece: all of its bytes are fed, in order, unless what is shown can't be written.
 fn answer(sheet: Sheet, input: &[u8], out: &mut [u8], shown: bool) -> Answered
-    requires { ⌜ ROOM ≤ length (now out) ⌝ }
+    requires { ⌜ LABELS_ROOM ≤ length (now out) ⌝ }
     ensures { λ r. ⌜ AnswersPiece sheet (now (input .entry)) r ⌝ }
 {
     let mut s = sheet;
@@ -85,7 +85,7 @@ fn answer(sheet: Sheet, input: &[u8], out: &mut [u8], shown: bool) -> Answered
 // input. A read that fails ends the input as its end does. The contract ties the bytes in the buffer to the sheet
 // handed in; that they are all that was read it can't say, since no contract speaks of files.
 fn answer_read(sheet: Sheet, input: &mut [u8], left: usize, out: &mut [u8], shown: bool) -> Answered
-    requires { ⌜ ROOM ≤ length (now out) ⌝ }
+    requires { ⌜ LABELS_ROOM ≤ length (now out) ⌝ }
     ensures { λ r. ⌜ (r .read ≤ left) × AnswersPiece sheet (take (r .read) (now (input .exit))) r ⌝ }
 {
     let n = read_some(input, left);
@@ -96,7 +96,7 @@ fn answer_read(sheet: Sheet, input: &mut [u8], left: usize, out: &mut [u8], show
 // sheet handed back is the one handed in after just so many: so none starts anew and none is forgotten. It does not
 // shut out a loop that ends before the input does, or one that drops a turn and the count of its bytes with it.
 fn answer_lines(sheet: Sheet, out: &mut [u8], shown: bool) -> Answered
-    requires { ⌜ ROOM ≤ length (now out) ⌝ }
+    requires { ⌜ LABELS_ROOM ≤ length (now out) ⌝ }
     ensures { λ r. ⌜ AnswersLines sheet r ⌝ }
 {
     let mut input = io::large_buffer();
