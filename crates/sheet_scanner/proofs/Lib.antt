@@ -1,4 +1,4 @@
 -- The laws that the functions' proofs cite.
-pub mod Keeping
+pub mod Judging
 pub mod Reading
-pub mod Feeding
+pub mod Scanning

@@ -13,7 +13,7 @@ use Rattle.places.specs.Places.{leading}
 use Rattle.sheet_meaning.specs.Lines.{Prints}
 use Rattle.fields.specs.Texts.{NEWLINE}
 use Rattle.sheet_meaning.specs.Sheets.{State, longer, ended, Reads, stop, byte, newline}
-use Rattle.passing.specs.Sheets.{lineEnd}
+use Rattle.sheet_scanner.specs.Scans.{lineEnd}
 
 -- Bytes of the line at hand, and then others.
 module _ {v : State} {rest out : List ℕ} where
@@ -37,7 +37,7 @@ module _ {v : State} {rest out : List ℕ} where
 pub reads-part : (s : State) (k : ℕ) (bs : List ℕ) → k ≤ lineEnd bs → Reads s (take k bs) [] (longer s (take k bs))
 reads-part s k bs l = rw append-nil at (reads-into s k bs l stop)
 
-at-end : (bs : List ℕ) → lineEnd bs < length bs → getD bs (lineEnd bs) 0 ≡ NEWLINE
+pub at-end : (bs : List ℕ) → lineEnd bs < length bs → getD bs (lineEnd bs) 0 ≡ NEWLINE
 unfolding leading
 at-end [] l = absurd (omega arith)
 at-end (b ∷ bs) l = go (eqb b NEWLINE) refl (at-end bs)

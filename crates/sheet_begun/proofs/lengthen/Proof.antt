@@ -14,19 +14,19 @@ use Rattle.sheet_begun.proofs.lengthen.Statement.{statement}
 use Rattle.sheet_begun.proofs.lengthen.Tie as tie
 
 abbrev Inv-loop : tie.InvT-loop
-Inv-loop bytes line₀ end₀ i₀ line end i =
+Inv-loop begun bytes line₀ end₀ i₀ line end i =
     (i ≤ length bytes) × (end ≡ end₀ + i) × (end ≤ ENOUGH) × (length line ≡ ENOUGH)
     × (take end line ≡ take end₀ line₀ ++ take i bytes)
 
 abbrev μ-loop : tie.MeasureT-loop
-μ-loop bytes line₀ end₀ i₀ line end i = length bytes - i
+μ-loop begun bytes line₀ end₀ i₀ line end i = length bytes - i
 
 within-requires : tie.Need-within-requires Inv-loop μ-loop
 within-requires c κs = tt
 
 loop-holds : tie.Need-loop-holds Inv-loop μ-loop
 loop-holds c =
-    let s = c .before .before .before .before in
+    let s = c .before .before .before in
     let long = begun-sized (s .args .begun) _ (s .good .0) in
     (omega arith, omega arith, omega (arith, c .within .ensures), long, sym (append-nil _))
 
@@ -49,7 +49,7 @@ loop-again : tie.Need-loop-again Inv-loop μ-loop
 loop-again c =
     let at = c .before .before .before in
     let l = at .loop in
-    let a = c .before .before .before .before .before .before .before .before .args in
+    let a = c .before .before .before .before .before .before .before .args in
     let held = take (at .before .within .result) (a .begun .bytes) in
     let room = ltb-true (l .end) ENOUGH (c .before .if1 .taken) in (
       omega arith,
@@ -62,7 +62,7 @@ loop-again c =
 returns : tie.Need-returns Inv-loop μ-loop
 returns c =
     let l = c .before .before .loop in
-    let s = c .before .before .before .before .before .before .before in
+    let s = c .before .before .before .before .before .before in
     let w = c .before .before .before .within in
     let full = ltb-false (l .end) ENOUGH (c .if1 .left) in
     let long = begun-sized (s .args .begun) _ (s .good .0) in
@@ -72,7 +72,7 @@ returns c =
 returns-2 : tie.Need-returns-2 Inv-loop μ-loop
 returns-2 c =
     let l = c .before .loop in
-    let s = c .before .before .before .before .before .before in
+    let s = c .before .before .before .before .before in
     let w = c .before .before .within in
     let long = begun-sized (s .args .begun) _ (s .good .0) in
     longer-held (s .args .begun) _ (l .i) long (w .ensures) refl (l .inv .1) (l .inv .4)

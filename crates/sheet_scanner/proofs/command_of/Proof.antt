@@ -1,9 +1,9 @@
--- `judging::command_of` meets its contract. Assumes nothing.
+-- `sheet_scanner::command_of` meets its contract. Assumes nothing.
 use native.Mathlib.Omega.{arith}
-use Rattle.judging.proofs.Judging.{unread, commanded}
+use Rattle.sheet_scanner.proofs.Judging.{unread, commanded}
 use borrow.Author.Needs.{needs}
-use Rattle.judging.proofs.command_of.Statement.{statement}
-use Rattle.judging.proofs.command_of.Tie as tie
+use Rattle.sheet_scanner.proofs.command_of.Statement.{statement}
+use Rattle.sheet_scanner.proofs.command_of.Tie as tie
 
 enum-known-reading : tie.Need-enum-known-reading
 enum-known-reading c = search needs

@@ -1,12 +1,12 @@
--- `judging::judge` meets its contract. Assumes nothing.
+-- `sheet_scanner::judge` meets its contract. Assumes nothing.
 use native.Mathlib.Omega.{arith}
 use mathlib.Core.Path.{_∙_}
 use Rattle.fields.proofs.Wrote.{wrote-nothing}
 use Rattle.sheet_meaning.specs.Lines as prints
-use Rattle.judging.proofs.Judging.{neither, told}
+use Rattle.sheet_scanner.proofs.Judging.{neither, told}
 use borrow.Author.Needs.{needs}
-use Rattle.judging.proofs.judge.Statement.{statement}
-use Rattle.judging.proofs.judge.Tie as tie
+use Rattle.sheet_scanner.proofs.judge.Statement.{statement}
+use Rattle.sheet_scanner.proofs.judge.Tie as tie
 
 enum-told : tie.Need-enum-told
 enum-told c = search needs

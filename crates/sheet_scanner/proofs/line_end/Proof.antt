@@ -1,4 +1,4 @@
--- `passing::line_end` meets its contract. The loop's invariant: the offset where it will end is the one that is
+-- `sheet_scanner::line_end` meets its contract. The loop's invariant: the offset where it will end is the one that is
 -- asked for. Assumes nothing.
 use Prim.Native.Nat.{_+_, _-_}
 use native.Mathlib.Omega.{arith}
@@ -8,9 +8,9 @@ use lib.ListN.{length, drop}
 use borrow.Author.Needs.{needs}
 use borrow.Author.Tests.{eq-eqb, ne-eqb}
 use Rattle.places.proofs.Leading.{seek-next, seek-stop, seek-end}
-use Rattle.passing.specs.Sheets.{ofLine, lineEnd}
-use Rattle.passing.proofs.line_end.Statement.{statement}
-use Rattle.passing.proofs.line_end.Tie as tie
+use Rattle.sheet_scanner.specs.Scans.{ofLine, lineEnd}
+use Rattle.sheet_scanner.proofs.line_end.Statement.{statement}
+use Rattle.sheet_scanner.proofs.line_end.Tie as tie
 
 abbrev Inv-loop : tie.InvT-loop
 Inv-loop input from i₀ i = i + lineEnd (drop i input) ≡ from + lineEnd (drop from input)
