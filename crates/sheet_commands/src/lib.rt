@@ -36,9 +36,10 @@ fn add_rule(table: Table, head: u32, parsed: Parsed, out: &mut [u8], at: usize) 
 {
     let place = parsed.place;
     let entries = parsed.entries;
+    let both = &entries[..];
     let middle = parsed.positives;
     let end = middle + parsed.negatives;
-    let done = add(table, head, &entries[..middle], &entries[middle..end]);
+    let done = add(table, head, &both[..middle], &both[middle..end]);
     let answer = done.answer;
     let after = done.table;
     let next = tell_add(answer, place.line, out, at);
@@ -72,9 +73,10 @@ fn replace_rule(table: Table, slot: u32, head: u32, parsed: Parsed, out: &mut [u
 {
     let place = parsed.place;
     let entries = parsed.entries;
+    let both = &entries[..];
     let middle = parsed.positives;
     let end = middle + parsed.negatives;
-    let done = replace(table, slot, head, &entries[..middle], &entries[middle..end]);
+    let done = replace(table, slot, head, &both[..middle], &both[middle..end]);
     let answer = done.answer;
     let after = done.table;
     let next = tell_change(answer, place.line, b"replaced", slot, out, at);

@@ -5,15 +5,14 @@ use mathlib.Core.Path.{_≡_, refl, sym, ap}
 use mathlib.Core.List.{List, _++_, append-assoc}
 use lib.ListN.{length, take, length-append}
 use lib.Seq.{length-take-le}
-use Rattle.replies.specs.declared.Reply.{Reply}
-use Rattle.judging.specs.Judging.{ROOM}
+use Rattle.sheet_feed.specs.declared.Reply.{Reply}
+use Rattle.sheet_label_lines.specs.LabelLines.{LABELS_ROOM}
 use Rattle.fields.proofs.Wrote.{wrote-start}
 use Rattle.sheet_meaning.proofs.Unique.{sheet-prints-unique}
 use Rattle.sheet_meaning.proofs.Reading.{reads-then, lines-at-most}
-use Rattle.passing.specs.declared.Sheet.{Sheet}
+use Rattle.sheet_feed.specs.declared.Sheet.{Sheet}
 use Rattle.sheet_meaning.specs.Sheets.{State, start, Reads, stop, SheetPrints, MOST}
-use Rattle.passing.specs.Sheets.{StandsFor}
-use Rattle.feed.specs.Sheets.{RepliesAt, Pieces, none, piece}
+use Rattle.sheet_feed.specs.Sheets.{StandsFor, RepliesAt, Pieces, none, piece}
 
 -- The state after all pieces.
 record After (s : State) (input out : List ℕ) (d : Sheet) : Type 0 where
@@ -42,7 +41,7 @@ pieces-read s f (piece {input = input} {bytes = bytes} {r = r} feeds rest) small
 -- table is the one after the sheet. No line number passes 32 bits: a sheet that a program reads is too short for that.
 pub pieces-end :
     {c d : Sheet} {input out before after : List ℕ} {last : Reply} → StandsFor start c → Pieces c input out d
-    → length input ≤ MOST → ROOM ≤ length before → RepliesAt d before 0 after last
+    → length input ≤ MOST → LABELS_ROOM ≤ length before → RepliesAt d before 0 after last
     → (p : SheetPrints input (out ++ take (last .next) after)) × (p .after ≡ last .table)
 pieces-end {out = out} {last = last} f pieces few room replies =
     let end = pieces-read start f pieces (omega arith) in
@@ -61,7 +60,7 @@ pieces-end {out = out} {last = last} f pieces few room replies =
 
 pub pieces-print :
     {c d : Sheet} {input out before after : List ℕ} {last : Reply} → StandsFor start c → Pieces c input out d
-    → length input ≤ MOST → ROOM ≤ length before → RepliesAt d before 0 after last
+    → length input ≤ MOST → LABELS_ROOM ≤ length before → RepliesAt d before 0 after last
     → SheetPrints input (out ++ take (last .next) after)
 pieces-print f pieces few room replies = pieces-end f pieces few room replies .0
 
@@ -75,7 +74,7 @@ pieces-then (piece feeds p) q = rw (append-assoc, append-assoc) (piece feeds (pi
 -- However a sheet is cut into pieces, it prints the same.
 pub pieces-same :
     {c d c′ d′ : Sheet} {input out out′ before before′ after after′ : List ℕ} {last last′ : Reply} → length input ≤ MOST
-    → StandsFor start c → Pieces c input out d → ROOM ≤ length before → RepliesAt d before 0 after last
-    → StandsFor start c′ → Pieces c′ input out′ d′ → ROOM ≤ length before′ → RepliesAt d′ before′ 0 after′ last′
+    → StandsFor start c → Pieces c input out d → LABELS_ROOM ≤ length before → RepliesAt d before 0 after last
+    → StandsFor start c′ → Pieces c′ input out′ d′ → LABELS_ROOM ≤ length before′ → RepliesAt d′ before′ 0 after′ last′
     → out ++ take (last .next) after ≡ out′ ++ take (last′ .next) after′
 pieces-same few f p m r g q n t = sheet-prints-unique (pieces-print f p few m r) (pieces-print g q few n t)

@@ -18,7 +18,7 @@ ghost use lib.ListN.{length};
 ghost use Rattle.calls.specs.declared.ChangeAnswer.the-variants.{Accepted};
 ghost use Rattle.sheet_label_lines.specs.LabelLines.{LABELS_ROOM};
 ghost use Rattle.sheet_meaning.specs.Sheets.{start};
-ghost use Rattle.sheet_feed.specs.Sheets.{answerIn, StandsFor, Feeds, RepliesAt};
+ghost use Rattle.sheet_feed.specs.Sheets.{answerIn, StandsFor, Feeds, FeedsAll, RepliesAt};
 
 // A sheet as far as it was read: the table after its whole lines, and the line at hand.
 pub struct Sheet {
@@ -55,10 +55,10 @@ pub struct Reply {
 }
 
 // Question 11 of a buffer with so many bytes left: is there room for every reply? The refusal says how many are needed.
-fn ask_room(length: usize, at: usize) -> ChangeAnswer
-    ensures { λ r. ⌜ r ≡ answerIn (length - at) ⌝ }
+fn ask_room(left: usize) -> ChangeAnswer
+    ensures { λ r. ⌜ r ≡ answerIn left ⌝ }
 {
-    if !has_room(length, at) {
+    if left < LABELS_ROOM {
         return ChangeAnswer::Refused(Refusal::BufferTooShort(LABELS_ROOM));
     }
     ChangeAnswer::Accepted
@@ -149,16 +149,13 @@ fn feed_command(sheet: Sheet, input: &[u8], from: usize, out: &mut [u8], at: usi
 // on once for each command. A buffer without room for every reply is refused by 11, and nothing is read.
 pub fn feed(sheet: Sheet, input: &[u8], out: &mut [u8]) -> Fed
     ensures { λ r. ⌜ Feeds sheet (now (input .entry)) 0 (now (out .entry)) 0 r (now (out .exit)) ⌝ }
-    ensures { λ r. ⌜ (r .read < length (now (input .entry))
-        → length (now (out .entry)) < r .printed + LABELS_ROOM) ⌝ }
-    ensures { λ r. ⌜ (0 < length (now (input .entry)) → LABELS_ROOM ≤ length (now (out .entry)) → 0 < r .read)
-        × (r .answer ≡ answerIn (length (now (out .entry)))) ⌝ }
+    ensures { λ r. ⌜ FeedsAll (now (input .entry)) (now (out .entry)) r ⌝ }
 {
     let mut fed = Fed {
         sheet: sheet,
         read: 0,
         printed: 0,
-        answer: ask_room(out.len(), 0),
+        answer: ask_room(out.len()),
     };
     while fed.read < input.len() && has_room(out.len(), fed.printed) {
         let s = fed.sheet;

@@ -58,7 +58,7 @@ pub numbers-fit :
 numbers-fit input from middle end l m reads small =
     omega (arith, length-take (middle - from) (drop from input), lines-at-most reads, small, l, m)
 
-on-line :
+pub on-line :
     {t u : Table} {m n : ℕ} {line out : List ℕ} → m ≡ n → Prints t m line out u → Prints t n line out u
 on-line {t} {u} {line = line} {out} e d = subst (λ (i : ℕ). Prints t i line out u) e d
 
@@ -108,9 +108,8 @@ module _ {k : Begun} {input : List ℕ} {from end : ℕ} {before : List ℕ} {at
       let here : getD input end 0 ≡ NEWLINE =
       ap (λ (i : ℕ). getD input i 0) at-line-end ∙ sym (getD-drop from input (lineEnd (drop from input)) 0)
       ∙ at-end (drop from input) (omega (arith, length-drop from input)) in
-      let same =
-      judged-command _ before at after j (reads .answers _ some f) judges e .1 in
-      rw same
+      let any = judged-command _ before at after j (reads .answers _ some f) judges e in
+      rw (any .1)
       (scans-into (found.Command c) longer-line
       (λ s g. judged-command _ before at after j (reads .answers _ (s .line) g) judges e .0)
       (record {
@@ -120,6 +119,8 @@ module _ {k : Begun} {input : List ℕ} {from end : ℕ} {before : List ℕ} {at
         number = reads .number ∙ sym (longer-line _ some f .number);
         within = reads .within;
         over = refl;
+        line = some ++ take (end - from) (drop from input);
+        command = any .0;
       }))
 
   -- A line that was answered without the table.
@@ -170,6 +171,8 @@ where-found-then input middle before r (found.Command c) e w =
       number = w .number;
       within = w .within;
       over = w .over;
+      line = w .line;
+      command = w .command;
     }
 
 pub scans-then :

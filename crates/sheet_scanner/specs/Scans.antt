@@ -8,6 +8,7 @@ use lib.ListN.{length, take, drop, getD}
 use Rattle.fields.specs.Texts.{NEWLINE}
 use Rattle.fields.specs.Written.{Wrote}
 use Rattle.places.specs.Places.{leading}
+use Rattle.sheet_lines.specs.declared.Command.{Command}
 use Rattle.sheet_lines.specs.declared.Parsed.{Parsed}
 use Rattle.sheet_lines.specs.Readings.{TOKENS, is, reading, commandOf, positivesIn, negativesIn}
 use Rattle.sheet_label_lines.specs.LabelLines.{LABELS_ROOM}
@@ -43,19 +44,21 @@ pub record ScansFrom (s : State) (input : List ℕ) (from : ℕ) (before : List 
   pub reads : Reads s (take (r .read - from) (drop from input)) printed state
   pub wrote : Wrote printed before at after (r .printed)
 
--- Where a command was found: its newline comes next, there is room for its reply, and its line was read as one of that
--- number.
-pub record AtCommand (input before : List ℕ) (r : Scanned) : Type 0 where
+-- Where a command was found: its newline comes next, there is room for its reply, and it was read, in the line at hand,
+-- as what some line is.
+pub record AtCommand (c : Command) (input before : List ℕ) (r : Scanned) : Type 0 where
   pub inside : r .read < length input
   pub newline : getD input (r .read) 0 ≡ NEWLINE
   pub room : r .printed + LABELS_ROOM ≤ length before
   pub number : r .parsed .place .line ≡ r .begun .number
   pub within : r .parsed .positives + r .parsed .negatives ≤ TOKENS
   pub over : r .more ≡ false
+  pub line : List ℕ
+  pub command : reading line ≡ is (commandOf c (positivesIn (r .parsed)) (negativesIn (r .parsed)))
 
 abbrev pub WhereFound : Found → List ℕ → List ℕ → Scanned → Type 0
 WhereFound found.Nothing input before r = Unit {0}
-WhereFound (found.Command c) input before r = AtCommand input before r
+WhereFound (found.Command c) input before r = AtCommand c input before r
 
 -- The same from every state whose line this is at hand, as long as line numbers fit 32 bits: no line is without a byte,
 -- so none passes the number at hand and the bytes read.

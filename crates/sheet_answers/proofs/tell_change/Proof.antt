@@ -1,12 +1,12 @@
--- `replies::tell_change` meets its contract. Assumes nothing.
+-- `sheet_answers::tell_change` meets its contract. Assumes nothing.
 use native.Mathlib.Omega.{arith}
 use mathlib.Core.Path.{sym, _∙_, ap}
 use Rattle.sheet_printing.specs.Printed.{refusalLine}
 use Rattle.sheet_meaning.specs.Lines.{tellChange}
-use Rattle.replies.proofs.Saying.{wrote-same}
+use Rattle.sheet_answers.proofs.Told.{wrote-same}
 use borrow.Author.Needs.{needs}
-use Rattle.replies.proofs.tell_change.Statement.{statement}
-use Rattle.replies.proofs.tell_change.Tie as tie
+use Rattle.sheet_answers.proofs.tell_change.Statement.{statement}
+use Rattle.sheet_answers.proofs.tell_change.Tie as tie
 
 enum-told : tie.Need-enum-told
 enum-told c = search needs

@@ -1,14 +1,12 @@
--- `replies::removed` meets its contract. Assumes nothing.
-use mathlib.Core.Path.{refl}
+-- `sheet_commands::remove_slot` meets its contract. Assumes nothing.
 use Rattle.fields.specs.Texts.{bytes}
 use Rattle.sheet_meaning.specs.Lines as prints
-use Rattle.replies.proofs.Saying.{replied}
 use borrow.Author.Needs.{needs}
-use Rattle.replies.proofs.removed.Statement.{statement}
-use Rattle.replies.proofs.removed.Tie as tie
+use Rattle.sheet_commands.proofs.remove_slot.Statement.{statement}
+use Rattle.sheet_commands.proofs.remove_slot.Tie as tie
 
 remove-requires : tie.Need-remove-requires
-remove-requires c κs = tt
+remove-requires c κs = search needs
 
 slice-aggregate-tell-change : tie.Need-slice-aggregate-tell-change
 slice-aggregate-tell-change c = search needs
@@ -22,12 +20,15 @@ same-length c = search needs
 returns : tie.Need-returns
 unfolding bytes
 returns c =
-    let told = c .before .before in
-    let done = told .before .before .before .before in
-    λ line e. replied (prints.remove _ _ _ e (done .remove .ensures)) refl
-    (record { table = refl; place = refl; wrote = told .tell-change .ensures })
+    let tell = c .before .before in
+    let remove = tell .before .before .before .before in
+    λ line e. record {
+      printed = _;
+      prints = prints.remove _ _ _ e (remove .remove .ensures);
+      wrote = tell .tell-change .ensures;
+    }
 
-pub removed-spec : {M : Type 1} → statement M
-removed-spec =
+pub remove-slot-spec : {M : Type 1} → statement M
+remove-slot-spec =
     tie.close
     (tie.spec remove-requires slice-aggregate-tell-change tell-change-requires same-length returns)
