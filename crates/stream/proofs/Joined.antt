@@ -10,7 +10,7 @@ use Rattle.sheet_meaning.specs.Calls.{callsOf}
 use Rattle.sheet_meaning.specs.Seen.{BookPrints}
 use Rattle.sheet_meaning.proofs.Books.{sheet-book, sheet-history}
 use Rattle.history.specs.Claim.{bookAnswers, History}
-use Rattle.feed.proofs.Whole.{pieces-end}
+use Rattle.sheet_feed.proofs.Whole.{pieces-end}
 use Rattle.stream.specs.declared.Last.{Last}
 use Rattle.stream.specs.Answered.{AnswersLast}
 

@@ -5,15 +5,15 @@ use mathlib.Core.Path.{_≡_, refl, sym, _∙_, ap, subst}
 use mathlib.Core.List.{List, [], _++_, append-nil}
 use lib.ListN.{length, take, drop, length-take, length-append, length-drop}
 use lib.Seq.{take-all, take-add, take-take}
-use Rattle.passing.specs.declared.Sheet.{Sheet}
-use Rattle.passing.specs.declared.Fed.{Fed}
-use Rattle.passing.specs.Sheets.{Feeds}
-use Rattle.feed.specs.Sheets.{RepliesAt, Pieces, none, piece}
+use Rattle.sheet_feed.specs.declared.Sheet.{Sheet}
+use Rattle.sheet_feed.specs.declared.Fed.{Fed}
+use Rattle.sheet_feed.specs.Sheets.{Feeds}
+use Rattle.sheet_feed.specs.Sheets.{RepliesAt, Pieces, none, piece}
 use Rattle.sheet_meaning.specs.Sheets.{MOST}
 use Rattle.stream.specs.declared.Answered.{Answered}
 use Rattle.stream.specs.declared.Last.{Last}
 use Rattle.stream.specs.Answered.{AnswersPiece, AnswersLines, AnswersFrom}
-use Rattle.feed.proofs.Whole.{pieces-then}
+use Rattle.sheet_feed.proofs.Whole.{pieces-then}
 
 pub first-part : (n : ℕ) (xs : List ℕ) → n ≤ length xs → n ≡ length (take n xs)
 first-part n xs l = omega (arith, l, length-take n xs)

@@ -6,10 +6,10 @@ use mathlib.Core.Bool.{true}
 use mathlib.Core.List.{List}
 use lib.ListN.{length, take}
 use Rattle.sheet_meaning.specs.Sheets.{start, MOST}
-use Rattle.judging.specs.Judging.{ROOM}
-use Rattle.passing.specs.declared.Sheet.{Sheet}
-use Rattle.passing.specs.Sheets.{StandsFor}
-use Rattle.feed.specs.Sheets.{RepliesAt, Pieces}
+use Rattle.sheet_label_lines.specs.LabelLines.{LABELS_ROOM}
+use Rattle.sheet_feed.specs.declared.Sheet.{Sheet}
+use Rattle.sheet_feed.specs.Sheets.{StandsFor}
+use Rattle.sheet_feed.specs.Sheets.{RepliesAt, Pieces}
 use Rattle.stream.specs.declared.Answered.{Answered}
 use Rattle.stream.specs.declared.Last.{Last}
 
@@ -35,7 +35,7 @@ pub record AnswersFrom (c : Sheet) (r : Last) : Type 0 where
   pub before : List ℕ
   pub after : List ℕ
   pub lines : AnswersLines c (r .done)
-  pub room : ROOM ≤ length before
+  pub room : LABELS_ROOM ≤ length before
   pub replies : RepliesAt (r .done .sheet) before 0 after (r .reply)
 
 -- The same from the start.

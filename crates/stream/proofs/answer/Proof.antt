@@ -5,9 +5,9 @@ use native.Mathlib.Omega.{arith}
 use mathlib.Core.Path.{_≡_, refl, sym, _∙_}
 use mathlib.Core.List.{List, []}
 use lib.ListN.{length, take, drop}
-use Rattle.judging.specs.Judging.{ROOM}
-use Rattle.feed.specs.Sheets.{Pieces, none}
-use Rattle.passing.proofs.Keeping.{apart}
+use Rattle.sheet_label_lines.specs.LabelLines.{LABELS_ROOM}
+use Rattle.sheet_feed.specs.Sheets.{Pieces, none}
+use Rattle.sheet_scanner.proofs.Judging.{apart}
 use Rattle.stream.proofs.Parts.{first-part, part-length, pieces-more}
 use borrow.Author.Needs.{needs}
 use borrow.Author.Tests.{ltb-true, ltb-false}
@@ -16,7 +16,7 @@ use Rattle.stream.proofs.answer.Tie as tie
 
 abbrev Inv-loop : tie.InvT-loop
 Inv-loop input out₀ shown s₀ from₀ written₀ out s from written =
-    (from ≤ length input) × (ROOM ≤ length out) × (length out ≡ length out₀)
+    (from ≤ length input) × (LABELS_ROOM ≤ length out) × (length out ≡ length out₀)
     × ((printed : List ℕ) × Pieces s₀ (take from input) printed s)
 
 abbrev μ-loop : tie.MeasureT-loop
@@ -64,7 +64,7 @@ loop-less c =
     let size = part-length (l .from) input in
     let here = ltb-true (l .from) _ (test .if1 .taken) in
     let some : 0 < length (take (length input - l .from) (drop (l .from) input)) = omega (arith, size) in
-    omega (arith, f .1 .1 some (l .inv .1), f .0 .read, size)
+    omega (arith, f .1 .some some (l .inv .1), f .0 .read, size)
 
 loop-again : tie.Need-loop-again Inv-loop μ-loop
 loop-again c =

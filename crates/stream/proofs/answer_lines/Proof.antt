@@ -5,7 +5,7 @@ use native.Mathlib.Omega.{arith}
 use mathlib.Core.Path.{_≡_, refl, sym, _∙_, ap}
 use mathlib.Core.Logic.{⊎-elim}
 use lib.ListN.{length}
-use Rattle.judging.specs.Judging.{ROOM}
+use Rattle.sheet_label_lines.specs.LabelLines.{LABELS_ROOM}
 use Rattle.stream.proofs.Parts.{SoFar, so-far-start, so-far-more, so-far-same, so-far-over}
 use borrow.Author.Needs.{needs}
 use Rattle.stream.proofs.answer_lines.Statement.{statement}
@@ -13,7 +13,7 @@ use Rattle.stream.proofs.answer_lines.Tie as tie
 
 abbrev Inv-loop : tie.InvT-loop
 Inv-loop out₀ shown input₀ done₀ left₀ out input done left =
-    (length input ≡ 65536) × (ROOM ≤ length out) × (length out ≡ length out₀)
+    (length input ≡ 65536) × (LABELS_ROOM ≤ length out) × (length out ≡ length out₀)
     × SoFar (done₀ .sheet) left (done .sheet)
 
 abbrev μ-loop : tie.MeasureT-loop
