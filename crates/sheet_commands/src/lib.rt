@@ -41,10 +41,10 @@ fn add_rule(table: Table, head: u32, parsed: Parsed, out: &mut [u8], at: usize) 
     let end = middle + parsed.negatives;
     let done = add(table, head, &both[..middle], &both[middle..end]);
     let answer = done.answer;
-    let after = done.table;
+    let added = done.table;
     let next = tell_add(answer, place.line, out, at);
     Obeyed {
-        table: after,
+        table: added,
         next: next,
     }
 }
@@ -65,7 +65,14 @@ fn remove_slot(table: Table, slot: u32, line: u32, out: &mut [u8], at: usize) ->
 }
 
 // `P`: the replacement. Its lists stand as those of an addition do.
-fn replace_rule(table: Table, slot: u32, head: u32, parsed: Parsed, out: &mut [u8], at: usize) -> Obeyed
+fn replace_rule(
+    table: Table,
+    slot: u32,
+    head: u32,
+    parsed: Parsed,
+    out: &mut [u8],
+    at: usize,
+) -> Obeyed
     requires { ⌜ (parsed .positives + parsed .negatives ≤ TOKENS) × (at + LABELS_ROOM ≤ length (now out)) ⌝ }
     ensures { λ r. ⌜ Obeys table (parsed .place .line)
         (sheet.replace slot head (positivesIn parsed) (negativesIn parsed))
@@ -74,14 +81,14 @@ fn replace_rule(table: Table, slot: u32, head: u32, parsed: Parsed, out: &mut [u
     let place = parsed.place;
     let entries = parsed.entries;
     let both = &entries[..];
-    let middle = parsed.positives;
-    let end = middle + parsed.negatives;
-    let done = replace(table, slot, head, &both[..middle], &both[middle..end]);
+    let cut = parsed.positives;
+    let end = cut + parsed.negatives;
+    let done = replace(table, slot, head, &both[..cut], &both[cut..end]);
     let answer = done.answer;
-    let after = done.table;
+    let replaced = done.table;
     let next = tell_change(answer, place.line, b"replaced", slot, out, at);
     Obeyed {
-        table: after,
+        table: replaced,
         next: next,
     }
 }

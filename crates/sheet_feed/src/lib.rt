@@ -81,9 +81,9 @@ fn reply_line(sheet: Sheet, out: &mut [u8], at: usize) -> Reply
         },
         Judged::Command(command) => {
             let obeyed = obey(table, command, parsed, out, at);
-            let after = obeyed.table;
+            let last = obeyed.table;
             Reply {
-                table: after,
+                table: last,
                 next: obeyed.next,
                 answer: ChangeAnswer::Accepted,
             }

@@ -2,7 +2,6 @@
 use Prim.Native.Nat.{ℕ}
 use native.Mathlib.Omega.{arith}
 use mathlib.Core.Path.{_≡_, refl, sym, _∙_, ap, subst}
-use mathlib.Core.Bool.{true, false}
 use mathlib.Core.Logic.{inl, inr}
 use mathlib.Core.List.{List, [], _∷_}
 use types.Run.{OneOf}
@@ -71,6 +70,3 @@ module _ {p : Parsed} (line before : List ℕ) (at : ℕ) (after : List ℕ) (j 
   judged-command e =
       let w = subst (λ (y : Judged). Judges p before at after y) e judges in
       (sym (read .meaning) ∙ w .0, w .1)
-
-pub apart : true ≡ false → ⊥
-apart e = let z : _≡_ {A = ℕ} 0 1 = cc in omega arith

@@ -104,8 +104,9 @@ fn scan_line(begun: Begun, input: &[u8], from: usize, out: &mut [u8], at: usize)
     let end = line_end(input, from);
     let part = &input[from..end];
     if end == input.len() {
+        let longer = lengthen(begun, part);
         return Scanned {
-            begun: lengthen(begun, part),
+            begun: longer,
             read: end,
             printed: at,
             more: false,

@@ -1,11 +1,11 @@
 -- `sheet_scanner::scan_line` meets its contract, by the case of what was found. Assumes nothing.
 use Prim.Native.Nat.{_<_}
 use native.Mathlib.Omega.{arith}
-use mathlib.Core.Path.{sym}
+use mathlib.Core.Path.{refl}
 use lib.ListN.{length}
 use borrow.Author.Needs.{needs}
+use Rattle.theory.proofs.Lists.{clash}
 use Rattle.sheet_begun.proofs.Lengthening.{begun-sized, begun-of-some}
-use Rattle.sheet_scanner.proofs.Judging.{apart}
 use Rattle.sheet_scanner.proofs.Scanning.{end-within, scans-part, scans-told, scans-command}
 use Rattle.sheet_scanner.proofs.scan_line.Statement.{statement}
 use Rattle.sheet_scanner.proofs.scan_line.Tie as tie
@@ -52,7 +52,7 @@ returns c =
       scans-part (s .pre .0) (end .ensures) (s .pre .1) _ (lengthen .lengthen .ensures),
       record {
         some = λ l. omega (arith, l, test .if1 .taken);
-        more = λ e. absurd (apart (sym e));
+        more = λ e. absurd (clash e refl);
         ended = λ e. test .if1 .taken;
       },
     )
@@ -97,7 +97,7 @@ returns-2 c =
       record {
         some = λ l. omega (arith, e .before .before .line-end .ensures);
         more = λ m. omega (arith, e .before .before .line-end .ensures);
-        ended = λ m. absurd (apart m);
+        ended = λ m. absurd (clash refl m);
       },
     )
 
@@ -116,7 +116,7 @@ returns-3 c =
       scans-command (s .pre .0) (e .before .before .line-end .ensures) (s .pre .1) _ (j .result)
           (inside-piece e) some (c .lengthen2 .ensures) (read .read-with .ensures) (j .ensures)
           (judged .judged2 .given .1),
-      record { some = λ l. tt; more = λ m. absurd (apart (sym m)); ended = λ m. tt },
+      record { some = λ l. tt; more = λ m. absurd (clash m refl); ended = λ m. tt },
     )
 
 pub scan-line-spec : {M : Type 1} → statement M

@@ -7,7 +7,7 @@ use mathlib.Core.List.{List, []}
 use lib.ListN.{length, take, drop}
 use Rattle.sheet_label_lines.specs.LabelLines.{LABELS_ROOM}
 use Rattle.sheet_feed.specs.Sheets.{Pieces, none}
-use Rattle.sheet_scanner.proofs.Judging.{apart}
+use Rattle.theory.proofs.Lists.{clash}
 use Rattle.stream.proofs.Parts.{first-part, part-length, pieces-more}
 use borrow.Author.Needs.{needs}
 use borrow.Author.Tests.{ltb-true, ltb-false}
@@ -100,7 +100,7 @@ returns-2 c =
       printed = l .inv .3 .0;
       few = l .inv .0;
       pieces = l .inv .3 .1;
-      whole = λ e. absurd (apart (sym e ∙ c .loop-test .left));
+      whole = λ e. absurd (clash e (c .loop-test .left));
     }
 
 pub answer-spec : {M : Type 1} → statement M
