@@ -11,6 +11,10 @@ use borrow.Author.Needs.{needs}
 use Rattle.sheet_commands.proofs.replace_rule.Statement.{statement}
 use Rattle.sheet_commands.proofs.replace_rule.Tie as tie
 
+-- the call's start, seen from the change that it makes
+abbrev start-of : tie.After-replace → tie.Start
+start-of c = c .before .before .before .before .before .before .before .before
+
 slice-aggregate-both : tie.Need-slice-aggregate-both
 slice-aggregate-both c = search needs
 
@@ -55,7 +59,7 @@ unfolding bytes
 returns c =
     let tell = c .before .before in
     let done = tell .before .before .before .before in
-    let a = done .before .before .before .before .before .before .before .before .args in
+    let a = start-of done .args in
     let p = a .parsed in
     let n : p .positives + p .negatives - p .positives ≡ p .negatives = omega arith in
     let ends =

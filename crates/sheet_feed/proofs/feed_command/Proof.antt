@@ -36,7 +36,8 @@ obey-requires c κs =
 
 add-past : tie.Need-add-past
 add-past c =
-    let known = c .before .before .before .before .before .before .before .before .before in
+    let obey = c .before .before .before .before in
+    let known = obey .before .before .before .before .before in
     let scan = known .before .before .before .before .before in
     let s = scan .before .before .before .before .before .before in
     let here = at-command _ _ (scan .scan .result) _ (known .found .given .1) (scan .scan .ensures .0 .found) in
