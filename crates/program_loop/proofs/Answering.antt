@@ -6,11 +6,11 @@ use mathlib.Core.Bool.{Bool, true, false}
 use mathlib.Core.List.{List, [], _++_, append-nil}
 use lib.ListN.{length, take, drop, length-take, length-append, length-drop}
 use lib.Seq.{length-take-le, take-all, take-length, take-add, take-take, take-append-add}
-use Rattle.passing.specs.declared.Sheet.{Sheet}
-use Rattle.passing.specs.declared.Fed.{Fed}
-use Rattle.passing.specs.Sheets.{Feeds}
-use Rattle.feed.specs.Sheets.{Pieces, none, piece}
-use Rattle.feed.proofs.Whole.{pieces-then}
+use Rattle.sheet_feed.specs.declared.Sheet.{Sheet}
+use Rattle.sheet_feed.specs.declared.Fed.{Fed}
+use Rattle.sheet_feed.specs.Sheets.{Feeds}
+use Rattle.sheet_feed.specs.Sheets.{Pieces, none, piece}
+use Rattle.sheet_feed.proofs.Whole.{pieces-then}
 use Rattle.program_io.specs.Told.{shownOf, Writes}
 use Rattle.program_io.proofs.Writing.{writes-none, writes-then, shown-append, shown-nil}
 use Rattle.program_loop.specs.Takes.{SPACE, Answers}

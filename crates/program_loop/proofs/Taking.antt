@@ -5,7 +5,7 @@ use mathlib.Core.Path.{_≡_, refl, sym, _∙_, ap, subst}
 use mathlib.Core.List.{List, [], _++_}
 use lib.ListN.{length, take, drop}
 use lib.Seq.{length-take-le, take-add}
-use Rattle.passing.specs.declared.Sheet.{Sheet}
+use Rattle.sheet_feed.specs.declared.Sheet.{Sheet}
 use Rattle.program_io.specs.Told.{Given, given-none}
 use Rattle.program_loop.specs.declared.Task.{Task}
 use Rattle.program_loop.specs.declared.Task.the-variants.{Answer, Keep}

@@ -4,8 +4,8 @@ use mathlib.Core.Path.{_≡_}
 use mathlib.Core.Bool.{Bool}
 use mathlib.Core.List.{List}
 use lib.ListN.{length, take, drop}
-use Rattle.passing.specs.declared.Sheet.{Sheet}
-use Rattle.feed.specs.Sheets.{Pieces}
+use Rattle.sheet_feed.specs.declared.Sheet.{Sheet}
+use Rattle.sheet_feed.specs.Sheets.{Pieces}
 use Rattle.program_io.specs.Told.{Given, shownOf, Writes}
 use Rattle.program_io.specs.Reads.{ReadsOn}
 use Rattle.program_loop.specs.declared.Task.{Task}

@@ -1,9 +1,9 @@
 // The one loop that reads: the bytes of standard input are taken as they come, piece by piece, by the task of the program
 // that reads them.
-use feed::feed;
-use passing::Sheet;
 use program_io::read_on;
 use program_io::show;
+use sheet_feed::Sheet;
+use sheet_feed::feed;
 ghost use Prim.Native.Nat.{_+_, _-_, _*_, _≤_, _<_, _^_};
 ghost use mathlib.Core.Path.{_≡_};
 ghost use lib.ListN.{length, take, drop};

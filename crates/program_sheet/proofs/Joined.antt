@@ -16,7 +16,7 @@ use Rattle.sheet_meaning.specs.Calls.{callsOf}
 use Rattle.sheet_meaning.specs.Seen.{BookPrints}
 use Rattle.sheet_meaning.proofs.Books.{sheet-book, sheet-history}
 use Rattle.history.specs.Claim.{bookAnswers, History}
-use Rattle.feed.proofs.Whole.{pieces-end}
+use Rattle.sheet_feed.proofs.Whole.{pieces-end}
 use Rattle.program_io.specs.Told.{Given, Shown, shown-none, shownOf, Writes}
 use Rattle.program_io.proofs.Writing.{writes-then, shown-append}
 use Rattle.program_sheet.specs.declared.Last.{Last}

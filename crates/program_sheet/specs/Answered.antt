@@ -5,11 +5,11 @@ use mathlib.Core.Bool.{Bool}
 use mathlib.Core.List.{List}
 use lib.ListN.{length, take}
 use Rattle.sheet_meaning.specs.Sheets.{start, MOST}
-use Rattle.judging.specs.Judging.{ROOM}
-use Rattle.passing.specs.declared.Sheet.{Sheet}
-use Rattle.passing.specs.Sheets.{StandsFor}
-use Rattle.replies.specs.declared.Reply.{Reply}
-use Rattle.feed.specs.Sheets.{RepliesAt}
+use Rattle.sheet_label_lines.specs.LabelLines.{LABELS_ROOM}
+use Rattle.sheet_feed.specs.declared.Sheet.{Sheet}
+use Rattle.sheet_feed.specs.Sheets.{StandsFor}
+use Rattle.sheet_feed.specs.declared.Reply.{Reply}
+use Rattle.sheet_feed.specs.Sheets.{RepliesAt}
 use Rattle.program_io.specs.Told.{shownOf, Writes}
 use Rattle.program_loop.specs.declared.Task.the-variants.{Answer}
 use Rattle.program_loop.specs.Takes.{TakesInput}
@@ -19,7 +19,7 @@ use Rattle.program_sheet.specs.declared.Last.{Last}
 -- all.
 pub record RepliesLast (c : Sheet) (showing : Bool) (before after : List ℕ) (shown₀ lost₀ shown lost : ℕ) (r : Reply) :
     Type 0 where
-  pub room : ROOM ≤ length before
+  pub room : LABELS_ROOM ≤ length before
   pub replies : RepliesAt c before 0 after r
   pub writes : lost₀ ≡ 0 → Writes (shownOf showing (take (r .next) after)) shown₀ shown lost
   pub failed : 0 < lost₀ → (shown ≡ shown₀) × (lost ≡ lost₀)

@@ -1,11 +1,11 @@
 // A sheet on standard input, answered with one table, empty at the start: each reply is shown on standard output, or none
 // is.
-use feed::reply_at;
-use passing::Sheet;
 use program_io::show;
 use program_loop::Task;
 use program_loop::take_input;
-use replies::Reply;
+use sheet_feed::Reply;
+use sheet_feed::Sheet;
+use sheet_feed::reply_at;
 ghost use Prim.Native.Nat.{_+_, _<_, _^_};
 ghost use mathlib.Core.Path.{_≡_};
 ghost use mathlib.Core.Bool.{true, false};

@@ -6,12 +6,15 @@ use fields::write_field;
 use fields::write_number;
 use table::Label;
 use table::Table;
-ghost use Prim.Native.Nat.{_+_, _*_, _≤_, _<_};
+ghost use Prim.Native.Nat.{_+_, _≤_, _<_};
 ghost use lib.ListN.{length};
 ghost use Rattle.theory.specs.Limits.{document};
 ghost use Rattle.table.specs.Labels.{labelOf, labelAt};
 ghost use Rattle.fields.specs.Written.{Wrote, WroteIn};
-ghost use Rattle.sheet_label_lines.specs.LabelLines.{inLine, labelLine, labelLines};
+ghost use Rattle.sheet_label_lines.specs.LabelLines.{LABELS_ROOM, inLine, labelLine, labelLines};
+
+// Room for the lines of all labels: that of an atom has at most 32 bytes.
+pub const LABELS_ROOM: usize = 32 * Table::ATOMS;
 
 // What follows the number of an atom that is in: `in`, depth, supporting slot.
 fn write_in(out: &mut [u8], at: usize, depth: u32, slot: u32) -> usize
@@ -42,10 +45,10 @@ fn write_label(out: &mut [u8], at: usize, atom: u32, label: Label) -> usize
 
 // The lines of all atoms that occur, ascending.
 pub fn write_labels(out: &mut [u8], at: usize, labels: [Label; Table::ATOMS]) -> usize
-    ensures { λ r. ⌜ WroteIn (32 * document .atoms) (labelLines (labelAt labels) (document .atoms))
+    ensures { λ r. ⌜ WroteIn LABELS_ROOM (labelLines (labelAt labels) (document .atoms))
         (now (out .entry)) at (now (out .exit)) r ⌝ }
 {
-    if bytes_left(out.len(), at) < 32 * Table::ATOMS {
+    if bytes_left(out.len(), at) < LABELS_ROOM {
         return at;
     }
     let mut next = at;

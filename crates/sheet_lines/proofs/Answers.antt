@@ -13,14 +13,14 @@ use borrow.Author.Tests.{le-leb, lt-leb, lt-ltb, le-ltb}
 use Rattle.tokens.specs.Tokens.{pieces, filled, tokens, one}
 use Rattle.sheet_lines.specs.Commands as spec
 use Rattle.sheet_lines.specs.Commands.{after, made, command}
-use Rattle.sheet_lines.specs.Readings.{LINE, ENTRIES, spaces, blank, Line, is-blank, too-long, no-command, is, whether}
+use Rattle.sheet_lines.specs.Readings.{LINE, TOKENS, spaces, blank, Line, is-blank, too-long, no-command, is, whether}
 use Rattle.sheet_lines.specs.Readings.{lineOf, reading, positivesOf, negativesOf, Answers}
-use Rattle.tokens.specs.Parts.{firstOf, restOf, empty, numberOf}
-use Rattle.sheet_lines.specs.Parts.{leadingNumbers, pastNumbers, changeOf, IsChange, listed}
+use Rattle.tokens.specs.Parts.{firstOf, restOf, empty, asOption}
+use Rattle.sheet_lines.specs.Parts.{leadingNumbers, pastNumbers, commandFor, IsCommandFor, ruleCommand}
 use Rattle.places.specs.Places.{isSpace}
 use Rattle.places.specs.declared.Place.{Place}
-use Rattle.sheet_lines.specs.declared.read.Change.{Change}
-use Rattle.sheet_lines.specs.declared.read.Change.the-variants.{Adds, Replaces}
+use Rattle.sheet_lines.specs.declared.read.Purpose.{Purpose}
+use Rattle.sheet_lines.specs.declared.read.Purpose.the-variants.{Adds, Replaces}
 use Rattle.sheet_lines.specs.declared.Command.{Command}
 use Rattle.sheet_lines.specs.declared.Command.the-variants.{Add, Remove, Replace, Why, Labels}
 use Rattle.sheet_lines.specs.declared.Reading.{Reading}
@@ -63,17 +63,17 @@ none-negative (of.Command (Why atom)) = refl
 none-negative (of.Command Labels) = refl
 
 -- A number that was found, or none, is what a form has after its sign.
-pub made-read : (f : ℕ → spec.Command) {o p : Number} {n : Option ℕ} {r : Parsed} → numberOf o ≡ n → o ≡ p
-    → Answers (whether (made f (numberOf p))) r → Answers (whether (made f n)) r
+pub made-read : (f : ℕ → spec.Command) {o p : Number} {n : Option ℕ} {r : Parsed} → asOption o ≡ n → o ≡ p
+    → Answers (whether (made f (asOption p))) r → Answers (whether (made f n)) r
 made-read f e g a =
-    as-read a (sym (ap (λ (q : Number). whether (made f (numberOf q))) g) ∙ ap (λ (m : Option ℕ). whether (made f m)) e)
+    as-read a (sym (ap (λ (q : Number). whether (made f (asOption q))) g) ∙ ap (λ (m : Option ℕ). whether (made f m)) e)
 
 -- What the lists of a rule are, by where the numbers end.
-module _ (c : Change) (h : ℕ) (ts : List (List ℕ)) where
+module _ (c : Purpose) (h : ℕ) (ts : List (List ℕ)) where
   abbrev said : Line
-  said = whether (listed c h ts)
+  said = whether (ruleCommand c h ts)
 
-  pub said-over : empty (pastNumbers ts) ≡ true → is (changeOf c h (leadingNumbers ts) []) ≡ said
+  pub said-over : empty (pastNumbers ts) ≡ true → is (commandFor c h (leadingNumbers ts) []) ≡ said
   said-over e = let w = over ts e in rw (w .positives, w .negatives)
 
   pub said-spoiled : empty (pastNumbers ts) ≡ false → one 33 (firstOf (pastNumbers ts)) ≡ false → no-command ≡ said
@@ -81,7 +81,7 @@ module _ (c : Change) (h : ℕ) (ts : List (List ℕ)) where
 
   module _ (bang : one 33 (firstOf (pastNumbers ts)) ≡ true) where
     pub said-parted : empty (pastNumbers (restOf (pastNumbers ts))) ≡ true
-        → is (changeOf c h (leadingNumbers ts) (leadingNumbers (restOf (pastNumbers ts)))) ≡ said
+        → is (commandFor c h (leadingNumbers ts) (leadingNumbers (restOf (pastNumbers ts)))) ≡ said
     said-parted e =
         let w = parted ts bang in
         rw (w .positives, w .negatives, numerals-all (restOf (pastNumbers ts)) e)
@@ -101,51 +101,51 @@ drop-zeros zero n = rw sub-zero
 drop-zeros (suc k) zero = rw zero-sub
 drop-zeros (suc k) (suc n) = rw suc-sub-suc (drop-zeros k n)
 
-module _ (ps ns : List ℕ) (size : length ps + length ns ≤ ENTRIES) where
-  behind-first : sets (zeros ENTRIES) 0 ps ≡ ps ++ zeros (ENTRIES - length ps)
+module _ (ps ns : List ℕ) (size : length ps + length ns ≤ TOKENS) where
+  behind-first : sets (zeros TOKENS) 0 ps ≡ ps ++ zeros (TOKENS - length ps)
   behind-first =
-      let fit : 0 + length ps ≤ length (zeros ENTRIES) = omega (arith, length-replicate {A = ℕ} ENTRIES 0) in
-      sets-eq ps (zeros ENTRIES) 0 fit
-      ∙ ap (λ (k : ℕ). ps ++ drop k (zeros ENTRIES)) (zero-add (length ps))
-      ∙ ap (λ (zs : List ℕ). ps ++ zs) (drop-zeros (length ps) ENTRIES)
+      let fit : 0 + length ps ≤ length (zeros TOKENS) = omega (arith, length-replicate {A = ℕ} TOKENS 0) in
+      sets-eq ps (zeros TOKENS) 0 fit
+      ∙ ap (λ (k : ℕ). ps ++ drop k (zeros TOKENS)) (zero-add (length ps))
+      ∙ ap (λ (zs : List ℕ). ps ++ zs) (drop-zeros (length ps) TOKENS)
 
-  behind-both : sets (sets (zeros ENTRIES) 0 ps) (length ps) ns
-      ≡ ps ++ (ns ++ zeros (ENTRIES - (length ps + length ns)))
+  behind-both : sets (sets (zeros TOKENS) 0 ps) (length ps) ns
+      ≡ ps ++ (ns ++ zeros (TOKENS - (length ps + length ns)))
   behind-both =
-      let zs = zeros (ENTRIES - length ps) in
-      let long : length zs ≡ ENTRIES - length ps = length-replicate {A = ℕ} (ENTRIES - length ps) 0 in
+      let zs = zeros (TOKENS - length ps) in
+      let long : length zs ≡ TOKENS - length ps = length-replicate {A = ℕ} (TOKENS - length ps) 0 in
       let fit : length ps + length ns ≤ length (ps ++ zs) = omega (arith, length-append ps zs) in
-      let left : (ENTRIES - length ps) - length ns ≡ ENTRIES - (length ps + length ns) = omega arith in
+      let left : (TOKENS - length ps) - length ns ≡ TOKENS - (length ps + length ns) = omega arith in
       ap (λ (xs : List ℕ). sets xs (length ps) ns) behind-first
       ∙ sets-eq ns (ps ++ zs) (length ps) fit
       ∙ ap (λ (xs : List ℕ). (xs ++ ns) ++ drop (length ps + length ns) (ps ++ zs)) (take-append-seam ps zs)
       ∙ ap (λ (xs : List ℕ). (ps ++ ns) ++ xs) (drop-append-add ps zs (length ns))
-      ∙ ap (λ (xs : List ℕ). (ps ++ ns) ++ xs) (drop-zeros (length ns) (ENTRIES - length ps))
-      ∙ append-assoc ps ns (zeros ((ENTRIES - length ps) - length ns))
+      ∙ ap (λ (xs : List ℕ). (ps ++ ns) ++ xs) (drop-zeros (length ns) (TOKENS - length ps))
+      ∙ append-assoc ps ns (zeros ((TOKENS - length ps) - length ns))
       ∙ ap (λ (k : ℕ). ps ++ (ns ++ zeros k)) left
 
 -- The lists of a change are those of its rule.
-positives-of : (c : Change) (h : ℕ) (ps ns : List ℕ) → length ps ≡ length (positivesOf (is (changeOf c h ps ns)))
+positives-of : (c : Purpose) (h : ℕ) (ps ns : List ℕ) → length ps ≡ length (positivesOf (is (commandFor c h ps ns)))
 positives-of Adds h ps ns = refl
 positives-of (Replaces s) h ps ns = refl
 
-negatives-of : (c : Change) (h : ℕ) (ps ns : List ℕ) → length ns ≡ length (negativesOf (is (changeOf c h ps ns)))
+negatives-of : (c : Purpose) (h : ℕ) (ps ns : List ℕ) → length ns ≡ length (negativesOf (is (commandFor c h ps ns)))
 negatives-of Adds h ps ns = refl
 negatives-of (Replaces s) h ps ns = refl
 
 -- The answer that has a rule's lists.
-pub lists-answer : (c : Change) (h : ℕ) (x : Command) → IsChange c h x
-    → (q : Place) (ps ns : List ℕ) (p n : ℕ) (xs : List ℕ) → length ps + length ns ≤ ENTRIES
-    → p ≡ length ps → n ≡ length ns → xs ≡ sets (sets (zeros ENTRIES) 0 ps) p ns
-    → Answers (is (changeOf c h ps ns))
+pub lists-answer : (c : Purpose) (h : ℕ) (x : Command) → IsCommandFor c h x
+    → (q : Place) (ps ns : List ℕ) (p n : ℕ) (xs : List ℕ) → length ps + length ns ≤ TOKENS
+    → p ≡ length ps → n ≡ length ns → xs ≡ sets (sets (zeros TOKENS) 0 ps) p ns
+    → Answers (is (commandFor c h ps ns))
     (record { place = q; reading = of.Command x; positives = p; negatives = n; entries = xs })
 lists-answer c h x same q ps ns p n xs size e f g =
-    let zs = zeros (ENTRIES - (length ps + length ns)) in
+    let zs = zeros (TOKENS - (length ps + length ns)) in
     let whole : xs ≡ ps ++ (ns ++ zs) =
-    g ∙ ap (λ (k : ℕ). sets (sets (zeros ENTRIES) 0 ps) k ns) e ∙ behind-both ps ns size in
+    g ∙ ap (λ (k : ℕ). sets (sets (zeros TOKENS) 0 ps) k ns) e ∙ behind-both ps ns size in
     let one : take p xs ≡ ps = rw (whole, e) (take-append-seam ps (ns ++ zs)) in
     let two : take n (drop p xs) ≡ ns = rw (whole, e, f, drop-append-seam ps (ns ++ zs)) (take-append-seam ns zs) in
-    let three : drop (p + n) xs ≡ zeros (ENTRIES - (p + n)) =
+    let three : drop (p + n) xs ≡ zeros (TOKENS - (p + n)) =
     rw (whole, e, f, drop-append-add ps (ns ++ zs) (length ns)) (drop-append-seam ns zs) in
     record {
       meaning = rw (one, two, same ps ns);

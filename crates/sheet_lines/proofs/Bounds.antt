@@ -10,7 +10,7 @@ use Rattle.tokens.specs.Tokens.{tokens}
 use Rattle.tokens.specs.Numerals.{numeral}
 use Rattle.tokens.specs.Tokens.{one}
 use Rattle.sheet_lines.specs.Commands.{Command, add, remove, replace, why, labels, consed, numerals, before, after}
-use Rattle.sheet_lines.specs.Commands.{madeOfRule, ruleForm, inSlot, replacement, only, made, listing, form, command}
+use Rattle.sheet_lines.specs.Commands.{madeOfRule, ruleForm, inSlot, replacement, only, made, labelsForm, form, command}
 use Rattle.sheet_lines.specs.Readings.{LINE, is, positivesOf, negativesOf}
 use Rattle.tokens.proofs.Tokens.{tokens-bound}
 
@@ -82,10 +82,10 @@ module _ (c : Command) where
   made-none f same none e = absurd (let z : _≡_ {A = ℕ} 0 1 = cc in omega arith)
   made-none f same (some n) e = let q : c ≡ f n = cc in rw q (same n)
 
-  listing-none : (ts : List (List ℕ)) → listing ts ≡ some c → entries c ≡ 0
-  unfolding listing
-  listing-none [] e = let q : c ≡ labels = cc in rw q
-  listing-none (t ∷ ts) e = absurd (let z : _≡_ {A = ℕ} 0 1 = cc in omega arith)
+  labels-form-none : (ts : List (List ℕ)) → labelsForm ts ≡ some c → entries c ≡ 0
+  unfolding labelsForm
+  labels-form-none [] e = let q : c ≡ labels = cc in rw q
+  labels-form-none (t ∷ ts) e = absurd (let z : _≡_ {A = ℕ} 0 1 = cc in omega arith)
 
   form-length : (ts : List (List ℕ)) → form ts ≡ some c → entries c ≤ length ts - 3
   unfolding form
@@ -94,13 +94,13 @@ module _ (c : Command) where
     where
       go : (a r p w l : Bool) → cond a (ruleForm add ts)
           (cond r (made remove (only ts))
-          (cond p (replacement ts) (cond w (made why (only ts)) (cond l (listing ts) none)))) ≡ some c
+          (cond p (replacement ts) (cond w (made why (only ts)) (cond l (labelsForm ts) none)))) ≡ some c
           → entries c ≤ suc (length ts) - 3
       go true r p w l e = omega (arith, rule-length add (λ h ps ns. refl) ts e)
       go false true p w l e = omega (arith, made-none remove (λ n. refl) (only ts) e)
       go false false true w l e = omega (arith, replacement-length ts e)
       go false false false true l e = omega (arith, made-none why (λ n. refl) (only ts) e)
-      go false false false false true e = omega (arith, listing-none ts e)
+      go false false false false true e = omega (arith, labels-form-none ts e)
       go false false false false false e = absurd (let z : _≡_ {A = ℕ} 0 1 = cc in omega arith)
 
   pub entries-most : (line : List ℕ) → length line ≤ LINE → command line ≡ some c → entries c ≤ 57

@@ -11,10 +11,10 @@ use borrow.Author.Tests.{eqb-true}
 use Rattle.tokens.specs.Numerals.{digits, needless, spelledFrom, numeral}
 use Rattle.tokens.specs.Tokens.{one}
 use Rattle.sheet_lines.specs.Commands.{Command, add, remove, replace, why, labels, numerals, before, after}
-use Rattle.sheet_lines.specs.Commands.{madeOfRule, ruleForm, inSlot, replacement, only, made, listing, form}
+use Rattle.sheet_lines.specs.Commands.{madeOfRule, ruleForm, inSlot, replacement, only, made, labelsForm, form}
 use Rattle.tokens.specs.Parts.{firstOf, restOf, empty}
-use Rattle.sheet_lines.specs.Parts.{leadingNumbers, pastNumbers, changeOf, listed}
-use Rattle.sheet_lines.specs.declared.read.Change.{Change}
+use Rattle.sheet_lines.specs.Parts.{leadingNumbers, pastNumbers, commandFor, ruleCommand}
+use Rattle.sheet_lines.specs.declared.read.Purpose.{Purpose}
 
 -- A number alone; nothing.
 
@@ -33,15 +33,15 @@ only-more [] e = absurd-test e
 only-more (t ∷ []) e = absurd-test e
 only-more (t ∷ u ∷ ts) e = refl
 
-pub listing-last : (ts : List (List ℕ)) → empty ts ≡ true → some labels ≡ listing ts
-unfolding listing
-listing-last [] e = refl
-listing-last (t ∷ ts) e = absurd-test (sym e)
+pub labels-form-last : (ts : List (List ℕ)) → empty ts ≡ true → some labels ≡ labelsForm ts
+unfolding labelsForm
+labels-form-last [] e = refl
+labels-form-last (t ∷ ts) e = absurd-test (sym e)
 
-pub listing-more : (ts : List (List ℕ)) → empty ts ≡ false → none ≡ listing ts
-unfolding listing
-listing-more [] e = absurd-test e
-listing-more (t ∷ ts) e = refl
+pub labels-form-more : (ts : List (List ℕ)) → empty ts ≡ false → none ≡ labelsForm ts
+unfolding labelsForm
+labels-form-more [] e = absurd-test e
+labels-form-more (t ∷ ts) e = refl
 
 -- The first token of a form decides.
 
@@ -49,7 +49,7 @@ pub form-first : (ts : List (List ℕ)) → cond (one 65 (firstOf ts)) (ruleForm
     (cond (one 82 (firstOf ts)) (made remove (only (restOf ts)))
     (cond (one 80 (firstOf ts)) (replacement (restOf ts))
     (cond (one 87 (firstOf ts)) (made why (only (restOf ts)))
-    (cond (one 76 (firstOf ts)) (listing (restOf ts)) none)))) ≡ form ts
+    (cond (one 76 (firstOf ts)) (labelsForm (restOf ts)) none)))) ≡ form ts
 unfolding form one
 form-first [] = refl
 form-first (t ∷ ts) = refl
@@ -68,23 +68,23 @@ unfolding replacement numeral
 replacement-first [] = refl
 replacement-first (s ∷ ts) = refl
 
-module _ (c : Change) (ts : List (List ℕ)) where
+module _ (c : Purpose) (ts : List (List ℕ)) where
   abbrev stated : Option Command
-  stated = ruleForm (changeOf c) ts
+  stated = ruleForm (commandFor c) ts
 
   pub rule-no-head : numeral (firstOf ts) ≡ none → none ≡ stated
   rule-no-head e = go (one 58 (firstOf (restOf ts))) refl
     where
       go : (b : Bool) → one 58 (firstOf (restOf ts)) ≡ b → none ≡ stated
-      go true t = rw (← rule-first (changeOf c) ts, t, e)
-      go false t = rw (← rule-first (changeOf c) ts, t)
+      go true t = rw (← rule-first (commandFor c) ts, t, e)
+      go false t = rw (← rule-first (commandFor c) ts, t)
 
   pub rule-no-sign : one 58 (firstOf (restOf ts)) ≡ false → none ≡ stated
-  rule-no-sign t = rw (← rule-first (changeOf c) ts, t)
+  rule-no-sign t = rw (← rule-first (commandFor c) ts, t)
 
   pub rule-is : (h : ℕ) (us : List (List ℕ)) → numeral (firstOf ts) ≡ some h → one 58 (firstOf (restOf ts)) ≡ true
-      → us ≡ restOf (restOf ts) → listed c h us ≡ stated
-  rule-is h us e t u = rw (← rule-first (changeOf c) ts, t, e, u)
+      → us ≡ restOf (restOf ts) → ruleCommand c h us ≡ stated
+  rule-is h us e t u = rw (← rule-first (commandFor c) ts, t, e, u)
 
 module _ (ts : List (List ℕ)) where
   pub replacement-no-slot : numeral (firstOf ts) ≡ none → none ≡ replacement ts
@@ -110,7 +110,7 @@ module _ (ts : List (List ℕ)) where
         form-why w = rw (← form-first ts, a, r, p, w)
 
         module _ (w : one 87 (firstOf ts) ≡ false) where
-          pub form-labels : one 76 (firstOf ts) ≡ true → listing (restOf ts) ≡ form ts
+          pub form-labels : one 76 (firstOf ts) ≡ true → labelsForm (restOf ts) ≡ form ts
           form-labels l = rw (← form-first ts, a, r, p, w, l)
 
           pub form-none : one 76 (firstOf ts) ≡ false → none ≡ form ts

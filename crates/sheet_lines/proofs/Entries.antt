@@ -8,7 +8,7 @@ use mathlib.Core.Option.{none, some}
 use lib.ListN.{length, set, length-set}
 use lib.Seq.{sets}
 use Rattle.tokens.specs.Numerals.{numeral}
-use Rattle.sheet_lines.specs.Readings.{ENTRIES}
+use Rattle.sheet_lines.specs.Readings.{TOKENS}
 use Rattle.tokens.specs.Parts.{firstOf, restOf}
 use Rattle.sheet_lines.specs.Parts.{leadingNumbers, pastNumbers}
 use Rattle.sheet_lines.proofs.Commands.{advance, halt}
@@ -16,14 +16,14 @@ use Rattle.sheet_lines.proofs.Commands.{advance, halt}
 -- From entries xs₀, k₀ of them read, with ts₀ left, a loop came to xs, k and ts; what is left gives the whole.
 pub record Collecting (xs₀ : List ℕ) (k₀ : ℕ) (ts₀ : List (List ℕ)) (xs : List ℕ) (k : ℕ) (ts : List (List ℕ))
     : Type 0 where
-  pub size : length xs ≡ ENTRIES
-  pub room : k + length ts ≤ ENTRIES
+  pub size : length xs ≡ TOKENS
+  pub room : k + length ts ≤ TOKENS
   pub entries : sets xs k (leadingNumbers ts) ≡ sets xs₀ k₀ (leadingNumbers ts₀)
   pub count : k + length (leadingNumbers ts) ≡ k₀ + length (leadingNumbers ts₀)
   pub rest : pastNumbers ts ≡ pastNumbers ts₀
 
 module _ (xs₀ : List ℕ) (k₀ : ℕ) (ts₀ : List (List ℕ)) where
-  pub collect-start : length xs₀ ≡ ENTRIES → k₀ + length ts₀ ≤ ENTRIES → Collecting xs₀ k₀ ts₀ xs₀ k₀ ts₀
+  pub collect-start : length xs₀ ≡ TOKENS → k₀ + length ts₀ ≤ TOKENS → Collecting xs₀ k₀ ts₀ xs₀ k₀ ts₀
   collect-start l r = record { size = l; room = r; entries = refl; count = refl; rest = refl }
 
   module _ (xs : List ℕ) (k : ℕ) (ts : List (List ℕ)) (c : Collecting xs₀ k₀ ts₀ xs k ts) where

@@ -9,7 +9,7 @@ use Rattle.tokens.specs.Tokens.{onto, pieces, filled, tokens}
 use Rattle.tokens.specs.Numerals.{digits, valueFrom, needless, spelledFrom, numeral}
 use Rattle.tokens.specs.Tokens.{one}
 use Rattle.sheet_lines.specs.Commands.{add, remove, replace, why, labels, numerals, before, after}
-use Rattle.sheet_lines.specs.Commands.{ruleForm, replacement, only, listing, form, command}
+use Rattle.sheet_lines.specs.Commands.{ruleForm, replacement, only, labelsForm, form, command}
 use Rattle.sheet_lines.specs.Readings.{spaces, blank, Line, is-blank, too-long, no-command, is, reading}
 
 record Example : Type 0 where
@@ -91,5 +91,5 @@ examples =
 
 holds : map (λ (e : Example). reading (e .line)) examples ≡ map (λ (e : Example). e .what) examples
 unfolding bytes example sevens examples onto pieces filled tokens digits valueFrom needless spelledFrom numeral
-    one numerals before after ruleForm replacement only listing form command spaces blank reading
+    one numerals before after ruleForm replacement only labelsForm form command spaces blank reading
 holds = refl

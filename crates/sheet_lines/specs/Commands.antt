@@ -67,9 +67,9 @@ made f none = none
 made f (some n) = some (f n)
 
 -- What follows `L`: nothing.
-unfoldable pub listing : List (List ℕ) → Option Command
-listing [] = some labels
-listing (t ∷ ts) = none
+unfoldable pub labelsForm : List (List ℕ) → Option Command
+labelsForm [] = some labels
+labelsForm (t ∷ ts) = none
 
 -- The forms: `A`, `R`, `P`, `W` or `L`, and what follows it.
 unfoldable pub form : List (List ℕ) → Option Command
@@ -79,7 +79,7 @@ form (t ∷ ts) =
     (cond (one (code "R") t) (made remove (only ts))
     (cond (one (code "P") t) (replacement ts)
     (cond (one (code "W") t) (made why (only ts))
-    (cond (one (code "L") t) (listing ts) none))))
+    (cond (one (code "L") t) (labelsForm ts) none))))
 
 unfoldable pub command : List ℕ → Option Command
 command line = form (tokens line)

@@ -12,8 +12,8 @@ use Rattle.tokens.specs.Numerals.{numeral}
 use Rattle.sheet_lines.specs.Commands.{Command, add, replace, numerals, before, after, madeOfRule}
 use Rattle.sheet_lines.specs.Readings.{commandOf}
 use Rattle.sheet_lines.specs.declared.Command as declared
-use Rattle.sheet_lines.specs.declared.read.Change.{Change}
-use Rattle.sheet_lines.specs.declared.read.Change.the-variants.{Adds, Replaces}
+use Rattle.sheet_lines.specs.declared.read.Purpose.{Purpose}
+use Rattle.sheet_lines.specs.declared.read.Purpose.the-variants.{Adds, Replaces}
 use Rattle.sheet_lines.specs.declared.read.Numbers.{Numbers}
 
 -- The numbers that tokens begin with, up to the first token that is none; and the tokens from that one on.
@@ -33,18 +33,18 @@ unfoldable pub pastNumbers : List (List ℕ) → List (List ℕ)
 pastNumbers [] = []
 pastNumbers (t ∷ ts) = tailIf (numeral t) (t ∷ ts) (pastNumbers ts)
 
--- The command that a change is, of a rule's head and lists.
-abbrev pub changeOf : Change → ℕ → List ℕ → List ℕ → Command
-changeOf Adds = add
-changeOf (Replaces slot) = replace slot
+-- The command of a rule's head and lists, for what the rule is stated.
+abbrev pub commandFor : Purpose → ℕ → List ℕ → List ℕ → Command
+commandFor Adds = add
+commandFor (Replaces slot) = replace slot
 
--- The code's command is the change with this head, whatever the lists beside it.
-abbrev pub IsChange : Change → ℕ → declared.Command → Type 0
-IsChange c h x = (ps ns : List ℕ) → commandOf x ps ns ≡ changeOf c h ps ns
+-- The code's command is the one for that, with this head, whatever the lists beside it.
+abbrev pub IsCommandFor : Purpose → ℕ → declared.Command → Type 0
+IsCommandFor c h x = (ps ns : List ℕ) → commandOf x ps ns ≡ commandFor c h ps ns
 
--- The change with this head whose lists the tokens are.
-abbrev pub listed : Change → ℕ → List (List ℕ) → Option Command
-listed c h ts = madeOfRule (changeOf c) (some h) (numerals (before ts)) (numerals (after ts))
+-- The command for that with this head, whose lists the tokens are.
+abbrev pub ruleCommand : Purpose → ℕ → List (List ℕ) → Option Command
+ruleCommand c h ts = madeOfRule (commandFor c) (some h) (numerals (before ts)) (numerals (after ts))
 
 -- The numbers that the line begins with from a place on were stored behind the first k of xs.
 pub record Collected (line xs : List ℕ) (k : ℕ) (from : Place) (r : Numbers) : Type 0 where

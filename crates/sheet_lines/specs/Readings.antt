@@ -19,9 +19,9 @@ use Rattle.sheet_lines.specs.declared.Parsed.{Parsed}
 abbrev pub LINE : ℕ
 LINE = 120
 
--- Room for the entries of one line, which has 60 tokens at most.
-abbrev pub ENTRIES : ℕ
-ENTRIES = 60
+-- The most tokens of a line, which are parted by spaces: room for the entries of one line.
+abbrev pub TOKENS : ℕ
+TOKENS = 60
 
 unfoldable pub spaces : List ℕ → Bool
 spaces [] = true
@@ -60,9 +60,15 @@ lineOf reading-of.TooLong ps ns = too-long
 lineOf reading-of.NoCommand ps ns = no-command
 lineOf (reading-of.Command c) ps ns = is (commandOf c ps ns)
 
+-- The lists of a rule, as they stand beside it.
+abbrev pub positivesIn : Parsed → List ℕ
+positivesIn r = take (r .positives) (r .entries)
+
+abbrev pub negativesIn : Parsed → List ℕ
+negativesIn r = take (r .negatives) (drop (r .positives) (r .entries))
+
 abbrev pub readingOf : Parsed → Line
-readingOf r =
-    lineOf (r .reading) (take (r .positives) (r .entries)) (take (r .negatives) (drop (r .positives) (r .entries)))
+readingOf r = lineOf (r .reading) (positivesIn r) (negativesIn r)
 
 -- The lists of a line: those of an addition or a replacement; any other line has none.
 abbrev pub listsOf : Line → List ℕ × List ℕ
@@ -87,5 +93,5 @@ pub record Answers (l : Line) (r : Parsed) : Type 0 where
   pub meaning : readingOf r ≡ l
   pub positives : r .positives ≡ length (positivesOf l)
   pub negatives : r .negatives ≡ length (negativesOf l)
-  pub within : r .positives + r .negatives ≤ ENTRIES
-  pub filler : drop (r .positives + r .negatives) (r .entries) ≡ replicate (ENTRIES - (r .positives + r .negatives)) 0
+  pub within : r .positives + r .negatives ≤ TOKENS
+  pub filler : drop (r .positives + r .negatives) (r .entries) ≡ replicate (TOKENS - (r .positives + r .negatives)) 0

@@ -28,13 +28,13 @@ pub struct Parsed {
     pub reading: Reading,
     pub positives: usize,
     pub negatives: usize,
-    pub entries: [u32; Parsed::ENTRIES],
+    pub entries: [u32; Parsed::TOKENS],
 }
 
 impl Parsed {
     // The most bytes of a line, its newline not counted.
     pub const LINE: usize = 120;
 
-    // Room for every entry of a line: a line has at most 60 tokens.
-    pub const ENTRIES: usize = 60;
+    // The most tokens of a line, which are parted by spaces: room for every entry.
+    pub const TOKENS: usize = Parsed::LINE / 2;
 }

@@ -17,28 +17,28 @@ ghost use lib.ListN.{length, drop};
 ghost use Rattle.places.specs.Places.{Onward};
 ghost use Rattle.tokens.specs.Tokens.{tokens};
 ghost use Rattle.sheet_lines.specs.Commands.{remove, why, made, only, ruleForm, command};
-ghost use Rattle.sheet_lines.specs.Commands.{replacement as replacement-of, listing as listing-of};
-ghost use Rattle.sheet_lines.specs.Readings.{Answers, LINE, ENTRIES, whether, lineOf};
+ghost use Rattle.sheet_lines.specs.Commands.{replacement as replacement-of, labelsForm as labels-form-of};
+ghost use Rattle.sheet_lines.specs.Readings.{Answers, LINE, TOKENS, whether, lineOf};
 ghost use Rattle.sheet_lines.specs.Readings.{reading as reading-of};
-ghost use Rattle.sheet_lines.specs.Parts.{changeOf, IsChange, listed, Collected};
+ghost use Rattle.sheet_lines.specs.Parts.{commandFor, IsCommandFor, ruleCommand, Collected};
 
-// What becomes of the rule that a line states: it is added, or it replaces the rule in a slot.
-enum Change {
+// What the rule of a line is stated for: it is added, or it replaces the rule in a slot.
+enum Purpose {
     Adds,
     Replaces(u32),
 }
 
 // The first count of the entries are numbers that were read. The rest of the line begins at next.
 struct Numbers {
-    entries: [u32; Parsed::ENTRIES],
+    entries: [u32; Parsed::TOKENS],
     count: usize,
     next: Place,
 }
 
 // Reads numbers up to the first token that is none, and puts them behind those that are known.
-fn collect(line: &[u8], known: [u32; Parsed::ENTRIES], size: usize, place: Place) -> Numbers
+fn collect(line: &[u8], known: [u32; Parsed::TOKENS], size: usize, place: Place) -> Numbers
     requires { ⌜ place .offset ≤ length (now line) ⌝ }
-    requires { ⌜ size + length (tokens (drop (place .offset) (now line))) ≤ ENTRIES ⌝ }
+    requires { ⌜ size + length (tokens (drop (place .offset) (now line))) ≤ TOKENS ⌝ }
     ensures { λ r. ⌜ Collected (now (line .entry)) known size place r ⌝ }
 {
     let mut entries = known;
@@ -63,7 +63,7 @@ fn collect(line: &[u8], known: [u32; Parsed::ENTRIES], size: usize, place: Place
 }
 
 // A reading with no entries, and the place that was come to.
-fn plain(reading: Reading, place: Place) -> Parsed
+pub fn plain(reading: Reading, place: Place) -> Parsed
     ensures { λ r. ⌜ Answers (lineOf reading [] []) r ⌝ }
     ensures { λ r. ⌜ r .place ≡ place ⌝ }
 {
@@ -72,32 +72,32 @@ fn plain(reading: Reading, place: Place) -> Parsed
         reading: reading,
         positives: 0,
         negatives: 0,
-        entries: [0; Parsed::ENTRIES],
+        entries: [0; Parsed::TOKENS],
     }
 }
 
-// The command that a change is, with the head of its rule.
-fn with_head(change: Change, head: u32) -> Command
-    ensures { λ r. ⌜ IsChange change head r ⌝ }
+// The command of a rule with this head, for what it is stated.
+fn with_head(purpose: Purpose, head: u32) -> Command
+    ensures { λ r. ⌜ IsCommandFor purpose head r ⌝ }
 {
-    match change {
-        Change::Adds => Command::Add(head),
-        Change::Replaces(slot) => Command::Replace(slot, head),
+    match purpose {
+        Purpose::Adds => Command::Add(head),
+        Purpose::Replaces(slot) => Command::Replace(slot, head),
     }
 }
 
 // The lists of a rule, with its head.
-fn lists(line: &[u8], change: Change, head: u32, place: Place) -> Parsed
+fn lists(line: &[u8], purpose: Purpose, head: u32, place: Place) -> Parsed
     requires { ⌜ place .offset ≤ length (now line) ⌝ }
-    requires { ⌜ length (tokens (drop (place .offset) (now line))) ≤ ENTRIES ⌝ }
-    ensures { λ r. ⌜ Answers (whether (listed change head (tokens (drop (place .offset) (now (line .entry)))))) r ⌝ }
+    requires { ⌜ length (tokens (drop (place .offset) (now line))) ≤ TOKENS ⌝ }
+    ensures { λ r. ⌜ Answers (whether (ruleCommand purpose head (tokens (drop (place .offset) (now (line .entry)))))) r ⌝ }
     ensures { λ r. ⌜ Onward (now (line .entry)) place (r .place) ⌝ }
 {
-    let p = collect(line, [0; Parsed::ENTRIES], 0, place);
+    let p = collect(line, [0; Parsed::TOKENS], 0, place);
     let positives = p.count;
     let rest = p.next;
     let found = p.entries;
-    let reading = Reading::Command(with_head(change, head));
+    let reading = Reading::Command(with_head(purpose, head));
     if ended(line, rest) {
         return Parsed {
             place: rest,
@@ -130,10 +130,10 @@ fn lists(line: &[u8], change: Change, head: u32, place: Place) -> Parsed
 }
 
 // What follows the `A` of an addition, or the slot of a replacement.
-fn rule(line: &[u8], place: Place, change: Change) -> Parsed
+fn rule(line: &[u8], place: Place, purpose: Purpose) -> Parsed
     requires { ⌜ place .offset ≤ length (now line) ⌝ }
-    requires { ⌜ length (tokens (drop (place .offset) (now line))) ≤ ENTRIES ⌝ }
-    ensures { λ r. ⌜ Answers (whether (ruleForm (changeOf change)
+    requires { ⌜ length (tokens (drop (place .offset) (now line))) ≤ TOKENS ⌝ }
+    ensures { λ r. ⌜ Answers (whether (ruleForm (commandFor purpose)
         (tokens (drop (place .offset) (now (line .entry)))))) r ⌝ }
     ensures { λ r. ⌜ Onward (now (line .entry)) place (r .place) ⌝ }
 {
@@ -151,13 +151,13 @@ fn rule(line: &[u8], place: Place, change: Change) -> Parsed
     if !is(&line[from..to], b':') {
         return plain(Reading::NoCommand, next);
     }
-    lists(line, change, head, next)
+    lists(line, purpose, head, next)
 }
 
 // What follows the `P` of a replacement: a slot, and then a rule.
 fn replacement(line: &[u8], place: Place) -> Parsed
     requires { ⌜ place .offset ≤ length (now line) ⌝ }
-    requires { ⌜ length (tokens (drop (place .offset) (now line))) ≤ ENTRIES ⌝ }
+    requires { ⌜ length (tokens (drop (place .offset) (now line))) ≤ TOKENS ⌝ }
     ensures { λ r. ⌜ Answers (whether (replacement-of (tokens (drop (place .offset) (now (line .entry)))))) r ⌝ }
     ensures { λ r. ⌜ Onward (now (line .entry)) place (r .place) ⌝ }
 {
@@ -168,7 +168,7 @@ fn replacement(line: &[u8], place: Place) -> Parsed
     let Number::Is(slot) = numeral(&line[start..end]) else {
         return plain(Reading::NoCommand, next);
     };
-    rule(line, next, Change::Replaces(slot))
+    rule(line, next, Purpose::Replaces(slot))
 }
 
 // What follows the `R` of a removal, or else the `W` of a request for a reason: one number.
@@ -195,8 +195,8 @@ fn numbered(line: &[u8], place: Place, removes: bool) -> Parsed
 }
 
 // What follows the `L` of a request for the labels.
-fn listing(line: &[u8], place: Place) -> Parsed
-    ensures { λ r. ⌜ Answers (whether (listing-of (tokens (drop (place .offset) (now (line .entry)))))) r ⌝ }
+fn labels_form(line: &[u8], place: Place) -> Parsed
+    ensures { λ r. ⌜ Answers (whether (labels-form-of (tokens (drop (place .offset) (now (line .entry)))))) r ⌝ }
     ensures { λ r. ⌜ Onward (now (line .entry)) place (r .place) ⌝ }
 {
     if !ended(line, place) {
@@ -218,7 +218,7 @@ fn form(line: &[u8], place: Place) -> Parsed
     let end = next.offset;
     let word = &line[start..end];
     if is(word, b'A') {
-        return rule(line, next, Change::Adds);
+        return rule(line, next, Purpose::Adds);
     }
     if is(word, b'R') {
         return numbered(line, next, true);
@@ -230,7 +230,7 @@ fn form(line: &[u8], place: Place) -> Parsed
         return numbered(line, next, false);
     }
     if is(word, b'L') {
-        return listing(line, next);
+        return labels_form(line, next);
     }
     plain(Reading::NoCommand, next)
 }

@@ -148,7 +148,8 @@ last-seen {B} {n} {out} [] f =
     subst (LinesPrint B n []) (sym e) no-line
 last-seen {B} {n} {out} (b ∷ z) f = subst (LinesPrint B n ((b ∷ z) ∷ [])) (append-nil out) (one-line out f no-line)
 
--- Every line of a sheet meets a sound table: so none, `L` and `W` among them, meets question 15.
+-- Every line of a sheet meets a sound table: so none, `L` and `W` among them, meets question 15. The empty table is
+-- sound, each line that ends makes the calls that it is, and calls lead from a sound table to a sound one.
 pub never-15 : {v : State} {bs out : List ℕ} → Reads start bs out v → Sound (v .table)
 never-15 r = trace-agrees empty-sound (so-far empty-sound r .trace) .sound
 
@@ -187,11 +188,14 @@ module _ {input out : List ℕ} (p : SheetPrints input out) where
       let joined = traces-join (before .trace) (last .trace) in
       traced (subst (λ (cs : List Call). Trace emptyTable cs (before .told ++ last .told) (p .after)) all-calls joined)
 
-  -- So the claim over sequences holds after it, of these calls.
+  -- So the claim over sequences holds after it, of these calls: `history` speaks of any calls that were made one after
+  -- another from the empty table, and those of a sheet were, whatever else its lines print.
   pub sheet-history : History (callsOf input) (bookAnswers (callsOf input)) (p .after)
   sheet-history = history (callsOf input) _ (p .after) sheet-trace
 
-  -- All that a sheet prints is what the plain book prints.
+  -- All that a sheet prints is what the plain book prints. Line by line: the table before a line has the book's pages
+  -- after the calls so far, so what the line prints by the table is what it prints by these pages; the lines that a
+  -- newline ends come first, then the last one.
   pub sheet-book : BookPrints input out
   sheet-book =
       let ls = endedLines [] input in
@@ -209,6 +213,7 @@ module _ {input out : List ℕ} (p : SheetPrints input out) where
       (subst (LinesPrint (held emptyTable) 1 (linesOf input)) (sym (p .whole))
       (lines-join (before .seen) (last-seen z seen)))
 
--- Where a sheet prints something, what the plain book prints of it is that and nothing else.
+-- Where a sheet prints something, what the plain book prints of it is that and nothing else: the book prints one list
+-- of bytes, and by the law before this is one that it prints.
 pub book-sheet : {input out more : List ℕ} → SheetPrints input out → BookPrints input more → more ≡ out
 book-sheet {input} p q = book-prints-unique input q (sheet-book p)

@@ -8,7 +8,7 @@ use Rattle.fields.specs.Texts.{bytes}
 use Rattle.tokens.specs.Tokens.{onto, pieces, filled, tokens}
 use Rattle.tokens.specs.Numerals.{digits, valueFrom, needless, spelledFrom, numeral}
 use Rattle.tokens.specs.Tokens.{one}
-use Rattle.sheet_lines.specs.Commands.{numerals, before, after, ruleForm, replacement, only, listing, form, command}
+use Rattle.sheet_lines.specs.Commands.{numerals, before, after, ruleForm, replacement, only, labelsForm, form, command}
 use Rattle.sheet_lines.specs.Readings.{spaces, blank, reading}
 use Rattle.sheet_meaning.specs.Calls.{endedLines, behindNewlines, linesOf, linesCalls, callsOf}
 
@@ -43,6 +43,6 @@ pub calls-shown :
     ∷ [])
     ∷ []
 unfolding bytes endedLines behindNewlines linesCalls reading blank spaces command form ruleForm replacement only
-    listing
+    labelsForm
     numerals before after one tokens pieces filled onto numeral digits needless spelledFrom valueFrom
 calls-shown = refl

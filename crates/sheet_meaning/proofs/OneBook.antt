@@ -66,6 +66,8 @@ lines-unique no-line no-line = refl
 lines-unique {B} {n} (one-line {line = l} printed f p) (one-line again g q) =
     ap₂ (λ (xs ys : List ℕ). xs ++ ys) (seen-unique B n (reading l) printed again f g) (lines-unique p q)
 
+-- The book prints one list of bytes of a sheet: its pages and the line's number determine what each line prints, since
+-- the unmuted rules have one admissible model.
 pub book-prints-unique :
     (input : List ℕ) {out more : List ℕ} → BookPrints input out → BookPrints input more → out ≡ more
 book-prints-unique input p q = lines-unique p q

@@ -110,6 +110,8 @@ ends-same t n (is sheet.labels) bs cs u v (inl (a, e), f) (inr q, h) = absurd (a
 ends-same t n (is sheet.labels) bs cs u v (inr p, f) (inl (b, g), h) = absurd (b (p .sound))
 ends-same t n (is sheet.labels) bs cs u v (inr p, f) (inr q, h) = (lists-same p q, f ∙ sym h)
 
+-- A line determines what it prints and the table after it: its bytes tell which command it is, and each call's contract
+-- determines its answer and the table after it.
 pub prints-unique :
     {t u v : Table} {n : ℕ} {line bs cs : List ℕ} → Prints t n line bs u → Prints t n line cs v
     → (bs ≡ cs) × (u ≡ v)
@@ -123,7 +125,8 @@ nothing e = let z : _≡_ {A = ℕ} 0 1 = cc in omega arith
 first-same : {b c : ℕ} {bs cs : List ℕ} → b ∷ bs ≡ c ∷ cs → (b ≡ c) × (bs ≡ cs)
 first-same e = (cc, cc)
 
--- The bytes of a sheet determine what they print and where the reading stands after them.
+-- The bytes of a sheet determine what they print and where the reading stands after them: byte for byte, a newline ends
+-- a line and no other byte does.
 pub reads-unique :
     {s z u v : State} {xs ys out more : List ℕ} → Reads s xs out u → Reads z ys more v → s ≡ z → xs ≡ ys
     → (out ≡ more) × (u ≡ v)

@@ -1,4 +1,5 @@
 // What a sheet does has no code of its own: its definitions are in specs/, the laws about them in proofs/.
+// The toolchain wants a function in every crate.
 pub fn holds() -> bool {
     true
 }

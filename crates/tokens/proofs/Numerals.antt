@@ -8,7 +8,7 @@ use mathlib.Core.List.{List, [], _∷_}
 use mathlib.Core.Option.{none, some}
 use lib.ListN.{length, getD, drop, drop-of-length-le}
 use lib.Seq.{drop-cons}
-use lib.Dec.{eqb}
+use lib.Dec.{eqb, leb}
 use borrow.Author.Tests.{le-leb, lt-leb, lt-ltb, le-ltb, eq-eqb, ne-eqb}
 use mathlib.Core.Bool.{and-true, and-false}
 use native.Mathlib.Nat.{lt-of-lt-of-le, pow-suc, pow-le-pow-right}
@@ -37,7 +37,7 @@ pub spelled-end : (t : List ℕ) (i n : ℕ) → length t ≤ i → some n ≡ s
 unfolding spelledFrom digits valueFrom
 spelled-end t i n h = rw (drop-of-length-le t h)
 
--- The tests before: the length, and a needless zero.
+-- The tests before: the length, and a needless zero, which no number has, however long.
 pub numeral-empty : (t : List ℕ) → length t ≡ 0 → none ≡ numeral t
 unfolding numeral
 numeral-empty t h = rw (lt-leb 1 (length t) (omega arith))
@@ -58,11 +58,11 @@ unfolding needless
 needless-short [] h = refl
 needless-short (b ∷ bs) h = let k : length bs ≤ 0 = omega arith in rw (le-ltb 0 (length bs) k) (and-false (eqb b 48))
 
-pub numeral-needless : (t : List ℕ) → 1 < length t → length t ≤ 5 → getD t 0 0 ≡ 48 → none ≡ numeral t
+pub numeral-needless : (t : List ℕ) → 1 < length t → getD t 0 0 ≡ 48 → none ≡ numeral t
 unfolding numeral
-numeral-needless t l h e =
+numeral-needless t l e =
     let k : 1 ≤ length t = omega arith in
-    rw (le-leb 1 (length t) k, le-leb (length t) 5 h, needless-is t l, eq-eqb (getD t 0 0) 48 e)
+    rw (le-leb 1 (length t) k, needless-is t l, eq-eqb (getD t 0 0) 48 e, and-false (leb (length t) 5))
 
 numeral-spelled : (t : List ℕ) → 1 ≤ length t → length t ≤ 5 → needless t ≡ false → spelledFrom 0 t ≡ numeral t
 unfolding numeral

@@ -6,13 +6,12 @@ use mathlib.Core.Bool.{Bool, true, false}
 use mathlib.Core.List.{List, [], _∷_}
 use lib.ListN.{length, take, drop, getD, length-drop}
 use lib.Seq.{drop-drop}
-use borrow.Author.Tests.{eqb-true, eq-eqb, le-leb, leb-true}
+use borrow.Author.Tests.{eq-eqb, ne-eqb, leb-true, leb-false}
 use lib.Dec.{eqb, leb, eqb·suc-suc, eqb·zero-suc}
 use Rattle.tokens.specs.Tokens.{inToken, onto, pieces, filled, tokens, one}
 use Rattle.places.specs.Places.{isSpace, leading}
 use Rattle.tokens.specs.Parts.{part, firstOf, restOf, empty}
 use Rattle.places.proofs.Leading.{leading-within, leading-spent}
-use Rattle.tokens.proofs.Tests.{either}
 
 -- Blanks in front.
 
@@ -98,13 +97,19 @@ empty-tokens (b ∷ s) = go (isSpace b) refl (empty-tokens s)
 pub empty-from : (line : List ℕ) (from end : ℕ) → end ≡ from + leading isSpace (drop from line)
     → leb (length line) end ≡ empty (tokens (drop from line))
 empty-from line from end e =
-    let n = length-drop from line in
-    let k = leading isSpace (drop from line) in
-    either (leb (length line) end) (eqb k (length (drop from line)))
-    (λ t. eq-eqb k (length (drop from line))
-    (omega (arith, leb-true (length line) end t, leading-within isSpace (drop from line))))
-    (λ t. le-leb (length line) end (omega (arith, eqb-true k (length (drop from line)) t)))
-    ∙ sym (empty-tokens (drop from line))
+    go (leb (length line) end) refl ∙ sym (empty-tokens (drop from line))
+  where
+    k : ℕ
+    k = leading isSpace (drop from line)
+
+    go : (t : Bool) → leb (length line) end ≡ t → leb (length line) end ≡ eqb k (length (drop from line))
+    go true t =
+        let all = leading-within isSpace (drop from line) in
+        let here = leb-true (length line) end t in
+        t ∙ sym (eq-eqb k (length (drop from line)) (omega (arith, here, all, length-drop from line)))
+    go false t =
+        let past = leb-false (length line) end t in
+        t ∙ sym (ne-eqb k (length (drop from line)) (λ h. omega (arith, past, h, length-drop from line)))
 
 -- Each token but the last has a space after it, so a line of n bytes has at most (n + 1) / 2 tokens.
 

@@ -37,6 +37,6 @@ pub record First (line : List ℕ) (from : Place) (t : Token) : Type 0 where
   pub first : part line (t .start) (t .next .offset) ≡ firstOf (tokens (drop (from .offset) line))
   pub rest : tokens (drop (t .next .offset) line) ≡ restOf (tokens (drop (from .offset) line))
 
-abbrev pub numberOf : Number → Option ℕ
-numberOf Missing = none
-numberOf (Is n) = some n
+abbrev pub asOption : Number → Option ℕ
+asOption Missing = none
+asOption (Is n) = some n

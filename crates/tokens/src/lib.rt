@@ -8,7 +8,7 @@ ghost use Rattle.places.specs.Places.{leading};
 ghost use Rattle.tokens.specs.Tokens.{inToken, tokens, one};
 ghost use Rattle.tokens.specs.Numerals.{spelledFrom};
 ghost use Rattle.tokens.specs.Numerals.{numeral as numeral-of};
-ghost use Rattle.tokens.specs.Parts.{empty, First, numberOf};
+ghost use Rattle.tokens.specs.Parts.{empty, First, asOption};
 
 // The bytes from start up to the place next are a token. Where no token is left, they are none.
 pub struct Token {
@@ -73,7 +73,7 @@ pub fn is(token: &[u8], byte: u8) -> bool
 // What a token spells, if it is of digits.
 fn value(token: &[u8]) -> Number
     requires { ⌜ length (now token) ≤ 5 ⌝ }
-    ensures { λ r. ⌜ numberOf r ≡ spelledFrom 0 (now (token .entry)) ⌝ }
+    ensures { λ r. ⌜ asOption r ≡ spelledFrom 0 (now (token .entry)) ⌝ }
 {
     let mut n: u32 = 0;
     let mut i: usize = 0;
@@ -93,7 +93,7 @@ fn value(token: &[u8]) -> Number
 
 // The number that a token is.
 pub fn numeral(token: &[u8]) -> Number
-    ensures { λ r. ⌜ numberOf r ≡ numeral-of (now (token .entry)) ⌝ }
+    ensures { λ r. ⌜ asOption r ≡ numeral-of (now (token .entry)) ⌝ }
 {
     let n = token.len();
     if n == 0 {

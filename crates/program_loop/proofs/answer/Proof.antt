@@ -26,7 +26,7 @@ some c =
     let piece = top .before .before .before .args .piece .now in
     let size = part-length (top .loop .from) piece in
     let here = ltb-true (top .loop .from) _ (test .if1 .taken) in
-    c .feed .ensures .1 .1 (omega (arith, size, here)) (omega (arith, top .loop .inv .1 .space))
+    c .feed .ensures .1 .some (omega (arith, size, here)) (omega (arith, top .loop .inv .1 .space))
 
 loop-holds : tie.Need-loop-holds Inv-loop μ-loop
 loop-holds c =

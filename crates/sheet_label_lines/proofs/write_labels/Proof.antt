@@ -24,9 +24,6 @@ abbrev μ-loop : tie.MeasureT-loop
 bytes-left-requires : tie.Need-bytes-left-requires Inv-loop μ-loop
 bytes-left-requires c κs = tt
 
-mul-if1 : tie.Need-mul-if1 Inv-loop μ-loop
-mul-if1 c = search needs
-
 returns : tie.Need-returns Inv-loop μ-loop
 returns c = wrote-none (omega arith)
 
@@ -85,7 +82,6 @@ write-labels-spec =
     Inv-loop
     μ-loop
     bytes-left-requires
-    mul-if1
     returns
     loop-holds
     mul-label

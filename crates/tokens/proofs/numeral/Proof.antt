@@ -12,13 +12,16 @@ returns : tie.Need-returns
 returns c = numeral-empty _ (c .if1 .taken)
 
 returns-2 : tie.Need-returns-2
-returns-2 c = numeral-long _ (c .if2 .taken)
+returns-2 c = numeral-long (c .before .before .before .args .token .now) (omega (arith, c .if2 .taken))
 
 shared-slice-read-if4 : tie.Need-shared-slice-read-if4
 shared-slice-read-if4 c = search needs
 
 returns-3 : tie.Need-returns-3
-returns-3 c = numeral-needless _ (c .before .before .if3 .taken) (c .before .before .before .if2 .left) (c .if4 .taken)
+returns-3 c =
+    let longer = c .before .before in
+    let token = longer .before .before .before .before .args .token .now in
+    numeral-needless token (omega (arith, longer .if3 .taken)) (c .if4 .taken)
 
 value-requires : tie.Need-value-requires
 value-requires c κs = search needs

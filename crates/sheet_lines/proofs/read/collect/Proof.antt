@@ -10,7 +10,7 @@ use borrow.Author.Needs.{needs}
 use Rattle.tokens.specs.Tokens.{tokens}
 use Rattle.places.specs.Places.{Onward}
 use Rattle.tokens.specs.Numerals.{numeral}
-use Rattle.tokens.specs.Parts.{firstOf, numberOf}
+use Rattle.tokens.specs.Parts.{firstOf, asOption}
 use Rattle.places.proofs.Places.{onward-here, onward-then}
 use Rattle.sheet_lines.proofs.Commands.{advance}
 use Rattle.sheet_lines.proofs.Entries.{Collecting, collect-start, collect-next}
@@ -62,7 +62,7 @@ returns c =
     let ts = tokens (drop (at .loop .next .offset) line) in
     let number : numeral (firstOf ts) ≡ none =
     sym (ap numeral (step .next-token .ensures .first))
-    ∙ sym (c .before .before .numeral .ensures) ∙ ap numberOf (c .enum-told .given .1) in
+    ∙ sym (c .before .before .numeral .ensures) ∙ ap asOption (c .enum-told .given .1) in
     record {
       entries = collect-entries _ _ _ _ _ ts (at .loop .inv .2) number;
       count = collect-count _ _ _ _ _ ts (at .loop .inv .2) number;
@@ -80,7 +80,7 @@ left c =
 number : (c : tie.After-known-told Inv-loop μ-loop) → numeral (firstOf (left c)) ≡ some (c .before .n .given .0 .0)
 number c =
     sym (ap numeral (c .before .before .before .before .before .before .next-token .ensures .first))
-    ∙ sym (c .before .before .before .numeral .ensures) ∙ ap numberOf (c .before .n .given .1)
+    ∙ sym (c .before .before .before .numeral .ensures) ∙ ap asOption (c .before .n .given .1)
 
 mul-entries : tie.Need-mul-entries Inv-loop μ-loop
 mul-entries c = search needs

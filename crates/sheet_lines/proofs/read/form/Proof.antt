@@ -7,8 +7,8 @@ use mathlib.Core.List.{List}
 use lib.ListN.{length, drop}
 use borrow.Author.Needs.{needs}
 use Rattle.tokens.specs.Tokens.{tokens, one}
-use Rattle.sheet_lines.specs.Commands.{add, remove, why, ruleForm, replacement, only, made, listing, command}
-use Rattle.sheet_lines.specs.Readings.{ENTRIES, whether}
+use Rattle.sheet_lines.specs.Commands.{add, remove, why, ruleForm, replacement, only, made, labelsForm, command}
+use Rattle.sheet_lines.specs.Readings.{TOKENS, whether}
 use Rattle.tokens.specs.Parts.{part, firstOf, restOf}
 use Rattle.places.proofs.Places.{onward-then, onward-to}
 use Rattle.tokens.proofs.Tokens.{tokens-bound}
@@ -35,7 +35,7 @@ inside : (c : tie.After-next-token) → c .next-token .result .next .offset ≤ 
 inside c = c .next-token .ensures .onward .not-past (c .before .before .pre .0)
 
 few : (c : tie.After-next-token) → length
-    (tokens (drop (c .next-token .result .next .offset) (c .before .before .args .line .now))) ≤ ENTRIES
+    (tokens (drop (c .next-token .result .next .offset) (c .before .before .args .line .now))) ≤ TOKENS
 few c =
     let s = c .before .before in
     omega (
@@ -144,8 +144,8 @@ returns-4 c =
 is-requires-5 : tie.Need-is-requires-5
 is-requires-5 c κs = tt
 
-listing-requires : tie.Need-listing-requires
-listing-requires c κs = tt
+labels-form-requires : tie.Need-labels-form-requires
+labels-form-requires c κs = tt
 
 returns-5 : tie.Need-returns-5
 unfolding command
@@ -156,14 +156,14 @@ returns-5 c =
     let r = p .before .before in
     let i = r .before .before in
     let t = i .before .before .before in (
-      as-read (c .listing .ensures .0)
-          (ap whether (ap listing (behind t)
+      as-read (c .labels-form .ensures .0)
+          (ap whether (ap labelsForm (behind t)
           ∙ form-labels _
           (told t 65 (i .is .ensures) (r .before .if1 .left))
           (told t 82 (r .is2 .ensures) (p .before .if2 .left))
           (told t 80 (p .is3 .ensures) (w .before .if3 .left))
           (told t 87 (w .is4 .ensures) (l .before .if4 .left)) (told t 76 (l .is5 .ensures) (c .before .if5 .taken)))),
-      onward-then (t .next-token .ensures .onward) (c .listing .ensures .1),
+      onward-then (t .next-token .ensures .onward) (c .labels-form .ensures .1),
     )
 
 plain-requires : tie.Need-plain-requires
@@ -208,7 +208,7 @@ form-spec =
     numbered-requires-2
     returns-4
     is-requires-5
-    listing-requires
+    labels-form-requires
     returns-5
     plain-requires
     returns-6)

@@ -96,10 +96,10 @@ returns c =
     let count : p .result .count ≡ length (leadingNumbers ts) = omega (arith, p .ensures .count) in
     let size : length (leadingNumbers ts) + length {A = ℕ} [] ≤ 60 = omega (arith, numbers-length ts, s .pre .1) in (
       as-read
-          (lists-answer (s .args .change) (s .args .head) (w .result) (w .ensures)
+          (lists-answer (s .args .purpose) (s .args .head) (w .result) (w .ensures)
           (p .result .next) (leadingNumbers ts) [] (p .result .count) 0 (p .result .entries)
           size count refl (p .ensures .entries))
-          (said-over (s .args .change) (s .args .head) ts (sym (no-more e) ∙ c .if1 .taken)),
+          (said-over (s .args .purpose) (s .args .head) ts (sym (no-more e) ∙ c .if1 .taken)),
       p .ensures .onward,
     )
 
@@ -127,7 +127,7 @@ returns-2 c =
     let t = i .before .before .before in
     let s = found t .before .before in (
       as-read (c .plain .ensures .0)
-          (said-spoiled (s .args .change) (s .args .head) (all s)
+          (said-spoiled (s .args .purpose) (s .args .head) (all s)
           (sym (no-more (t .before .before)) ∙ t .before .if1 .left)
           (sym (bang i) ∙ not-true _ (c .before .if2 .taken))),
       onward-to (to-token t) (c .plain .ensures .1),
@@ -154,7 +154,7 @@ returns-3 c =
     let t = i .before .before .before in
     let s = found t .before .before in (
       as-read (c .plain2 .ensures .0)
-          (said-parted-spoiled (s .args .change) (s .args .head) (all s)
+          (said-parted-spoiled (s .args .purpose) (s .args .head) (all s)
           (sym (bang i) ∙ not-false _ (e .before .before .before .if2 .left))
           (sym (no-more-behind e) ∙ not-true _ (c .before .if3 .taken))),
       onward-to (to-last e) (c .plain2 .ensures .1),
@@ -184,10 +184,10 @@ returns-4 c =
     ∙ ap (λ ts. sets (p .result .entries) (p .result .count) (leadingNumbers ts)) (behind t)
     ∙ ap (λ xs. sets xs (p .result .count) ns) (p .ensures .entries) in (
       as-read
-          (lists-answer (s .args .change) (s .args .head) (w .result) (w .ensures)
+          (lists-answer (s .args .purpose) (s .args .head) (w .result) (w .ensures)
           (n .result .next) ps ns (p .result .count) (n .result .count - p .result .count) (n .result .entries)
           (size s) count more entries)
-          (said-parted (s .args .change) (s .args .head) (all s)
+          (said-parted (s .args .purpose) (s .args .head) (all s)
           (sym (bang i) ∙ not-false _ (e .before .before .before .if2 .left))
           (sym (no-more-behind e) ∙ not-false _ (c .before .before .if3 .left))),
       to-last e,

@@ -10,7 +10,7 @@ use Rattle.tokens.specs.Tokens.{tokens}
 use Rattle.tokens.specs.Numerals.{numeral}
 use Rattle.sheet_lines.specs.Commands.{remove, why, only, made}
 use Rattle.sheet_lines.specs.Readings.{whether}
-use Rattle.tokens.specs.Parts.{empty, numberOf}
+use Rattle.tokens.specs.Parts.{empty, asOption}
 use Rattle.places.proofs.Places.{onward-to}
 use Rattle.sheet_lines.proofs.Commands.{only-last, only-more}
 use Rattle.sheet_lines.proofs.Answers.{as-read, made-read}
@@ -33,7 +33,7 @@ module _ (c : tie.After-numeral) where
   abbrev start : tie.Start
   start = token done .before .before
 
-  number : numberOf (c .numeral .result) ≡ only (tokens (drop (start .args .place .offset) (start .args .line .now)))
+  number : asOption (c .numeral .result) ≡ only (tokens (drop (start .args .place .offset) (start .args .line .now)))
   number =
       c .numeral .ensures
       ∙ ap numeral (token done .next-token .ensures .first)

@@ -56,7 +56,9 @@ returns-2 c =
 form-requires : tie.Need-form-requires
 form-requires c κs =
     let e = c .before in
-    (some-left _ _ (sym (e .ended .ensures) ∙ c .if2 .left), few e)
+    let b = e .before .before in
+    let inside : place b .offset ≤ length (line b) = some-left _ _ (sym (e .ended .ensures) ∙ c .if2 .left) in
+    (omega (arith, inside), few e)
 
 returns-3 : tie.Need-returns-3
 returns-3 c =

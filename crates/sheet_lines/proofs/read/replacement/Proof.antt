@@ -7,7 +7,7 @@ use lib.ListN.{length, drop}
 use borrow.Author.Needs.{needs}
 use Rattle.tokens.specs.Tokens.{tokens}
 use Rattle.tokens.specs.Numerals.{numeral}
-use Rattle.tokens.specs.Parts.{firstOf, numberOf}
+use Rattle.tokens.specs.Parts.{firstOf, asOption}
 use Rattle.sheet_lines.specs.Commands.{replace, ruleForm}
 use Rattle.sheet_lines.specs.Readings.{whether}
 use Rattle.places.proofs.Places.{onward-then, onward-to}
@@ -23,7 +23,7 @@ all c = tokens (drop (c .args .place .offset) (c .args .line .now))
 abbrev token : tie.After-numeral → tie.After-next-token
 token c = c .before .before .before
 
-slot-is : (c : tie.After-numeral) → numberOf (c .numeral .result) ≡ numeral (firstOf (all (token c .before .before)))
+slot-is : (c : tie.After-numeral) → asOption (c .numeral .result) ≡ numeral (firstOf (all (token c .before .before)))
 slot-is c = c .numeral .ensures ∙ ap numeral (token c .next-token .ensures .first)
 
 next-token-requires : tie.Need-next-token-requires
@@ -55,7 +55,7 @@ returns c =
     let told = c .before in
     let m = told .before .before in (
       as-read (c .plain .ensures .0)
-          (ap whether (replacement-no-slot _ (sym (slot-is m) ∙ ap numberOf (told .enum-told .given .1)))),
+          (ap whether (replacement-no-slot _ (sym (slot-is m) ∙ ap asOption (told .enum-told .given .1)))),
       onward-to (token m .next-token .ensures .onward) (c .plain .ensures .1),
     )
 
@@ -75,7 +75,7 @@ returns-2 c =
     let slot = known .slot .given .0 .0 in (
       as-read (c .rule .ensures .0)
           (ap whether (ap (ruleForm (replace slot)) (t .next-token .ensures .rest)
-          ∙ replacement-is _ slot (sym (slot-is m) ∙ ap numberOf (known .slot .given .1)))),
+          ∙ replacement-is _ slot (sym (slot-is m) ∙ ap asOption (known .slot .given .1)))),
       onward-then (t .next-token .ensures .onward) (c .rule .ensures .1),
     )
 

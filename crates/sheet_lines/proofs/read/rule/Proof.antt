@@ -11,7 +11,7 @@ use Rattle.places.specs.Places.{Onward}
 use Rattle.tokens.specs.Numerals.{numeral}
 use Rattle.tokens.specs.Tokens.{one}
 use Rattle.sheet_lines.specs.Readings.{whether}
-use Rattle.tokens.specs.Parts.{part, firstOf, restOf, numberOf}
+use Rattle.tokens.specs.Parts.{part, firstOf, restOf, asOption}
 use Rattle.places.proofs.Places.{onward-then, onward-to}
 use Rattle.sheet_lines.proofs.Commands.{rule-no-head, rule-no-sign, rule-is}
 use Rattle.sheet_lines.proofs.Answers.{as-read, rest-length}
@@ -23,7 +23,7 @@ abbrev all : tie.Start → List (List ℕ)
 all c = tokens (drop (c .args .place .offset) (c .args .line .now))
 
 head-is : (c : tie.After-numeral)
-    → numberOf (c .numeral .result) ≡ numeral (firstOf (all (c .before .before .before .before .before)))
+    → asOption (c .numeral .result) ≡ numeral (firstOf (all (c .before .before .before .before .before)))
 head-is c = c .numeral .ensures ∙ ap numeral (c .before .before .before .next-token .ensures .first)
 
 abbrev start : tie.After-next-token2 → tie.Start
@@ -79,8 +79,8 @@ returns c =
     let t = told .before .before .before .before .before in
     let s = t .before .before in (
       as-read (c .plain .ensures .0)
-          (ap whether (rule-no-head (s .args .change) (all s)
-          (sym (head-is (told .before .before)) ∙ ap numberOf (told .enum-told .given .1)))),
+          (ap whether (rule-no-head (s .args .purpose) (all s)
+          (sym (head-is (told .before .before)) ∙ ap asOption (told .enum-told .given .1)))),
       onward-to (t .next-token .ensures .onward) (c .plain .ensures .1),
     )
 
@@ -108,7 +108,7 @@ returns-2 c =
     let t = i .before .before .before in
     let s = start t in (
       as-read (c .plain2 .ensures .0)
-          (ap whether (rule-no-sign (s .args .change) (all s) (sym (sign-is i) ∙ not-true _ (c .before .if1 .taken)))),
+          (ap whether (rule-no-sign (s .args .purpose) (all s) (sym (sign-is i) ∙ not-true _ (c .before .if1 .taken)))),
       onward-to (to-sign t) (c .plain2 .ensures .1),
     )
 
@@ -127,8 +127,8 @@ returns-3 c =
     let known = t .before .before in
     let ts = all (start t) in (
       as-read (c .lists .ensures .0)
-          (ap whether (rule-is (start t .args .change) ts (known .head .given .0 .0) _
-          (sym (head-is (known .before .before)) ∙ ap numberOf (known .head .given .1))
+          (ap whether (rule-is (start t .args .purpose) ts (known .head .given .0 .0) _
+          (sym (head-is (known .before .before)) ∙ ap asOption (known .head .given .1))
           (sym (sign-is i) ∙ not-false _ (c .before .if1 .left))
           (behind t))),
       onward-then (to-sign t) (c .lists .ensures .1),

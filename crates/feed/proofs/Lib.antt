@@ -1,3 +1,0 @@
--- The laws that the functions' proofs cite, and what follows for a whole sheet.
-pub mod Replying
-pub mod Whole

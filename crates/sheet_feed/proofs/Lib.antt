@@ -1,0 +1,3 @@
+-- The laws that the functions' proofs cite, and what follows for a whole sheet.
+pub mod Feeding
+pub mod Whole

@@ -1,0 +1,4 @@
+-- The laws that the functions' proofs cite.
+pub mod Judging
+pub mod Reading
+pub mod Scanning
