@@ -37,7 +37,8 @@ use Rattle.checklist_meaning.specs.Questions.{lacks}
 use Rattle.checklist_meaning.specs.Contracts as ends
 use Rattle.checklist_meaning.specs.Contracts.{CompleteEnds, MissingEnds, tellComplete}
 use Rattle.checklist.specs.Parts.{Lacking}
-use Rattle.checklist_frame.proofs.Frames.{on-list-between, between-on-list, checklist-of, mark-below, sent-mark, skipped-mark}
+use Rattle.checklist_frame.proofs.Frames.{on-list-between, between-on-list, checklist-of, mark-below, sent-mark}
+use Rattle.checklist_frame.proofs.Frames.{skipped-mark}
 use Rattle.checklist_meaning.proofs.Model.{mark-in}
 use Rattle.checklist.proofs.Labels.{Told, told-absent, told-out, told-in, told-refused, in?, model-in}
 

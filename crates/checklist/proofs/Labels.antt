@@ -88,7 +88,8 @@ module _ (t : Table) (a : ℕ) where
       a < document .atoms → {x : LabelAnswer} → LabelEnds t a x → {f : Refusal} → x ≡ label.Refused f
       → (f ≡ TableUnsound) × (Sound t → ⊥)
   told-refused l (contract.unsound n) e = (sym (ap why e), n)
-  told-refused l (contract.refused f S q) e = absurd (Option·none-ne-some _ (sym (atom-yes a true (sym (lt-ltb a (document .atoms) l)) refl) ∙ q))
+  told-refused l (contract.refused f S q) e =
+      absurd (Option·none-ne-some _ (sym (atom-yes a true (sym (lt-ltb a (document .atoms) l)) refl) ∙ q))
   told-refused l (contract.accepted M k S q A L) e =
       absurd (true≢false (sym (ap refused? e) ∙ label-not-refused k))
 

@@ -36,7 +36,8 @@ use Rattle.checklist_meaning.specs.Contracts.{OpenEnds, FileEnds, MissingEnds, 
 use Rattle.checklist_deposits.specs.Standing.{was-accepted, sent-by, standing-by, unless-refused, after-calls}
 use Rattle.checklist_deposits.specs.Standing.{been-sent, skip-standing}
 use Rattle.checklist_frame.proofs.Frames.{on-list-between, between-on-list, of-checklist, sent-mark, skipped-mark}
-use Rattle.checklist_meaning.proofs.Marks.{Single, free-slot, added-checklist, added-marked, removed-checklist, removed-marked}
+use Rattle.checklist_meaning.proofs.Marks.{Single, free-slot, added-checklist, added-marked, removed-checklist}
+use Rattle.checklist_meaning.proofs.Marks.{removed-marked}
 use Rattle.checklist_meaning.proofs.Model.{complete-iff}
 use Rattle.checklist_meaning.proofs.Shown.{AllClear, Missing, counted, count-clear, clear-count}
 use Rattle.checklist_meaning.proofs.Shown.{complete-clear, clear-complete, no-checklist-file, empty-no-files}
@@ -313,10 +314,10 @@ asked-files n e =
     let a = first-no-none (asks 21 (leb 1 n && leb n most-files)) [] e .0 in
     (leb-le 1 n (and-l (leb 1 n) _ a), leb-le n most-files (and-r (leb 1 n) _ a))
 
--- Request #106 over sequences. The opening leaves a checklist in which no mark stands. A call on a file leaves one of as
--- many files, with the marks changed as its words say if it was accepted, and as they were if not (`file-marked`). So by
--- induction the marks that stand are those that the calls and their answers tell (`trace-stands`), and off the marks
--- complete and the list of files are read (`complete-iff`, `missing-same`).
+-- Request #106 over sequences. The opening leaves a checklist in which no mark stands. A call on a file leaves one of
+-- as many files, with the marks changed as its words say if it was accepted, and as they were if not (`file-marked`).
+-- So by induction the marks that stand are those that the calls and their answers tell (`trace-stands`), and off the
+-- marks complete and the list of files are read (`complete-iff`, `missing-same`).
 pub deposit :
     (t : Table) (n : ℕ) (cs : List FileCall) (xs : List Answer) (u : Table)
     → Trace t (deposit-calls n cs) (accepted ∷ xs) u → Deposit n cs xs u

@@ -15,7 +15,8 @@ use Rattle.theory.specs.Rules.{Rule, Program, Page, Pages, all, passes}
 use Rattle.theory.proofs.Lists.{and-l, and-r, and-of, or-cases, or-l, or-r, unless, clash, eqb-eq, eqb-of}
 use Rattle.theory.proofs.Lists.{ltb-lt, lt-ltb, leb-le, le-leb, le-or-lt, any-at, any-of}
 use Rattle.theory.proofs.Lists.{first-place, first-in, first-exists, first-of}
-use Rattle.checklist_frame.specs.Frame.{Checklist, most-files, sent, skipped, good, fact, frame, files, is-mark, equal-lists}
+use Rattle.checklist_frame.specs.Frame.{Checklist, most-files, sent, skipped, good, fact, frame, files, is-mark}
+use Rattle.checklist_frame.specs.Frame.{equal-lists}
 use Rattle.checklist_frame.specs.Frame.{equal, free-or-mark, fits, fits-from, files-of, none-muted, on-list}
 use Rattle.checklist_frame.specs.Parts.{count-of}
 use Rattle.checklist_frame.proofs.Unmuted.{unmuted-page}

@@ -21,7 +21,8 @@ use Rattle.table.specs.declared.Rule.{Rule}
 use Rattle.table.specs.Rules.{numbers, pageOf, activeIn, ruleOf, bookOf, activeOf, noAtom, pastRule}
 use Rattle.table.proofs.Programs.{active-rule, active-some, active-state, active-place, book-at, page-free}
 use Rattle.table.proofs.Programs.{page-there, program-length}
-use Rattle.checklist_frame.specs.Frame.{MarkFact, Checklist, fact, frame, is-mark, files-of, none-muted, unmuted-on}
+use Rattle.checklist_frame.specs.Frame.{MarkFact, Checklist, fact, frame, is-mark, files-of, none-muted}
+use Rattle.checklist_frame.specs.Frame.{unmuted-on}
 use Rattle.checklist_frame.specs.Parts.{FreeOrMark, FrameRun, MarksBehind, count-of}
 use Rattle.checklist_frame.proofs.Unmuted.{active-all, active-page, page-active, unmuted-of, unmuted-page}
 use Rattle.checklist_frame.proofs.Frames.{frame-not-fact, of-checklist, no-files}

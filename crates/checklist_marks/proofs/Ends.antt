@@ -48,7 +48,8 @@ use Rattle.checklist_meaning.proofs.Marks.{rules-added, fact-slot}
 use Rattle.checklist_meaning.proofs.Model.{mark-in, mark-support}
 use Rattle.checklist_marks.specs.declared.AskedFile.{AskedFile}
 use Rattle.checklist_marks.specs.declared.AskedFile.the-variants as asked
-use Rattle.checklist_marks.specs.Parts.{FileAsked, FactAdded, taken, stands, other, FactRemoved, Handled, MarkAdded}
+use Rattle.checklist_marks.specs.Parts.{FileAsked, FactAdded, taken, stands, other, FactRemoved, Handled}
+use Rattle.checklist_marks.specs.Parts.{MarkAdded}
 use Rattle.checklist_marks.specs.Parts.{MarkRemoved}
 use Rattle.checklist_marks.specs.Parts as parts
 use Rattle.checklist.proofs.Labels.{Told, told-absent, told-out, told-in, told-refused}
@@ -153,8 +154,8 @@ module _ (t : Table) (S : Sound t) (n a : ℕ) (C : Checklist (held t) n) (m : i
   add-free : marked (held t) a ≡ false → first-no (add-questions document (all (held t)) (fact a)) ≡ none
   add-free u = add-asks ∙ first-no-yes (asks 5 _) [] (ap not (same-marked ∙ u)) ∙ (unfold first-no in refl)
 
--- File sent and file skipped: a call on a file of the list that adds the fact of its mark. The addition can be refused by
--- 5 alone (`add-asks`), and is exactly where the mark stands: so 22 is 5 under another number.
+-- File sent and file skipped: a call on a file of the list that adds the fact of its mark. The addition can be refused
+-- by 5 alone (`add-asks`), and is exactly where the mark stands: so 22 is 5 under another number.
 module _
     (t : Table) (c : FileCall) (n a : ℕ) (e : files-of (held t) ≡ some n) (l : on-list (some n) (file c) ≡ true)
     (m : is-mark n a ≡ true) where
@@ -187,8 +188,8 @@ module _
     mark-added adds (other (contract.refused f S q) not-five) =
         absurd (not-five (Option·some-injective _ _ (sym q ∙ add-stands t S n a C m (not-unmarked S q))))
 
-  -- Skip withdrawn: a call on a file of the list that removes it. Its atom is in exactly if the mark stands, and then the
-  -- slot that supports it holds its fact, and no other does.
+  -- Skip withdrawn: a call on a file of the list that removes it. Its atom is in exactly if the mark stands, and then
+  -- the slot that supports it holds its fact, and no other does.
   module _ (asks-mark : allowed (held t) c ≡ marked (held t) a) where
     withdrawn-out :
         {x : LabelAnswer} → Told t a x → in? x ≡ false → FileEnds t c (change.Refused MarkUnchanged) t

@@ -1,6 +1,6 @@
-// The calls on a file of a deposit checklist: file sent, file skipped, skip withdrawn. A library above the table: what it
-// asks and changes it does by the calls label, add and remove. Arguments are bare numbers; no call asks anything of its
-// caller.
+// The calls on a file of a deposit checklist: file sent, file skipped, skip withdrawn. A library above the table: what
+// it asks and changes it does by the calls label, add and remove. Arguments are bare numbers; no call asks anything of
+// its caller.
 use add_remove::add;
 use add_remove::remove;
 use calls::AddAnswer;

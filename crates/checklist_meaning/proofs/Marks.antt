@@ -24,7 +24,8 @@ use Rattle.theory.proofs.Questions.{held-below, set-held, set-other, other-set,
 use Rattle.theory.proofs.Cycles.{stratified-iff}
 use Rattle.theory.proofs.Strata.{strata-acyclic}
 use Rattle.theory.proofs.Sameness.{same-refl}
-use Rattle.checklist_frame.specs.Frame.{Checklist, MarkFact, none-muted, good, fact, frame, files, is-mark, equal, marked}
+use Rattle.checklist_frame.specs.Frame.{Checklist, MarkFact, none-muted, good, fact, frame, files, is-mark, equal}
+use Rattle.checklist_frame.specs.Frame.{marked}
 use Rattle.checklist_frame.specs.Frame.{first-slot}
 use Rattle.checklist_meaning.specs.Book.{with-fact}
 use Rattle.checklist_frame.proofs.Unmuted.{unmuted-set}

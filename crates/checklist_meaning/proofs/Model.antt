@@ -18,7 +18,8 @@ use Rattle.theory.proofs.Pages.{active-held}
 use Rattle.checklist_frame.specs.Frame.{Checklist, sent, skipped, good, fact, frame, on-list, is-mark, marked}
 use Rattle.checklist_meaning.specs.Questions.{lacks}
 use Rattle.checklist_frame.proofs.Unmuted.{active-all}
-use Rattle.checklist_frame.proofs.Frames.{in-one, on-list-between, between-on-list, mark-not-good, sent-mark, skipped-mark}
+use Rattle.checklist_frame.proofs.Frames.{in-one, on-list-between, between-on-list, mark-not-good, sent-mark}
+use Rattle.checklist_frame.proofs.Frames.{skipped-mark}
 use Rattle.checklist_meaning.proofs.Marks.{marked-at, marked-of, frame-good, mark-rule}
 
 -- The slot that supports a mark's atom holds its fact, and lies behind the frame.

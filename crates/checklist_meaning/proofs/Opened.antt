@@ -213,8 +213,8 @@ frame-bounded (suc i) l =
     (and-of _ _ (lt-ltb (sent (suc i)) (document .atoms) (omega arith))
     (and-of _ _ (lt-ltb (skipped (suc i)) (document .atoms) (omega arith)) refl))
 
--- So each rule of the frame passes an addition's questions when those before it stand: its atoms are below the limit, its
--- head is new, the lowest free slot is its own, and no entry lies above its head.
+-- So each rule of the frame passes an addition's questions when those before it stand: its atoms are below the limit,
+-- its head is new, the lowest free slot is its own, and no entry lies above its head.
 pub frame-asked : (i : ℕ) → i ≤ most-files → first-no (add-questions document (all (stage i)) (frame i)) ≡ none
 frame-asked i l =
     let a = frame-ascending i in

@@ -153,8 +153,8 @@ empty-iff-complete t before x after y E F = (
   λ e. (let w = complete-clear t y e F in clear-count t before x after (w .0) (w .1) (w .2) (w .3) E),
 )
 
--- A table that is not sound, or else is no checklist, meets 15: a call on a file hands it back, the list of files writes
--- nothing, complete is not answered.
+-- A table that is not sound, or else is no checklist, meets 15: a call on a file hands it back, the list of files
+-- writes nothing, complete is not answered.
 module _ (t : Table) (none-there : Sound t → files-of (held t) ≡ none) where
   pub no-checklist-file :
       (c : FileCall) (x : ChangeAnswer) (u : Table) → FileEnds t c x u → (x ≡ change.Refused TableUnsound) × (u ≡ t)

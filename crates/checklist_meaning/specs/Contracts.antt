@@ -23,7 +23,8 @@ use Rattle.calls.specs.Contracts.{held, Sized, ListEnds}
 use Rattle.checklist_meaning.specs.declared.CompleteAnswer.{CompleteAnswer}
 use Rattle.checklist_meaning.specs.declared.CompleteAnswer.the-variants as told
 use Rattle.checklist_frame.specs.Frame.{good, on-list, files-of}
-use Rattle.checklist_meaning.specs.Questions.{FileCall, checklist-questions, mark-questions, open-questions, lacks}
+use Rattle.checklist_meaning.specs.Questions.{FileCall, checklist-questions, mark-questions, open-questions}
+use Rattle.checklist_meaning.specs.Questions.{lacks}
 use Rattle.checklist_meaning.specs.Book.{marks-changed, opened}
 
 -- Open: 21. It takes no table, and a refusal hands back the empty one.

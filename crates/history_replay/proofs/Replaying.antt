@@ -88,8 +88,8 @@ module _
         ∙ append-assoc (map encode (G .told)) (encode (m .told) ∷ []) (drop (count + 1) before));
   }
 
-  -- Where no call is left, the calls made are all that the list holds: the trace so far is theirs, and demand 3 speaks of
-  -- it.
+  -- Where no call is left, the calls made are all that the list holds: the trace so far is theirs, and demand 3 speaks
+  -- of it.
   finished :
       decode (length before - count) ws files at ≡ []
       → Replays ws files before (record { count = count; table = t }) now

@@ -23,7 +23,8 @@ use Rattle.history_words.specs.Encoding.{rule-at, rule-end, between, loa
 use Rattle.history_words.specs.Encoding.{placed-rule, checklist-at, placed-kind}
 use Rattle.history_words.specs.Encoding.{call-file, loaded-files, rule-words, call-words, written-from, written}
 use Rattle.history_words.specs.Encoding.{Below, Words, Bytes, RuleFits, CallFits}
-use Rattle.history_words.proofs.Reading.{short, by-kind, rule-whole, mute-whole, load-fits, decode-over, decode-next}
+use Rattle.history_words.proofs.Reading.{short, by-kind, rule-whole, mute-whole, load-fits, decode-over}
+use Rattle.history_words.proofs.Reading.{decode-next}
 
 -- A rule that stands behind other words is read.
 module _ (xs rest : List ℕ) (r : Rule) where
@@ -281,9 +282,9 @@ decode-behind (c ∷ cs) (suc most) xs ys l =
     (sym (append-assoc ys (call-file c) (loaded-files cs)))
     ∙ decode-behind cs most (xs ++ call-words n c) (ys ++ call-file c) (omega arith))
 
--- Written and read back, a list of calls is the same, given room for its answers. By induction on the list, of words that
--- stand behind others (`decode-behind`): the first call is read whatever stands behind it (`placed-call`), and the place
--- behind it is where the rest begins.
+-- Written and read back, a list of calls is the same, given room for its answers. By induction on the list, of words
+-- that stand behind others (`decode-behind`): the first call is read whatever stands behind it (`placed-call`), and the
+-- place behind it is where the rest begins.
 pub decode-written :
     (cs : List Call) (before : List ℕ) → length cs ≤ length before → calls-in (written cs) (loaded-files cs) before ≡ cs
 decode-written cs before l = decode-behind cs (length before) [] [] l

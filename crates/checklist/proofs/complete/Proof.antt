@@ -60,28 +60,32 @@ returns-2 c =
     let told = c .before in
     let l = told .before .before in
     let last = l .before .before in
-    complete-in (table last) _ (files (last .before)) _ (last .good-atom .ensures) (l .label .ensures) (told .told .given .1)
+    complete-in (table last) _ (files (last .before)) _ (last .good-atom .ensures)
+    (l .label .ensures) (told .told .given .1)
 
 returns-3 : tie.Need-returns-3
 returns-3 c =
     let told = c .before in
     let l = told .before .before in
     let last = l .before .before in
-    complete-refused (table last) _ (files (last .before)) _ (last .good-atom .ensures) (l .label .ensures) (told .told2 .given .1)
+    complete-refused (table last) _ (files (last .before)) _ (last .good-atom .ensures)
+    (l .label .ensures) (told .told2 .given .1)
 
 returns-4 : tie.Need-returns-4
 returns-4 c =
     let told = c in
     let l = told .before .before in
     let last = l .before .before in
-    complete-absent (table last) _ (files (last .before)) _ (last .good-atom .ensures) (l .label .ensures) (told .enum-told .given .1)
+    complete-absent (table last) _ (files (last .before)) _ (last .good-atom .ensures)
+    (l .label .ensures) (told .enum-told .given .1)
 
 returns-5 : tie.Need-returns-5
 returns-5 c =
     let told = c in
     let l = told .before .before in
     let last = l .before .before in
-    complete-out (table last) _ (files (last .before)) _ (last .good-atom .ensures) (l .label .ensures) (told .enum-told2 .given .1)
+    complete-out (table last) _ (files (last .before)) _ (last .good-atom .ensures)
+    (l .label .ensures) (told .enum-told2 .given .1)
 
 pub complete-spec : {M : Type 1} → statement M
 complete-spec =

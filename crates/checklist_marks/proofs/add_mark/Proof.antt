@@ -50,8 +50,9 @@ returns c =
     let add = answer .before .before .before in
     let passed = passed-of add in
     let a = passed .before .before .args in
-    let done = does (FactAdded (a .table)) (a .table) (passed .asked2 .given .1) (mark-stands (a .table) _ (add .add .ensures)
-    (answer .answer2 .given .1) _ (number .refusal-number .ensures) (five .if1 .taken)) in
+    let told = mark-stands (a .table) _ (add .add .ensures) (answer .answer2 .given .1) _
+    (number .refusal-number .ensures) (five .if1 .taken) in
+    let done = does (FactAdded (a .table)) (a .table) (passed .asked2 .given .1) told in
     handed (MarkAdded (a .table) (a .asked)) _ (c .refuse2 .ensures) done
 
 refuse-requires-3 : tie.Need-refuse-requires-3
@@ -81,8 +82,9 @@ returns-4 c =
     let add = answer .before .before .before in
     let passed = passed-of add in
     let a = passed .before .before .args in
-    let done = does (FactAdded (a .table)) (a .table) (passed .asked2 .given .1) (mark-other (a .table) _ (add .add .ensures)
-    (answer .answer2 .given .1) _ (number .refusal-number .ensures) (other .if1 .left)) in
+    let told = mark-other (a .table) _ (add .add .ensures) (answer .answer2 .given .1) _
+    (number .refusal-number .ensures) (other .if1 .left) in
+    let done = does (FactAdded (a .table)) (a .table) (passed .asked2 .given .1) told in
     handed (MarkAdded (a .table) (a .asked)) _ (c .refuse3 .ensures) done
 
 pub add-mark-spec : {M : Type 1} → statement M

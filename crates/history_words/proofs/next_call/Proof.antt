@@ -3,7 +3,8 @@ use mathlib.Core.Path.{refl}
 use native.Mathlib.Omega.{arith}
 use borrow.Author.Needs.{needs}
 use Rattle.theory.specs.Book.{add, replace}
-use Rattle.history_words.proofs.Reading.{by-kind, end-short, reads-removal, reads-no-rule, reads-rule, reads-kind}
+use Rattle.history_words.proofs.Reading.{by-kind, end-short, reads-removal, reads-no-rule, reads-rule}
+use Rattle.history_words.proofs.Reading.{reads-kind}
 use Rattle.history_words.proofs.Reading.{reads-checklist}
 use Rattle.history_words.proofs.next_call.Statement.{statement}
 use Rattle.history_words.proofs.next_call.Tie as tie
