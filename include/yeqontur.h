@@ -9,14 +9,14 @@
  * rule together pass 8, neither list is read, whatever is answered; nor is a file whose length is wrong (refusal 16).
  *
  * Nothing is allocated or kept, so any number of threads may call at once, each with a table of its own. A table in
- * memory belongs to one thread at a time. Where two change it in place, or one reads it while the other changes it, a
- * change is lost and nothing tells: a checklist may say that it is complete while a skip stands. Threads that share a
- * table hold a lock for each call, as bindings/c/shared.c does.
+ * memory belongs to one thread at a time. Where two change it in place at once, a change is lost and nothing tells: a
+ * checklist may say that it is complete while a skip stands. Threads that share a table hold a lock for each call,
+ * questions too, as bindings/c/shared.c does.
  *
- * A thread with 128 KB of stack can make any one call from a function of its own (tried with gcc, and with clang from
- * -O1 on). What the caller keeps comes on top: 7 KB for each table, and a compiler keeps a place for each answer of a
- * function, so eight calls by value in one function take some 65 KB more. The calls in place (yeqontur_add_to and those
- * behind it) take no more for many calls than for one.
+ * A thread with 128 KB of stack can make any call, from a function that makes this one alone (tried with gcc, and with
+ * clang from -O1 on). What the caller keeps comes on top: 7 KB for each table, and a compiler keeps a place for each
+ * answer of a function, so one with eight calls by value has some 65 KB of its own, and may die there. The calls in
+ * place (yeqontur_add_to and those behind it) take no more for many than for one.
  *
  * The library is for x86-64. Build with `pkg-config --cflags --libs yeqontur` where it is installed (./install PREFIX);
  * in the repository with -Iinclude and target/staticlib/libyeqontur.a, which `rt staticlib yeqontur` makes.

@@ -130,6 +130,30 @@ static void numbers(void) {
     expect(buffer[0] == 91 && buffer[3] == 94, "a refused call writes no buffer entry");
 }
 
+/* An answer says nothing beside its refusal, and of an atom that is not in no depth and no slot. */
+static void nothing_else(void) {
+    const uint32_t two = 2;
+    const yeqontur_table table = yeqontur_add(yeqontur_empty(), 1, &two, 1, NULL, 0).table; /* 1 < 2, both out */
+    const yeqontur_label_answer refused = yeqontur_label(table, 256);
+    expect(refused.refused == 10 && refused.state == 0 && refused.depth == 0 && refused.slot == 0, "a refused label");
+    const yeqontur_label_answer out = yeqontur_label(table, 1), absent = yeqontur_label(table, 3);
+    expect(out.state == YEQONTUR_LABEL_OUT && out.depth == 0 && out.slot == 0, "an atom that is out");
+    expect(absent.state == YEQONTUR_LABEL_ABSENT && absent.depth == 0 && absent.slot == 0, "an absent atom");
+    const yeqontur_spoiler_answer spoiler = yeqontur_spoiler(table, 1);
+    expect(spoiler.refused == 9 && spoiler.spoiled == 0 && spoiler.atom == 0 && spoiler.place == 0,
+           "a refused spoiler");
+    expect(yeqontur_add(table, 256, NULL, 0, NULL, 0).slot == 0, "a refused addition");
+    expect(yeqontur_remove(table, 7).slot == 0, "a refused removal");
+    const yeqontur_list_answer missing = yeqontur_checklist_missing(table, NULL, 0);
+    expect(missing.refused == 15 && missing.count == 0, "a refused list of files");
+    const yeqontur_complete_answer complete = yeqontur_checklist_complete(table);
+    expect(complete.refused == 15 && complete.complete == 0, "no checklist");
+    for (int i = 0; i < 4; i++) {
+        expect(lists[i](table, 256, NULL, 0).count == 0, "a refused list");
+    }
+    expect(yeqontur_reason(table, 1, NULL, 0).count == 0, "no reason");
+}
+
 int main(void) {
     lengths();
     asked_before();
@@ -137,5 +161,6 @@ int main(void) {
     numbers();
     file_lengths();
     no_room_to_save();
+    nothing_else();
     return counted("the worst arguments from C");
 }

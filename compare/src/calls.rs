@@ -11,7 +11,7 @@ use oracle::generate::replacement_kinds;
 use oracle::generate::{self, calls::Calls};
 use oracle::random::Random;
 use oracle::rules::Program;
-use oracle::table::{RawTable, MUTED};
+use oracle::table::RawTable;
 
 /// How many differences are shown; the rest are counted.
 const SHOWN: usize = 10;
@@ -48,8 +48,7 @@ fn counted(call: &Call, table: &RawTable) -> Option<Program> {
         call,
         Call::Replace { .. } | Call::Mute { .. } | Call::Load { .. }
     );
-    let has_muted = || table.rules.iter().any(|rule| rule.state == MUTED);
-    (by_itself || has_muted()).then(|| pages_of(table))
+    (by_itself || table.has_muted()).then(|| pages_of(table))
 }
 
 impl Run {

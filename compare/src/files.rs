@@ -6,7 +6,7 @@ use oracle::generate::files::{file, Kind, KINDS};
 use oracle::generate::mixed_table;
 use oracle::questions::Refusal;
 use oracle::random::Random;
-use oracle::table::{RawTable, MUTED};
+use oracle::table::RawTable;
 use std::collections::BTreeMap;
 use std::fmt::Debug;
 use yeqontur::raw;
@@ -21,10 +21,6 @@ const OFTEN: usize = 500;
 /// How often each refusal was met; 0 stands for an accepted call. Whether the table that was loaded or was to be saved
 /// has a muted rule goes with it.
 type Met = BTreeMap<(u32, bool), usize>;
-
-fn has_muted(table: &RawTable) -> bool {
-    table.rules.iter().any(|rule| rule.state == MUTED)
-}
 
 /// Loads on both sides: what was met, or what differs. An accepted file is what saving its table writes.
 fn loaded(bytes: &[u8]) -> Result<(u32, bool), &'static str> {
@@ -44,7 +40,7 @@ fn loaded(bytes: &[u8]) -> Result<(u32, bool), &'static str> {
             return Err("save: another file than the one loaded");
         }
     }
-    Ok((expected, has_muted(&table)))
+    Ok((expected, table.has_muted()))
 }
 
 /// Random bytes to be written over: none, one too few, just enough, more, or any number.
@@ -77,7 +73,7 @@ fn saved(random: &mut Random, table: &RawTable) -> Result<(u32, bool), &'static 
     if written != expected {
         return Err("save: other bytes");
     }
-    Ok((number, has_muted(table)))
+    Ok((number, table.has_muted()))
 }
 
 /// What was seen so far.

@@ -122,7 +122,7 @@ struct Muted {
 
 impl Muted {
     fn note(&mut self, raw: &RawTable) {
-        if raw.rules.iter().any(|rule| rule.state == MUTED) {
+        if raw.has_muted() {
             self.tables += 1;
             self.sound += usize::from(sound::sound(raw));
         }

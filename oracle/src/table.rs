@@ -99,6 +99,11 @@ impl RawTable {
         }
     }
 
+    /// Does a slot hold a muted rule?
+    pub fn has_muted(&self) -> bool {
+        self.rules.iter().any(|rule| rule.state == MUTED)
+    }
+
     /// The table that keeps the program and its labels. The rules must pass question 1 to 3.
     pub fn keeping(labelled: &Labelled) -> RawTable {
         let mut table = RawTable::empty();

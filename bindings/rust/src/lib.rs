@@ -67,8 +67,8 @@
 //! A call keeps nothing and shares nothing, so any number of threads may call at once, and every type here may be sent
 //! to another thread. A table that threads share and change stands behind a lock, such as a
 //! [`Mutex`](std::sync::Mutex): a change needs `&mut`, so the compiler sees to it. A thread with 128 KB of stack can
-//! make any one call (in a debug build those of a checklist ask for 160 KB), and what the caller keeps comes on top,
-//! 7 KB for each table; the deepest tree ([`Table::why`]) needs up to 384 KB in a release build and 1.5 MB in a debug
+//! make any call (in a debug build those of a checklist ask for 160 KB), and what the caller keeps comes on top, 7 KB
+//! for each table; the deepest tree ([`Table::why`]) needs up to 384 KB in a release build and 1.5 MB in a debug
 //! build.
 //!
 //! # Versions

@@ -274,7 +274,7 @@ pub struct SpoilerAnswer {
     pub spoiled: u32,
     /// The atom of the entry that spoils the rule, otherwise 0.
     pub atom: u32,
-    /// The place of that entry in the positive (1) or the negative list (2), as the slot keeps it, from 0.
+    /// The place of that entry in the positive (1) or the negative list (2), as the slot keeps it, from 0; otherwise 0.
     pub place: u32,
 }
 
@@ -292,7 +292,7 @@ pub struct SpoilerAnswer {
 pub struct ListAnswer {
     /// 0, or the number of the refusal.
     pub refused: u32,
-    /// How many entries or bytes were written, or with refusal 11 how many are needed.
+    /// How many entries or bytes were written, or with refusal 11 how many are needed; 0 with any other refusal.
     pub count: usize,
 }
 
