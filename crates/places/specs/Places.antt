@@ -38,7 +38,8 @@ abbrev pub start : Place
 start = record { offset = 0; line = 1 }
 
 -- The number of the next line. A place has 32 bits for it, so the count stops at the greatest number of 32 bits. The
--- meaning of a sheet counts without an end (crate sheet_meaning); the law `few-lines` there says why no sheet gets this far.
+-- meaning of a sheet counts without an end (crate sheet_meaning); the law `few-lines` there says why no sheet gets this
+-- far.
 abbrev pub lineAfter : ℕ → ℕ
 lineAfter n = min (n + 1) (2 ^ 32 - 1)
 

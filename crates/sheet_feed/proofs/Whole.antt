@@ -37,8 +37,9 @@ pieces-read s f (piece {input = input} {bytes = bytes} {r = r} feeds rest) small
     let two = pieces-read (one .state) (one .stands) rest (omega (arith, small, long, first, lines-at-most read)) in
     record { state = two .state; reads = reads-then read (two .reads); stands = two .stands }
 
--- The bytes printed piece by piece, and then the reply to the last line, are all that the sheet prints, and that reply's
--- table is the one after the sheet. No line number passes 32 bits: a sheet that a program reads is too short for that.
+-- The bytes printed piece by piece, and then the reply to the last line, are all that the sheet prints, and that
+-- reply's table is the one after the sheet. No line number passes 32 bits: a sheet that a program reads is too short
+-- for that.
 pub pieces-end :
     {c d : Sheet} {input out before after : List ℕ} {last : Reply} → StandsFor start c → Pieces c input out d
     → length input ≤ MOST → LABELS_ROOM ≤ length before → RepliesAt d before 0 after last

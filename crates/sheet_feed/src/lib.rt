@@ -145,8 +145,8 @@ fn feed_command(sheet: Sheet, input: &[u8], from: usize, out: &mut [u8], at: usi
     }
 }
 
-// Reads a piece of the sheet, up to its end or until there may be too little room for another reply. The table is handed
-// on once for each command. A buffer without room for every reply is refused by 11, and nothing is read.
+// Reads a piece of the sheet, up to its end or until there may be too little room for another reply. The table is
+// handed on once for each command. A buffer without room for every reply is refused by 11, and nothing is read.
 pub fn feed(sheet: Sheet, input: &[u8], out: &mut [u8]) -> Fed
     ensures { λ r. ⌜ Feeds sheet (now (input .entry)) 0 (now (out .entry)) 0 r (now (out .exit)) ⌝ }
     ensures { λ r. ⌜ FeedsAll (now (input .entry)) (now (out .entry)) r ⌝ }

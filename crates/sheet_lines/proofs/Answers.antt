@@ -13,7 +13,8 @@ use borrow.Author.Tests.{le-leb, lt-leb, lt-ltb, le-ltb}
 use Rattle.tokens.specs.Tokens.{pieces, filled, tokens, one}
 use Rattle.sheet_lines.specs.Commands as spec
 use Rattle.sheet_lines.specs.Commands.{after, made, command}
-use Rattle.sheet_lines.specs.Readings.{LINE, TOKENS, spaces, blank, Line, is-blank, too-long, no-command, is, whether}
+use Rattle.sheet_lines.specs.Readings.{LINE, TOKENS, spaces, blank}
+use Rattle.sheet_lines.specs.Readings.{Line, is-blank, too-long, no-command, is, whether}
 use Rattle.sheet_lines.specs.Readings.{lineOf, reading, positivesOf, negativesOf, Answers}
 use Rattle.tokens.specs.Parts.{firstOf, restOf, empty, asOption}
 use Rattle.sheet_lines.specs.Parts.{leadingNumbers, pastNumbers, commandFor, IsCommandFor, ruleCommand}

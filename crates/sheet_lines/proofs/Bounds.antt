@@ -9,8 +9,10 @@ use lib.ListN.{length}
 use Rattle.tokens.specs.Tokens.{tokens}
 use Rattle.tokens.specs.Numerals.{numeral}
 use Rattle.tokens.specs.Tokens.{one}
-use Rattle.sheet_lines.specs.Commands.{Command, add, remove, replace, why, labels, consed, numerals, before, after}
-use Rattle.sheet_lines.specs.Commands.{madeOfRule, ruleForm, inSlot, replacement, only, made, labelsForm, form, command}
+use Rattle.sheet_lines.specs.Commands.{Command, add, remove, replace, why, labels}
+use Rattle.sheet_lines.specs.Commands.{consed, numerals, before, after}
+use Rattle.sheet_lines.specs.Commands.{madeOfRule, ruleForm, inSlot, replacement}
+use Rattle.sheet_lines.specs.Commands.{only, made, labelsForm, form, command}
 use Rattle.sheet_lines.specs.Readings.{LINE, is, positivesOf, negativesOf}
 use Rattle.tokens.proofs.Tokens.{tokens-bound}
 

@@ -90,7 +90,8 @@ fn with_head(purpose: Purpose, head: u32) -> Command
 fn lists(line: &[u8], purpose: Purpose, head: u32, place: Place) -> Parsed
     requires { ⌜ place .offset ≤ length (now line) ⌝ }
     requires { ⌜ length (tokens (drop (place .offset) (now line))) ≤ TOKENS ⌝ }
-    ensures { λ r. ⌜ Answers (whether (ruleCommand purpose head (tokens (drop (place .offset) (now (line .entry)))))) r ⌝ }
+    ensures { λ r. ⌜ Answers (whether (ruleCommand purpose head
+        (tokens (drop (place .offset) (now (line .entry)))))) r ⌝ }
     ensures { λ r. ⌜ Onward (now (line .entry)) place (r .place) ⌝ }
 {
     let p = collect(line, [0; Parsed::TOKENS], 0, place);

@@ -21,7 +21,8 @@ use Rattle.sheet_lines.specs.Readings.{Line, is-blank, reading, blank, spaces}
 use Rattle.fields.specs.Texts.{NEWLINE}
 use Rattle.sheet_meaning.specs.Sheets as whole
 use Rattle.sheet_meaning.specs.Sheets.{State, start, ended, Reads, SheetPrints}
-use Rattle.sheet_meaning.specs.Calls.{endedLines, behindNewlines, lastLine, linesOf, lineCalls, linesCalls, callsOf}
+use Rattle.sheet_meaning.specs.Calls.{endedLines, behindNewlines, lastLine, linesOf}
+use Rattle.sheet_meaning.specs.Calls.{lineCalls, linesCalls, callsOf}
 use Rattle.sheet_meaning.specs.Seen.{Seen, pagesAfter, LinesPrint, no-line, one-line, BookPrints}
 use Rattle.sheet_meaning.proofs.LinesMet.{LineDone, line-done}
 use Rattle.sheet_meaning.proofs.OneBook.{book-prints-unique}

@@ -1,5 +1,5 @@
--- Laws of `Scans`: a part of a line, a line that leaves the table alone, a command, and one scan behind another. Assumes
--- nothing.
+-- Laws of `Scans`: a part of a line, a line that leaves the table alone, a command, and one scan behind another.
+-- Assumes nothing.
 use Prim.Native.Nat.{ℕ, suc, _+_, _-_, _^_, _≤_, _<_}
 use native.Mathlib.Omega.{arith}
 use mathlib.Core.Path.{_≡_, refl, sym, _∙_, ap, subst}
@@ -274,7 +274,8 @@ scans-over {input} before r one e =
     record {
       some = one .some;
       ended = λ l.
-          if-nothing-so (r .found) (λ (whole : r .read ≡ length input). absurd (omega (arith, l, whole))) (one .ended e);
+          if-nothing-so (r .found) (λ (whole : r .read ≡ length input). absurd (omega (arith, l, whole)))
+          (one .ended e);
     }
 
 pub scans-full :

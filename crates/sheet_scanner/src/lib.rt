@@ -34,8 +34,8 @@ pub enum Found {
 }
 
 // What was made of a piece without the table: the line at hand, how many bytes of the piece were read and how many were
-// printed, whether the next line may be scanned too, and the command that was found. A command's line is at hand, whole:
-// it was read up to its newline, as `parsed` says.
+// printed, whether the next line may be scanned too, and the command that was found. A command's line is at hand,
+// whole: it was read up to its newline, as `parsed` says.
 pub struct Scanned {
     pub begun: Begun,
     pub read: usize,
@@ -95,7 +95,8 @@ pub fn judge(parsed: Parsed, out: &mut [u8], at: usize) -> Judged
 }
 
 // Scans the rest of one line, or of the piece if that ends first. A line that ends and leaves the table alone is
-// answered. The bytes of any other are added to the line at hand. (What stands in `parsed` counts only beside a command.)
+// answered. The bytes of any other are added to the line at hand. (What stands in `parsed` counts only beside a
+// command.)
 fn scan_line(begun: Begun, input: &[u8], from: usize, out: &mut [u8], at: usize) -> Scanned
     requires { ⌜ (from ≤ length (now input)) × (at + LABELS_ROOM ≤ length (now out)) ⌝ }
     ensures { λ r. ⌜ Scans begun (now (input .entry)) from (now (out .entry)) at (now (out .exit)) r ⌝ }

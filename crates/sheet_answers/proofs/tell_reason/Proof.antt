@@ -42,7 +42,8 @@ returns c =
     let s = answer .before .before .before .before in
     let few = counted (s .args .answer) (s .args .slots .now) (s .pre .0) (answer .answer .given .1) in
     let size = length-take-le _ (s .args .slots .now) (few .0) in
-    wrote-same (ap (λ (a : ListAnswer). tellReason (s .args .line) a (s .args .slots .now)) (sym (answer .answer .given .1)))
+    wrote-same
+    (ap (λ (a : ListAnswer). tellReason (s .args .line) a (s .args .slots .now)) (sym (answer .answer .given .1)))
     (why .write-why .ensures .fits (omega (arith, few .1, size)))
 
 same-length-2 : tie.Need-same-length-2

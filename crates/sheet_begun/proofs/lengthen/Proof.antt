@@ -1,5 +1,5 @@
--- `sheet_begun::lengthen` meets its contract. The loop keeps: behind the bytes of the line stand those that were passed, and
--- there is room for them. Assumes nothing.
+-- `sheet_begun::lengthen` meets its contract. The loop keeps: behind the bytes of the line stand those that were
+-- passed, and there is room for them. Assumes nothing.
 use Prim.Native.Nat.{_+_, _-_, _≤_}
 use native.Mathlib.Omega.{arith}
 use mathlib.Core.Path.{_≡_, refl, sym}

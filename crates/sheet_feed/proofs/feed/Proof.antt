@@ -1,5 +1,5 @@
--- `sheet_feed::feed` meets its contract. The loop keeps what is so of a piece fed so far. The measure is what is left to
--- read. Assumes nothing.
+-- `sheet_feed::feed` meets its contract. The loop keeps what is so of a piece fed so far. The measure is what is left
+-- to read. Assumes nothing.
 use Prim.Native.Nat.{_-_}
 use native.Mathlib.Omega.{arith}
 use lib.ListN.{length}

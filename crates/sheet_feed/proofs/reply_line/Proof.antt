@@ -47,7 +47,8 @@ returns-2 c =
     let sheet = s .args .sheet in
     let some = begun-of-some (sheet .begun) (sheet-sized sheet _ (s .good .0)) in
     let j = judge .judge in
-    replies-obeyed sheet (s .pre) some (read .read-begun .ensures) _ _ (j .result) (j .ensures) (judged .judged2 .given .1)
+    replies-obeyed sheet (s .pre) some (read .read-begun .ensures) _ _ (j .result) (j .ensures)
+    (judged .judged2 .given .1)
     (obey .obey .ensures)
 
 pub reply-line-spec : {M : Type 1} → statement M

@@ -1,5 +1,5 @@
--- `sheet_label_lines::write_labels` meets its contract. The loop keeps: the lines of the atoms below `atom` are written.
--- Assumes nothing.
+-- `sheet_label_lines::write_labels` meets its contract. The loop keeps: the lines of the atoms below `atom` are
+-- written. Assumes nothing.
 use Prim.Native.Nat.{_+_, _-_, _*_, _≤_}
 use native.Mathlib.Omega.{arith}
 use mathlib.Core.Path.{_≡_}

@@ -93,7 +93,8 @@ returns-2 c =
     let some = begun-of-some (s .args .begun) (begun-sized (s .args .begun) _ (s .good .0)) in
     let j = judge .judge in (
       scans-told (s .pre .0) (e .before .before .line-end .ensures) (s .pre .1) _ (j .result)
-          (inside-piece e) some (read .read-with .ensures) (j .ensures) (judged .judged .given .1) (c .next-line .ensures),
+          (inside-piece e) some (read .read-with .ensures) (j .ensures) (judged .judged .given .1)
+          (c .next-line .ensures),
       record {
         some = λ l. omega (arith, e .before .before .line-end .ensures);
         more = λ m. omega (arith, e .before .before .line-end .ensures);

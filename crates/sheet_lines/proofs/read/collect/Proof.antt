@@ -1,5 +1,5 @@
--- `sheet_lines::read::collect` meets its contract. The loop's invariant: storing the numbers that are left behind those that
--- were read gives the whole. The measure is the number of tokens left. Assumes nothing.
+-- `sheet_lines::read::collect` meets its contract. The loop's invariant: storing the numbers that are left behind those
+-- that were read gives the whole. The measure is the number of tokens left. Assumes nothing.
 use Prim.Native.Nat.{ℕ, _≤_}
 use native.Mathlib.Omega.{arith}
 use mathlib.Core.Path.{_≡_, refl, sym, _∙_, ap}

@@ -1,5 +1,5 @@
--- `sheet_lines::read::lists` meets its contract: the numbers end with the line, at `!`, or at a token that spoils the form;
--- and so again behind `!`. Assumes nothing.
+-- `sheet_lines::read::lists` meets its contract: the numbers end with the line, at `!`, or at a token that spoils the
+-- form; and so again behind `!`. Assumes nothing.
 use Prim.Native.Nat.{ℕ, _+_, _-_, _≤_}
 use native.Mathlib.Omega.{arith}
 use mathlib.Core.Path.{_≡_, refl, sym, _∙_, ap}

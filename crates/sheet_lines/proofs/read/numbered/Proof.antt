@@ -1,4 +1,5 @@
--- `sheet_lines::read::numbered` meets its contract: the first token is the number where none follows it. Assumes nothing.
+-- `sheet_lines::read::numbered` meets its contract: the first token is the number where none follows it. Assumes
+-- nothing.
 use Prim.Native.Nat.{ℕ}
 use mathlib.Core.Path.{_≡_, sym, _∙_, ap}
 use mathlib.Core.Bool.{Bool, cond}

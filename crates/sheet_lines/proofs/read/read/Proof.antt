@@ -1,4 +1,5 @@
--- `sheet_lines::read::read` meets its contract: over-long and blank lines are told from the others first. Assumes nothing.
+-- `sheet_lines::read::read` meets its contract: over-long and blank lines are told from the others first. Assumes
+-- nothing.
 use Prim.Native.Nat.{ℕ, _≤_, _<_}
 use native.Mathlib.Omega.{arith}
 use mathlib.Core.Path.{_≡_, sym, _∙_}

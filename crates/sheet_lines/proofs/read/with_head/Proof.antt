@@ -1,4 +1,5 @@
--- `sheet_lines::read::with_head` meets its contract: the command is the change's, by what the change is. Assumes nothing.
+-- `sheet_lines::read::with_head` meets its contract: the command is the one for what the rule is stated. Assumes
+-- nothing.
 use Prim.Native.Nat.{ℕ}
 use mathlib.Core.Path.{_≡_, sym, ap}
 use mathlib.Core.List.{List}
