@@ -1,2 +1,2 @@
--- Private: what the functions that read a file tell each other and `files`.
+-- Private: what the functions that read a file's records tell each other and `file_calls`.
 pub mod Reading
