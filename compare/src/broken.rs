@@ -138,6 +138,17 @@ fn full_output(program: &str) -> bool {
     left.is_some_and(|left| left.said_one_line() && left.signal.is_none())
 }
 
+/// Two lines, the last without its newline, and the input ends: the write that failed is told once, not again for the
+/// last line.
+fn full_output_last_line(program: &str) -> bool {
+    let mut command = Command::new(program);
+    let mut child = start(&mut command, Stdio::piped(), full_device(), Stdio::piped());
+    let mut to = child.stdin.take().expect("its input");
+    to.write_all(SHEET).expect("the sheet");
+    drop(to);
+    ended(child).is_some_and(|left| left.said_one_line() && left.signal.is_none())
+}
+
 fn full_output_and_errors(program: &str) -> bool {
     let left = with_lines(&mut Command::new(program), full_device(), full_device());
     left.is_some_and(|left| left.signal.is_none())
@@ -179,11 +190,15 @@ fn reader_leaves(program: &str) -> bool {
 
 type Case = (&'static str, fn(&str) -> bool);
 
-const CASES: [Case; 9] = [
+const CASES: [Case; 10] = [
     ("standard input closed", closed_input),
     ("a directory as standard input", directory_as_input),
     ("a read that fails in the midst of a line", reset_input),
     ("output to a full device", full_output),
+    (
+        "output to a full device, and a last line",
+        full_output_last_line,
+    ),
     ("output and errors to a full device", full_output_and_errors),
     ("standard output closed", closed_output),
     ("a pipe that nobody reads", pipe_that_nobody_reads),

@@ -1,4 +1,4 @@
--- What is printed of a file, and the plain book, joined: it is what the book shows of the file's pages. Assumes nothing.
+-- What is printed of a file and the plain book, joined: it is what the book shows of the file's pages. Assumes nothing.
 use Prim.Native.Nat.{ℕ, _+_, _≤_, _<_}
 use native.Mathlib.Omega.{arith}
 use mathlib.Core.Path.{_≡_, refl, sym, _∙_, ap, subst}
@@ -95,7 +95,8 @@ whole-input input {out} p = ⊎-elim
     (le-or-lt (length input) LONGEST)
 
 -- And of its first 1,048,576 bytes, which are what a program reads.
-pub first-bytes : (input : List ℕ) {out : List ℕ} → LoadPrints (take (LONGEST + 1) input) out → LoadPrints (cut input) out
+pub first-bytes :
+    (input : List ℕ) {out : List ℕ} → LoadPrints (take (LONGEST + 1) input) out → LoadPrints (cut input) out
 first-bytes input {out} p =
     let same = take-take (LONGEST + 1) MOST input (omega arith) in
     whole-input (cut input) (subst (λ (f : List ℕ). LoadPrints f out) (sym same) p)

@@ -57,8 +57,8 @@ LONGEST = BLOCK * BLOCKS
 abbrev pub LINES : ℕ
 LINES = 32 * document .atoms
 
--- What is printed stands from the start of a buffer with that room, and so many bytes it has. A shorter buffer is refused
--- by 11, and stays as it was.
+-- What is printed stands from the start of a buffer with that room, and so many bytes it has. A shorter buffer is
+-- refused by 11, and stays as it was.
 pub data LoadWrites (file before : List ℕ) : ListAnswer → List ℕ → Type 0 where
   short : length before < LINES → LoadWrites file before (listed.Refused (BufferTooShort LINES)) before
   printed :

@@ -12,9 +12,9 @@ ghost use Rattle.file_lines.specs.Loads.{LoadWrites};
 // The room that the lines of every atom need: 32 bytes for each.
 pub const LINES: usize = 32 * Table::ATOMS;
 
-// Writes what is printed of any bytes from the start of the buffer: the labels of the table that they record, or `refused`
-// and the number of the first question answered no. Answers how many bytes that are. A buffer without room for the lines
-// of every atom is refused by 11, and nothing is written.
+// Writes what is printed of any bytes from the start of the buffer: the labels of the table that they record, or
+// `refused` and the number of the first question answered no. Answers how many bytes that are. A buffer without room
+// for the lines of every atom is refused by 11, and nothing is written.
 pub fn load_lines(bytes: &[u8], out: &mut [u8]) -> ListAnswer
     ensures { λ r. ⌜ LoadWrites (now (bytes .entry)) (now (out .entry)) r (now (out .exit)) ⌝ }
 {

@@ -1,5 +1,5 @@
--- Programs and plain book, joined: what is saved is the file of the book's pages after the sheet, and what is shown of a
--- file is what the book shows of its pages. Assumes nothing.
+-- Programs and plain book, joined: what is saved is the file of the book's pages after the sheet, and it is shown; so
+-- are the lines of a file. Assumes nothing.
 use Prim.Native.Nat.{ℕ, _+_, _-_, _≤_, _<_}
 use native.Mathlib.Omega.{arith}
 use mathlib.Core.Path.{_≡_, refl, sym, _∙_, ap, subst}
@@ -71,7 +71,8 @@ saved-whole s =
 
 -- And of that file the labels are printed that the book shows of these pages.
 pub saved-loaded :
-    {buffer before after out : List ℕ} {r : Saved} (s : SavesInput buffer before after r) → LoadPrints (take (r .count) after) out
+    {buffer before after out : List ℕ} {r : Saved} (s : SavesInput buffer before after r)
+    → LoadPrints (take (r .count) after) out
     → SeesLabels (bookAfter (callsOf (fedBytes (s .sheet)))) out
 saved-loaded {out = out} {r = r} s p =
     let claim = program-history (s .sheet) in

@@ -1,4 +1,4 @@
--- The laws that the functions' proofs cite, and (Books) what follows from the contracts: what is saved and what is shown,
--- by the plain book.
+-- The laws that the functions' proofs cite, and (Books) what follows from the contracts: what is saved and shown, by
+-- the plain book.
 pub mod Counting
 pub mod Books

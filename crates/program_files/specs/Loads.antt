@@ -7,9 +7,9 @@ use Rattle.file_lines.specs.Loads.{LONGEST, LoadPrints}
 use Rattle.program_io.specs.Told.{Given, Writes}
 use Rattle.program_files.specs.declared.Listed.{Listed}
 
--- Standard input gave the first so many bytes of a buffer that has room for one byte more than a file can have; they are
--- fewer only where the last read gave nothing. What is printed of these bytes was handed to standard output, and nothing
--- else was.
+-- Standard input gave the first so many bytes of a buffer that has room for one byte more than a file can have; they
+-- are fewer only where the last read gave nothing. What is printed of these bytes was handed to standard output, and
+-- nothing else was.
 pub record LoadsInput (file out : List ℕ) (r : Listed) : Type 0 where
   pub room : length file ≡ LONGEST + 1
   pub few : r .read ≤ length file

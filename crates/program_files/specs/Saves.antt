@@ -17,8 +17,8 @@ abbrev pub countOf : ListAnswer → ℕ
 countOf (listed.Count n) = n
 countOf (listed.Refused f) = 0
 
--- A sheet was read up to its last line, and no reply was shown; the table after that line was saved in a buffer with room
--- for every file. The file's bytes were handed to standard output, and nothing else was.
+-- A sheet was read up to its last line, and no reply was shown; the table after that line was saved in a buffer with
+-- room for every file. The file's bytes were handed to standard output, and nothing else was.
 pub record SavesInput (buffer before after : List ℕ) (r : Saved) : Type 0 where
   pub sheet : AnswersLast false buffer (r .last)
   pub room : length before ≡ LONGEST

@@ -29,8 +29,8 @@ pub struct Saved {
     pub lost: usize,
 }
 
-// What was read of a file and printed of it: how many bytes were read, and how many of these the last read gave; how many
-// are printed; how many were shown, and how many were lost because they could not be written.
+// What was read of a file and printed of it: how many bytes were read, and how many of these the last read gave; how
+// many are printed; how many were shown, and how many were lost because they could not be written.
 pub struct Listed {
     pub read: usize,
     pub got: usize,
@@ -49,9 +49,9 @@ fn count_of(answer: ListAnswer) -> usize
     }
 }
 
-// Reads a sheet to its end, showing no reply, saves the table after its last line and writes the file on standard output,
-// and nothing else. By the law `saved-book` (proofs/Books.antt) that is the file of the plain book's pages after the calls
-// that the sheet's lines are.
+// Reads a sheet to its end, showing no reply, saves the table after its last line and writes the file on standard
+// output, and nothing else. By the law `saved-book` (proofs/Books.antt) that is the file of the plain book's pages
+// after the calls that the sheet's lines are.
 pub fn save_input(input: &mut [u8], file: &mut [u8]) -> Saved
     requires { ⌜ (length (now input) ≡ MOST) × (length (now file) ≡ LONGEST) ⌝ }
     ensures { λ r. ⌜ SavesInput (now (input .exit)) (now (file .entry)) (now (file .exit)) r ⌝ }

@@ -18,7 +18,8 @@ part-given part {read₀} {got₀} got inside some =
     record {
       inside = inside;
       count = refl;
-      gives = λ bytes g. subst (λ (n : ℕ). Given (bytes ++ take got part) (read₀ + n) n) size (given-more (take got part) g some);
+      gives = λ bytes g. subst (λ (n : ℕ). Given (bytes ++ take got part) (read₀ + n) n) size
+          (given-more (take got part) g some);
     }
 
 -- A read into the part behind what was read before.
@@ -34,11 +35,14 @@ reads-behind before part {got₀} {read} {got} read₀ k here same r =
     let piece : take got (drop read₀ put) ≡ take got part =
     ap (take got) behind ∙ take-append-le got part (postOf read₀ k before) (r .inside) in
     let all : take read₀ before ++ take got part ≡ take read put =
-    sym (ap (λ (xs : List ℕ). xs ++ take got (drop read₀ put)) kept ∙ ap (λ (xs : List ℕ). take read₀ before ++ xs) piece)
+    sym
+    (ap (λ (xs : List ℕ). xs ++ take got (drop read₀ put)) kept ∙ ap (λ (xs : List ℕ). take read₀ before ++ xs) piece)
     ∙ sym (take-add read₀ got put) ∙ ap (λ (n : ℕ). take n put) (sym (r .count)) in
     record {
       stay = kept;
-      inside = omega (arith, r .inside, r .count, same, here, size read₀ k before, same-len-mid read₀ k before part same);
+      inside =
+          omega
+          (arith, r .inside, r .count, same, here, size read₀ k before, same-len-mid read₀ k before part same);
       count = r .count;
       gives = λ g. subst (λ (xs : List ℕ). Given xs read got) all (r .gives (take read₀ before) g);
     }

@@ -68,14 +68,16 @@ writes-then {xs} {ys} {s} {t} {u} {lost₀} {lost} w e v =
       few = omega (arith, v .few, long);
       shows = λ before h.
           let one : Shown (before ++ xs) t 0 =
-          subst (λ (zs : List ℕ). Shown (before ++ zs) t 0) first (subst (Shown (before ++ take (length xs - lost₀) xs) t) e (w .shows before h)) in
+          subst (λ (zs : List ℕ). Shown (before ++ zs) t 0) first
+          (subst (Shown (before ++ take (length xs - lost₀) xs) t) e (w .shows before h)) in
           subst (λ (zs : List ℕ). Shown zs u lost)
           (append-assoc before xs (take (length ys - lost) ys) ∙ ap (λ (zs : List ℕ). before ++ zs) both)
           (v .shows (before ++ xs) one);
     }
 
 -- What is shown of two lists, one behind the other.
-pub shown-append : (showing : Bool) (xs ys : List ℕ) → shownOf showing xs ++ shownOf showing ys ≡ shownOf showing (xs ++ ys)
+pub shown-append :
+    (showing : Bool) (xs ys : List ℕ) → shownOf showing xs ++ shownOf showing ys ≡ shownOf showing (xs ++ ys)
 shown-append true xs ys = refl
 shown-append false xs ys = refl
 

@@ -5,7 +5,8 @@ use mathlib.Core.List.{List, _++_}
 use lib.ListN.{length, take, drop}
 use Rattle.program_io.specs.Told.{Given}
 
--- One read into a part of a buffer: what it got stands at the start of the part, and is counted with what was read before.
+-- One read into a part of a buffer: what it got stands at the start of the part, and is counted with what was read
+-- before.
 pub record ReadsPart (part : List ℕ) (read₀ got₀ read got : ℕ) : Type 0 where
   pub inside : got ≤ length part
   pub count : read ≡ read₀ + got

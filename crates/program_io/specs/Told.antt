@@ -8,8 +8,8 @@ use mathlib.Core.Bool.{Bool, true, false}
 use mathlib.Core.List.{List, [], _++_}
 use lib.ListN.{length, take, length-append}
 
--- Since the program began, the reads gave these bytes, in this order, so many in all; the last read gave so many of them.
--- Before the first read this number is any but 0.
+-- Since the program began, the reads gave these bytes, in this order, so many in all; the last read gave so many of
+-- them. Before the first read this number is any but 0.
 pub record Given (bytes : List ℕ) (read got : ℕ) : Type 0 where
   size : length bytes ≡ read
 

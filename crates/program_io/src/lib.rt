@@ -27,7 +27,8 @@ fn write_out(bytes: &[u8], shown: &mut usize, lost: &mut usize)
 // Writes the first n bytes if they are to be shown; else nothing is written, and nothing is lost.
 pub fn show(showing: bool, bytes: &[u8], n: usize, shown: &mut usize, lost: &mut usize)
     requires { ⌜ (n ≤ length (now bytes)) × (now shown + n < 2 ^ 64) × (now lost ≡ 0) ⌝ }
-    ensures { λ _. ⌜ Writes (shownOf showing (take n (now (bytes .entry)))) (now (shown .entry)) (now (shown .exit)) (now (lost .exit)) ⌝ }
+    ensures { λ _. ⌜ Writes (shownOf showing (take n (now (bytes .entry))))
+        (now (shown .entry)) (now (shown .exit)) (now (lost .exit)) ⌝ }
 {
     if !showing {
         return;
@@ -40,7 +41,8 @@ pub fn show(showing: bool, bytes: &[u8], n: usize, shown: &mut usize, lost: &mut
 // bytes are those of standard input is believed.
 fn read_part(part: &mut [u8], read: &mut usize, got: &mut usize)
     requires { ⌜ (0 < length (now part)) × (now read + length (now part) < 2 ^ 64) × (0 < now got) ⌝ }
-    ensures { λ _. ⌜ ReadsPart (now (part .exit)) (now (read .entry)) (now (got .entry)) (now (read .exit)) (now (got .exit)) ⌝ }
+    ensures { λ _. ⌜ ReadsPart (now (part .exit))
+        (now (read .entry)) (now (got .entry)) (now (read .exit)) (now (got .exit)) ⌝ }
 {
     let answer = libc::read(STDIN_FILENO, part);
     let n = io::count(answer, part);
@@ -51,7 +53,8 @@ fn read_part(part: &mut [u8], read: &mut usize, got: &mut usize)
 // Reads once behind the bytes that were read before, which stay.
 pub fn read_on(input: &mut [u8], read: &mut usize, got: &mut usize)
     requires { ⌜ (now read < length (now input)) × (0 < now got) ⌝ }
-    ensures { λ _. ⌜ ReadsOn (now (input .entry)) (now (read .entry)) (now (got .entry)) (now (input .exit)) (now (read .exit)) (now (got .exit)) ⌝ }
+    ensures { λ _. ⌜ ReadsOn (now (input .entry)) (now (read .entry)) (now (got .entry))
+        (now (input .exit)) (now (read .exit)) (now (got .exit)) ⌝ }
 {
     let from = *read;
     read_part(&mut input[from..], read, got);

@@ -65,7 +65,8 @@ answers-fed {c} showing input {before} {after} {r} f space some writes =
     let size : length (take (r .read) input) ≡ r .read = length-take-le (r .read) input (f .read) in
     let fed : Pieces c (take (r .read) input) printed (r .sheet) =
     subst (λ (ys : List ℕ). Pieces c ys printed (r .sheet)) (append-nil (take (r .read) input))
-    (subst (λ (ys : List ℕ). Pieces c (take (r .read) input ++ []) ys (r .sheet)) (append-nil printed) (piece f none)) in
+    (subst (λ (ys : List ℕ). Pieces c (take (r .read) input ++ []) ys (r .sheet)) (append-nil printed)
+    (piece f none)) in
     record {
       fed = r .read;
       printed = printed;
@@ -76,8 +77,13 @@ answers-fed {c} showing input {before} {after} {r} f space some writes =
       whole = λ _. sym size;
       writes = writes;
       most =
-          omega
-          (arith, length-take-le (r .printed) after (omega (arith, f .printed, f .same-length)), f .printed, space, some);
+          omega (
+            arith,
+            length-take-le (r .printed) after (omega (arith, f .printed, f .same-length)),
+            f .printed,
+            space,
+            some,
+          );
     }
 
 -- The rest of a piece.
@@ -113,7 +119,8 @@ piece-more {c} {showing = showing} input {shown₀} {shown′ = shown′} {lost 
       few = omega (arith, f .read, part-length from input, p .few);
       answers =
           subst (λ (ys : List ℕ). Answers c showing ys shown₀ shown′ lost (r .sheet)) joined
-          (answers-then (take from input) (take (r .read) rest) (p .answers) e (answers-fed showing rest f (p .space) some w));
+          (answers-then (take from input) (take (r .read) rest) (p .answers) e
+          (answers-fed showing rest f (p .space) some w));
     }
 
 pub piece-over :
@@ -141,7 +148,7 @@ shown-few true bytes = omega arith
 shown-few false bytes = omega arith
 
 pub answers-most :
-    {c d : Sheet} {showing : Bool} {bytes : List ℕ} {shown₀ shown lost : ℕ} → Answers c showing bytes shown₀ shown lost d
-    → shown + lost ≤ shown₀ + SPACE * length bytes
+    {c d : Sheet} {showing : Bool} {bytes : List ℕ} {shown₀ shown lost : ℕ}
+    → Answers c showing bytes shown₀ shown lost d → shown + lost ≤ shown₀ + SPACE * length bytes
 answers-most {showing = showing} a =
     omega (arith, a .writes .count, a .most, a .few, shown-few showing (a .printed))

@@ -37,8 +37,8 @@ pub record TakesRead (task : Task) (c : Sheet) (before : List ℕ) (read₀ got�
   pub reads : ReadsOn before read₀ got₀ after read got
   pub takes : Takes task c (take got (drop read₀ after)) shown₀ shown lost d
 
--- Standard input gave the first so many bytes of the buffer, and this the task made of them. Unless bytes are lost, they
--- are fewer than the buffer has only where the last read gave nothing.
+-- Standard input gave the first so many bytes of the buffer, and this the task made of them. Unless bytes are lost,
+-- they are fewer than the buffer has only where the last read gave nothing.
 pub record TakesInput (task : Task) (c : Sheet) (buffer : List ℕ) (read got shown lost : ℕ) (d : Sheet) : Type 0 where
   pub few : read ≤ length buffer
   pub given : Given (take read buffer) read got

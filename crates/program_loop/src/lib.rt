@@ -1,5 +1,5 @@
-// The one loop that reads: the bytes of standard input are taken as they come, piece by piece, by the task of the program
-// that reads them.
+// The one loop that reads: the bytes of standard input are taken as they come, piece by piece, by the task of the
+// program that reads them.
 use program_io::read_on;
 use program_io::show;
 use sheet_feed::Sheet;
@@ -27,7 +27,8 @@ fn answer(
     lost: &mut usize,
 ) -> Sheet
     requires { ⌜ (length (now out) ≡ SPACE) × (now shown + SPACE * length (now piece) < 2 ^ 64) × (now lost ≡ 0) ⌝ }
-    ensures { λ r. ⌜ Answers sheet showing (now (piece .entry)) (now (shown .entry)) (now (shown .exit)) (now (lost .exit)) r ⌝ }
+    ensures { λ r. ⌜ Answers sheet showing (now (piece .entry))
+        (now (shown .entry)) (now (shown .exit)) (now (lost .exit)) r ⌝ }
 {
     let mut s = sheet;
     let mut from: usize = 0;
@@ -53,7 +54,8 @@ fn take_piece(
 ) -> Sheet
     requires { ⌜ (from ≤ end) × (end ≤ length (now input)) ⌝ }
     requires { ⌜ (length (now out) ≡ SPACE) × (now shown + SPACE * (end - from) < 2 ^ 64) × (now lost ≡ 0) ⌝ }
-    ensures { λ r. ⌜ Takes task sheet (take (end - from) (drop from (now (input .entry)))) (now (shown .entry)) (now (shown .exit)) (now (lost .exit)) r ⌝ }
+    ensures { λ r. ⌜ Takes task sheet (take (end - from) (drop from (now (input .entry))))
+        (now (shown .entry)) (now (shown .exit)) (now (lost .exit)) r ⌝ }
 {
     match task {
         Task::Answer(showing) => answer(sheet, &input[from..end], showing, out, shown, lost),
@@ -74,7 +76,9 @@ fn take_read(
 ) -> Sheet
     requires { ⌜ (length (now input) ≤ MOST) × (now read < length (now input)) × (0 < now got) ⌝ }
     requires { ⌜ (length (now out) ≡ SPACE) × (now shown ≤ SPACE * now read) × (now lost ≡ 0) ⌝ }
-    ensures { λ r. ⌜ TakesRead task sheet (now (input .entry)) (now (read .entry)) (now (got .entry)) (now (shown .entry)) (now (input .exit)) (now (read .exit)) (now (got .exit)) (now (shown .exit)) (now (lost .exit)) r ⌝ }
+    ensures { λ r. ⌜ TakesRead task sheet
+        (now (input .entry)) (now (read .entry)) (now (got .entry)) (now (shown .entry))
+        (now (input .exit)) (now (read .exit)) (now (got .exit)) (now (shown .exit)) (now (lost .exit)) r ⌝ }
 {
     let from = *read;
     read_on(input, read, got);
@@ -82,8 +86,8 @@ fn take_read(
     take_piece(task, sheet, input, from, end, out, shown, lost)
 }
 
-// Reads and does the task until a write fails, a read gives nothing, or the buffer is full: a program reads no more bytes
-// than the buffer has that it lends.
+// Reads and does the task until a write fails, a read gives nothing, or the buffer is full: a program reads no more
+// bytes than the buffer has that it lends.
 pub fn take_input(
     task: Task,
     sheet: Sheet,
@@ -96,7 +100,8 @@ pub fn take_input(
 ) -> Sheet
     requires { ⌜ (length (now input) ≤ MOST) × (length (now out) ≡ SPACE) ⌝ }
     requires { ⌜ (now read ≡ 0) × (0 < now got) × (now shown ≡ 0) × (now lost ≡ 0) ⌝ }
-    ensures { λ r. ⌜ TakesInput task sheet (now (input .exit)) (now (read .exit)) (now (got .exit)) (now (shown .exit)) (now (lost .exit)) r ⌝ }
+    ensures { λ r. ⌜ TakesInput task sheet (now (input .exit))
+        (now (read .exit)) (now (got .exit)) (now (shown .exit)) (now (lost .exit)) r ⌝ }
 {
     let mut s = sheet;
     while *lost == 0 && *got > 0 && *read < input.len() {

@@ -1,7 +1,7 @@
--- Program and plain book, joined: what a program answers of the input that it was fed is what the book prints of it, and
--- the table that the input leaves is the book's. Unless the output could not be written, that input is all that standard
--- input gave up to its end or to 1,048,576 bytes, and all that the book prints of it was handed to standard output.
--- Assumes nothing.
+-- Program and plain book, joined: what a program answers of the input that it was fed is what the book prints of it,
+-- and the table that the input leaves is the book's. Unless the output could not be written, that input is all that
+-- standard input gave up to its end or to 1,048,576 bytes, and all that the book prints of it was handed to standard
+-- output. Assumes nothing.
 use Prim.Native.Nat.{ℕ, _+_, _-_, _≤_, _<_}
 use native.Mathlib.Omega.{arith}
 use mathlib.Core.Path.{_≡_, refl, sym, _∙_, ap, subst}
@@ -36,8 +36,13 @@ answeredBytes {r = r} a = a .answers .lines .takes .printed ++ take (r .reply .n
 fed-few :
     {showing : Bool} {buffer : List ℕ} {r : Last} (a : AnswersLast showing buffer r) → length (fedBytes a) ≤ MOST
 fed-few {buffer = buffer} {r = r} a =
-    omega
-    (arith, a .answers .lines .few, a .answers .size, length-take (a .answers .lines .takes .fed) (readBytes a), length-take (r .read) buffer)
+    omega (
+      arith,
+      a .answers .lines .few,
+      a .answers .size,
+      length-take (a .answers .lines .takes .fed) (readBytes a),
+      length-take (r .read) buffer,
+    )
 
 answered : {showing : Bool} {buffer : List ℕ} {r : Last} (a : AnswersLast showing buffer r)
     → (p : SheetPrints (fedBytes a) (answeredBytes a)) × (p .after ≡ r .reply .table)
@@ -88,8 +93,8 @@ lost-none a e = zero-or (a .answers .lost-before) (λ l. omega (arith, l, e, a .
     zero-or : (n : ℕ) → (0 < n → ⊥) → n ≡ 0
     zero-or n h = ⊎-elim (λ (z : n ≤ 0). omega arith) (λ (l : 0 < n). absurd (h l)) (le-or-lt n 0)
 
--- Unless the output could not be written, all that was read was fed, and fewer bytes than a program reads were read only
--- where the last read got nothing.
+-- Unless the output could not be written, all that was read was fed, and fewer bytes than a program reads were read
+-- only where the last read got nothing.
 pub program-read :
     {showing : Bool} {buffer : List ℕ} {r : Last} (a : AnswersLast showing buffer r) → r .lost ≡ 0
     → (fedBytes a ≡ readBytes a) × (r .read < MOST → r .got ≡ 0)

@@ -1,5 +1,5 @@
-// A sheet on standard input, answered with one table, empty at the start: each reply is shown on standard output, or none
-// is.
+// A sheet on standard input, answered with one table, empty at the start: each reply is shown on standard output, or
+// none is.
 use program_io::show;
 use program_loop::Task;
 use program_loop::take_input;
@@ -18,8 +18,8 @@ ghost use Rattle.program_sheet.specs.Answered.{RepliesLast, AnswersFrom,
 // input ended there.
 pub const MOST: usize = 1048576;
 
-// The reply to the last line. How many bytes were read, and how many of these the last read gave; how many were shown, and
-// how many were lost because they could not be written.
+// The reply to the last line. How many bytes were read, and how many of these the last read gave; how many were shown,
+// and how many were lost because they could not be written.
 pub struct Last {
     pub reply: Reply,
     pub read: usize,
@@ -37,7 +37,8 @@ fn reply_last(
     lost: &mut usize,
 ) -> Reply
     requires { ⌜ (length (now out) ≡ SPACE) × (now shown + SPACE < 2 ^ 64) ⌝ }
-    ensures { λ r. ⌜ RepliesLast sheet showing (now (out .entry)) (now (out .exit)) (now (shown .entry)) (now (lost .entry)) (now (shown .exit)) (now (lost .exit)) r ⌝ }
+    ensures { λ r. ⌜ RepliesLast sheet showing (now (out .entry)) (now (out .exit)) (now (shown .entry))
+        (now (lost .entry)) (now (shown .exit)) (now (lost .exit)) r ⌝ }
 {
     let reply = reply_at(sheet, out, 0);
     if *lost > 0 {
@@ -77,8 +78,8 @@ fn answer_from(sheet: Sheet, showing: bool, input: &mut [u8]) -> Last
     }
 }
 
-// The same from the start: line 1 with the empty table. By the laws of proofs/Joined.antt, what is shown is what the plain
-// book prints of the bytes that standard input gave.
+// The same from the start: line 1 with the empty table. By the laws of proofs/Joined.antt, what is shown is what the
+// plain book prints of the bytes that standard input gave.
 pub fn answer_input(input: &mut [u8]) -> Last
     requires { ⌜ length (now input) ≡ MOST ⌝ }
     ensures { λ r. ⌜ AnswersLast true (now (input .exit)) r ⌝ }

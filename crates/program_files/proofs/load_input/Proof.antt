@@ -48,7 +48,8 @@ told :
     )
 told c =
     let load = c .before .before .before in
-    lines-counted (load .load-lines .ensures) (omega (arith, size load, load .load-lines .kept .1 .0)) (c .count-of .ensures)
+    lines-counted (load .load-lines .ensures) (omega (arith, size load, load .load-lines .kept .1 .0))
+    (c .count-of .ensures)
 
 show-requires : tie.Need-show-requires
 show-requires c κs =

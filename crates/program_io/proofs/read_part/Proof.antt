@@ -17,7 +17,9 @@ same-length : tie.Need-same-length
 same-length c = search needs
 
 returns : tie.Need-returns
-returns c = part-given _ _ (c .before .count .ensures .0 .0) (c .before .before .before .before .before .before .before .before .pre .2)
+returns c =
+    part-given _ _ (c .before .count .ensures .0 .0)
+    (c .before .before .before .before .before .before .before .before .pre .2)
 
 pub read-part-spec : {M : Type 1} → statement M
 read-part-spec = tie.close (tie.spec read-requires count-requires add-read same-length returns)

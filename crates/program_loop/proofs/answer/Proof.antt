@@ -1,11 +1,12 @@
--- `program_loop::answer` meets its contract. The loop keeps: the bytes before the offset were fed. The measure is what is
--- left of the piece: with room for a reply each turn reads at least a byte. Assumes nothing.
+-- `program_loop::answer` meets its contract. The loop keeps: the bytes before the offset were fed. The measure is what
+-- is left of the piece: with room for a reply each turn reads at least a byte. Assumes nothing.
 use Prim.Native.Nat.{ℕ, _-_, _≤_, _<_}
 use native.Mathlib.Omega.{arith}
 use mathlib.Core.Path.{_≡_, refl, sym, _∙_}
 use lib.ListN.{length}
 use lib.Seq.{length-take-le}
-use Rattle.program_loop.proofs.Answering.{PieceSoFar, part-length, piece-start, piece-more, piece-over, answers-most}
+use Rattle.program_loop.proofs.Answering.{PieceSoFar, part-length, piece-start, piece-more, piece-over}
+use Rattle.program_loop.proofs.Answering.{answers-most}
 use borrow.Author.Needs.{needs}
 use borrow.Author.Tests.{ltb-true, ltb-false}
 use Rattle.program_loop.proofs.answer.Statement.{statement}
@@ -82,7 +83,8 @@ loop-again c =
     let l = fed .before .before .before .before .before .loop in
     let f = fed .feed .ensures .0 in (
       f .same-length ∙ l .inv .0,
-      piece-more _ (l .inv .1) (fed .before .before .before .before .loop-test .taken) f (some fed) (c .before .before .show .ensures),
+      piece-more _ (l .inv .1) (fed .before .before .before .before .loop-test .taken) f (some fed)
+          (c .before .before .show .ensures),
     )
 
 same-length : tie.Need-same-length Inv-loop μ-loop

@@ -1,9 +1,10 @@
 -- `program_loop::take_input` meets its contract. The loop keeps: standard input gave what was read so far, and the task
--- was done on all of it. The measure is the room that is left, and one turn more as long as the last read gave something.
--- Assumes nothing.
-use Prim.Native.Nat.{ℕ, _+_, _-_, min}
+-- was done on all of it. The measure is the room that is left, and one turn more as long as the last read gave
+-- something. Assumes nothing.
+use Prim.Native.Nat.{ℕ, _+_, _-_, _/_, min}
 use native.Mathlib.Omega.{arith}
 use mathlib.Core.Path.{_≡_, refl, _∙_}
+use mathlib.Core.List.{List}
 use lib.ListN.{length}
 use Rattle.program_loop.proofs.Taking.{SoFar, so-far-start, so-far-more, so-far-over}
 use borrow.Author.Needs.{needs}
@@ -11,9 +12,12 @@ use borrow.Author.Tests.{ltb-true, ltb-false}
 use Rattle.program_loop.proofs.take_input.Statement.{statement}
 use Rattle.program_loop.proofs.take_input.Tie as tie
 
--- The loop's test: the last read gave more than so many bytes.
+-- The loop's tests: the last read gave more than so many bytes, and fewer than so many are read in all.
 abbrev least : ℕ
 least = 0
+
+abbrev limit : List ℕ → ℕ
+limit input = length input
 
 abbrev Inv-loop : tie.InvT-loop
 Inv-loop task input₀ out₀ read₀ got₀ shown₀ lost₀ s₀ input out read got shown lost s =
@@ -36,7 +40,7 @@ take-read-requires c κs =
     let s = test .before .before .before .before .before .before .before .before in (
       (
         omega (arith, s .pre .0 .0, l .inv .0),
-        omega (arith, ltb-true (l .read) (length (l .input)) (test .if2 .taken)),
+        omega (arith, ltb-true (l .read) (limit (l .input)) (test .if2 .taken)),
         omega (arith, ltb-true least (l .got) (test .before .before .if1 .taken)),
       ),
       (l .inv .2 .space, omega (arith, l .inv .2 .most), test .before .before .before .before .loop-test .taken),
@@ -48,7 +52,7 @@ loop-less c =
     let test = turn .before .before .before .before .before .before .before in
     let l = test .before .before .before .before .before .loop in
     let r = turn .take-read .ensures .reads in
-    let here = ltb-true (l .read) (length (l .input)) (test .if2 .taken) in
+    let here = ltb-true (l .read) (limit (l .input)) (test .if2 .taken) in
     let some = ltb-true least (l .got) (test .before .before .if1 .taken) in
     omega (arith, here, some, r .count, l .inv .0)
 
@@ -73,7 +77,7 @@ same-length-2 c = search needs
 returns : tie.Need-returns Inv-loop μ-loop
 returns c =
     let l = c .before .before .before .before .before .loop in
-    let full = ltb-false (l .read) (length (l .input)) (c .if2 .left) in
+    let full = ltb-false (l .read) (limit (l .input)) (c .if2 .left) in
     so-far-over (l .inv .2) (λ _ s. absurd (omega (arith, s, full)))
 
 same-length-3 : tie.Need-same-length-3 Inv-loop μ-loop

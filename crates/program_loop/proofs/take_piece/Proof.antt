@@ -41,7 +41,8 @@ returns c =
     let s = task .before .before .before .before in
     let a = answer .answer in
     subst
-    (λ (t : Task). Takes t (s .args .sheet) (take (s .args .end - s .args .from) (drop (s .args .from) (s .args .input .now)))
+    (λ (t : Task). Takes t (s .args .sheet)
+    (take (s .args .end - s .args .from) (drop (s .args .from) (s .args .input .now)))
     (s .args .shown .now) (a .last .1 .1 .1 .1 .0) (a .last .1 .1 .1 .1 .1 .0) (a .result))
     (sym (task .task .given .1)) (a .ensures)
 
@@ -49,7 +50,8 @@ returns-2 : tie.Need-returns-2
 returns-2 c =
     let s = c .before .before .before .before in
     subst
-    (λ (t : Task). Takes t (s .args .sheet) (take (s .args .end - s .args .from) (drop (s .args .from) (s .args .input .now)))
+    (λ (t : Task). Takes t (s .args .sheet)
+    (take (s .args .end - s .args .from) (drop (s .args .from) (s .args .input .now)))
     (s .args .shown .now) (s .args .shown .now) (s .args .lost .now) (s .args .sheet))
     (sym (c .enum-told .given .1)) (refl, refl, s .pre .1 .2)
 

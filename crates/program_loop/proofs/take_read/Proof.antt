@@ -27,8 +27,8 @@ returns c =
       reads = r .ensures;
       takes =
           takes-got (s .args .task) (s .args .sheet) (taken .result) (r .last .0) (s .args .read .now) (r .last .1 .0)
-          (r .last .1 .1 .0) (s .args .shown .now) (taken .last .1 .1 .1 .1 .1 .1 .0) (taken .last .1 .1 .1 .1 .1 .1 .1 .0)
-          (r .ensures .count) (taken .ensures);
+          (r .last .1 .1 .0) (s .args .shown .now) (taken .last .1 .1 .1 .1 .1 .1 .0)
+          (taken .last .1 .1 .1 .1 .1 .1 .1 .0) (r .ensures .count) (taken .ensures);
     }
 
 pub take-read-spec : {M : Type 1} → statement M
