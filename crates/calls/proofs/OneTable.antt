@@ -124,8 +124,8 @@ module _ (q r : Rule) (C : CleanRule q) (D : CleanRule r) (L : length (q .entrie
       )
 
 -- Two sound tables that hold the same rules with the same marks are equal. Idea: slots are clean, so a page tells every
--- field of its slot (`slot-equal`); both tables' labels are those of the one model of the same rules (`same-label`), and
--- labels are clean too (`label-equal`).
+-- field of its slot (`slot-equal`); both tables' labels are those of the one model of the same rules (`same-label`),
+-- and labels are clean too (`label-equal`).
 pub table-unique : (t u : Table) → Sized t → Sized u → Sound t → Sound u → held t ≡ held u → t ≡ u
 table-unique t u Z Y S T e = λ i. record { rules = rules i; labels = labels i }
   where

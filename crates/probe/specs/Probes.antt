@@ -27,8 +27,8 @@ pub record RulesFit (t : Table) : Type 0 where
   pub slots : (s : ℕ) → s < document .slots → WellFormed (getD (t .rules) s pastRule)
   pub single : Single (programOf (t .rules))
 
--- The table with the labels of its rules, which have no negative cycle; or as it came, where they do not fit (15) or have
--- one (7).
+-- The table with the labels of its rules, which have no negative cycle; or as it came, where they do not fit (15) or
+-- have one (7).
 pub data LabelsProbe (t : Table) : Relabelled → Type 0 where
   unfit : (RulesFit t → ⊥) → LabelsProbe t (record { refused = 15; table = t })
   cyclic : RulesFit t → NegativeCycle (programOf (t .rules)) → LabelsProbe t (record { refused = 7; table = t })

@@ -19,8 +19,8 @@ pub leads-first : {S : ℕ → ℕ → Type 0} {a e x : ℕ} → S a e → Leads
 leads-first {S = S} {a = a} s (self q) = onward (self refl) (subst (λ z. S a z) (sym q) s)
 leads-first s (onward w t) = onward (leads-first s w) t
 
--- The atom a and the first j of the entries copied for it were gathered. The idea of a search in depth: an atom that came
--- in is a, whose first j entries are in, or another, all of whose entries are in. Of what was in before, nothing is
+-- The atom a and the first j of the entries copied for it were gathered. The idea of a search in depth: an atom that
+-- came in is a, whose first j entries are in, or another, all of whose entries are in. Of what was in before, nothing is
 -- said: a call further out is still about it. At the outermost call nothing was in before, so that the set is closed
 -- at last.
 pub record Gathering (counts entries : List ℕ) (d : ℕ → ℕ) (a depth j : ℕ) (before now : List Bool) : Type 0 where

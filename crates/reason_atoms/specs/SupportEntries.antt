@@ -30,7 +30,8 @@ positivesOf (in-at d s) r = ruleOf r .positives
 
 -- The positive entries of the rule in the kept slot of an in atom.
 abbrev pub positivesAt : List Rule → List Label → ℕ → List ℕ
-positivesAt rules labels a = positivesOf (labelOf (getD labels a absentLabel)) (getD rules (labelSlot labels a) pastRule)
+positivesAt rules labels a =
+    positivesOf (labelOf (getD labels a absentLabel)) (getD rules (labelSlot labels a) pastRule)
 
 -- Where entry j of the atom a stands in the array of all entries.
 abbrev pub entryIndex : ℕ → ℕ → ℕ

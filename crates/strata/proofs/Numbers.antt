@@ -64,7 +64,8 @@ pub needed-held :
     → (x y z : ℕ) → x ≡ greatest (plus 0 ℓ) (numbers (slice 0 p (r .entries)))
     → y ≡ greatest (plus 1 ℓ) (numbers (slice p n (r .entries))) → z ≡ max x y → z ≡ needed ℓ (slotOf r)
 needed-held ℓ r b long held p n here there x y z e f g =
-    let u : greatest (plus 0 ℓ) (ruleOf r .positives) ≡ x = ap (greatest (plus 0 ℓ)) (positives-are r b long p here) ∙ sym e in
+    let u : greatest (plus 0 ℓ) (ruleOf r .positives) ≡ x =
+    ap (greatest (plus 0 ℓ)) (positives-are r b long p here) ∙ sym e in
     let v : greatest (plus 1 ℓ) (ruleOf r .negatives) ≡ y =
     ap (greatest (plus 1 ℓ)) (negatives-are r b long p here n there) ∙ sym f in
     g ∙ sym (ap (needed ℓ) (slot-held r held) ∙ ap₂ max u v)
@@ -83,7 +84,8 @@ raised-length xs ys a n false R = ap length (R .kept refl .1)
 
 -- The greatest number is that of one of the atoms, or 0.
 module _ (w : ℕ) (ℓ : ℕ → ℕ) where
-  greatest-reached : (xs : List ℕ) → (greatest (plus w ℓ) xs ≡ 0) ⊎ ((x : ℕ) × (x ∈ xs) × (greatest (plus w ℓ) xs ≡ w + ℓ x))
+  greatest-reached :
+      (xs : List ℕ) → (greatest (plus w ℓ) xs ≡ 0) ⊎ ((x : ℕ) × (x ∈ xs) × (greatest (plus w ℓ) xs ≡ w + ℓ x))
   unfolding greatest
   greatest-reached [] = inl refl
   greatest-reached (y ∷ ys) = ⊎-elim

@@ -190,7 +190,8 @@ module _ (P : Program) (S : ℕ) (few : length (rules P) ≤ S) where
         covers = T .covers;
         visited = λ s r l. below-more (λ j. Held P (at j) r → Visited P k ℓ r) i (λ z j. T .visited z r j)
             (λ h x w t c n j m v. omega (arith, rests r h x w t, T .covers x c n j m v)) s l;
-        resting = λ t s r l. below-more (λ j. Held P (at j) r → Resting ℓ r) i (λ z j. T .resting t z r j) (rests r) s l;
+        resting = λ t s r l. below-more (λ j. Held P (at j) r → Resting ℓ r) i (λ z j. T .resting t z r j)
+            (rests r) s l;
         late = T .late;
       }
         where

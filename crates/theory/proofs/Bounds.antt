@@ -173,8 +173,8 @@ module _ (B : Pages) (M : AtomSet) (A : Admissible (active B) M) where
       here a S = stratum-unique (all B) a (ℓ a) k (exact a) S
 
   -- The bounds of request #104. Idea: after j rounds every atom of the layer that has a derivation of at most j levels
-  -- is in (`levels-suc`). So a later round that adds finds an atom deeper than j (`late`): the rounds that add are at most
-  -- as many as the greatest depth, and one more adds none. Where an atom of the layer is in, the first round adds,
+  -- is in (`levels-suc`). So a later round that adds finds an atom deeper than j (`late`): the rounds that add are at
+  -- most as many as the greatest depth, and one more adds none. Where an atom of the layer is in, the first round adds,
   -- since nothing of the layer was found before it (`least-two`).
   pub rounds-within : (k n : ℕ) → RoundsOf B k n → RoundsWithin B M k n
   rounds-within k n R =

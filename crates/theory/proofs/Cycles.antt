@@ -178,8 +178,8 @@ module _ (P : Program) where
       along j S (negative {a = a} {x = x} d v) =
           back j S (λ r. r .negatives) (λ r y m. Memᴰ·append-right (r .positives) m) a x d (along j S v)
 
-  -- Question 7 is answered rightly, both ways. Idea: a negative cycle, turned to start behind a negative step, is a walk
-  -- from a negative entry back to its rule's head. The walk is found though it may be longer than there are rules: what
+  -- Question 7 is answered rightly, both ways. Idea: a negative cycle, turned to start behind a negative step, is a
+  -- walk from a negative entry back to its rule's head. The walk is found though it may be longer than there are rules: what
   -- is reached by one step more stops growing after so many steps (`settled`).
 
   pub cycle-found : NegativeCycle P → stratified P ≡ false

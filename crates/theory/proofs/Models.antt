@@ -13,7 +13,7 @@ use Rattle.theory.proofs.Found.{found-exists, found-filled}
 
 module _ (P : Program) where
   -- What is found below a number that no head reaches is the model. Idea: what the layers find is founded, since an
-  -- atom comes in by a valid rule and later atoms do not spoil it; and it is closed below that number, which is everywhere.
+  -- atom comes in by a valid rule and later atoms do not spoil it; and it is closed below that number, so everywhere.
   pub found-model :
       (ℓ : ℕ → ℕ) → Strata P ℓ → {k : ℕ} {M : AtomSet} → FoundBelow P ℓ k M
       → ((s : ℕ) (r : Rule) → Held P s r → ℓ (r .head) < k) → Admissible P M

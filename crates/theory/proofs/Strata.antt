@@ -60,8 +60,8 @@ module _ (P : Program) (ℓ : ℕ → ℕ) (L : Strata P ℓ) where
       (λ y hy. sym (below y hy)) (B .order) (B .ordered) x (B .exactly x .0 t) (omega arith))
 
   -- Two admissible models agree. Idea: where they agree below a stratum, the negative entries of its rules are the same
-  -- in both. So, along the founded order of the one, each atom's rule is valid in the other, which is closed and has the
-  -- atom too.
+  -- in both. So, along the founded order of the one, each atom's rule is valid in the other, which is closed and
+  -- has the atom too.
   pub model-unique : (M N : AtomSet) → Admissible P M → Admissible P N → (x : ℕ) → M x ≡ N x
   model-unique M N A B x =
       agree-below M N (A .founded) (B .founded) (suc (ℓ x)) (λ s r h l. A .closed s r h)

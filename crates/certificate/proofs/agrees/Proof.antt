@@ -26,7 +26,8 @@ held : (c : tie.Else1) → activeIn (c .before .before .args .rule) ≡ some (ru
 held c = active-some (c .before .before .args .rule) (c .if1 .left)
 
 good : (c : tie.Else2)
-    → valid (member (held-of c .before .before .args .flags .now)) (ruleOf (held-of c .before .before .args .rule)) ≡ true
+    → valid (member (held-of c .before .before .args .flags .now))
+    (ruleOf (held-of c .before .before .args .rule)) ≡ true
 good c = sym (c .before .valid .ensures) ∙ not-false _ (c .if2 .left)
 
 inside : (c : tie.Else3)
@@ -51,7 +52,8 @@ has-requires c κs = tt
 returns-3 : tie.Need-returns-3
 returns-3 c =
     let g = c .before .before .before in
-    compared-out _ _ _ _ _ _ _ _ (held (held-of g)) (good g) (sym (c .before .has .ensures) ∙ not-true _ (c .if3 .taken))
+    compared-out _ _ _ _ _ _ _ _ (held (held-of g)) (good g)
+    (sym (c .before .has .ensures) ∙ not-true _ (c .if3 .taken))
 
 level-requires : tie.Need-level-requires
 level-requires c κs = tt

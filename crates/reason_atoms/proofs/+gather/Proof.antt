@@ -65,7 +65,8 @@ number-of-requires t c κs = search needs
 loop-holds : (t : ℕ) → gather-lts.Need-loop-holds (calls t) (gather-at t) gather.Post Inv-loop μ-loop
 loop-holds t c = λ before e. rw e (gathering-start _ _ _ _ _ before)
 
-support-entry-requires : (t : ℕ) → gather-lts.Need-support-entry-requires (calls t) (gather-at t) gather.Post Inv-loop μ-loop
+support-entry-requires :
+    (t : ℕ) → gather-lts.Need-support-entry-requires (calls t) (gather-at t) gather.Post Inv-loop μ-loop
 support-entry-requires t c κs = search needs
 
 add-j : (t : ℕ) → gather-lts.Need-add-j (calls t) (gather-at t) gather.Post Inv-loop μ-loop

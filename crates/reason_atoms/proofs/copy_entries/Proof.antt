@@ -1,4 +1,4 @@
--- `reason_atoms::copy_entries` meets its contract. The loop's invariant: the entries below j were copied. Assumes nothing.
+-- `reason_atoms::copy_entries` meets its contract. The loop keeps: the entries below j were copied. Assumes nothing.
 use Prim.Native.Nat.{_-_, _≤_}
 use native.Mathlib.Omega.{arith}
 use Rattle.reason_atoms.specs.SupportEntries.{CopiedTo}

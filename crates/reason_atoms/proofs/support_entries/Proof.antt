@@ -8,8 +8,8 @@ use Rattle.theory.specs.Limits.{document}
 use Rattle.table.specs.Rules.{pastRule}
 use Rattle.table.specs.Labels.{absentLabel}
 use Rattle.reason_atoms.specs.SupportEntries.{positivesAt}
-use Rattle.reason_atoms.proofs.SupportEntries.{CopiedBelow, entries-start, entries-room, entries-next, entries-end}
-use Rattle.reason_atoms.proofs.SupportEntries.{past-positives, positive-at}
+use Rattle.reason_atoms.proofs.SupportEntries.{CopiedBelow, entries-start, entries-room, entries-next}
+use Rattle.reason_atoms.proofs.SupportEntries.{entries-end, past-positives, positive-at}
 use borrow.Author.Needs.{needs}
 use Rattle.reason_atoms.proofs.support_entries.Statement.{statement}
 use Rattle.reason_atoms.proofs.support_entries.Tie as tie

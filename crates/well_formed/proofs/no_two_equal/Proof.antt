@@ -55,7 +55,8 @@ cast-link c = search needs
 loop2-holds : tie.Need-loop2-holds Inv-loop2 μ-loop2 Inv-loop μ-loop
 loop2-holds c =
     let l = c .before .before .before .before .before .loop in
-    follow-start _ (document .slots) _ _ (l .i) (l .inv) _ _ _ (c .before .before .slot-key .ensures) (c .last-of .ensures)
+    follow-start _ (document .slots) _ _ (l .i) (l .inv) _ _ _ (c .before .before .slot-key .ensures)
+    (c .last-of .ensures)
 
 sub-other : tie.Need-sub-other Inv-loop2 μ-loop2 Inv-loop μ-loop
 sub-other c = search needs
