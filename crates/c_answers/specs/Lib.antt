@@ -1,3 +1,2 @@
--- The calls' answers as numbers, and what crosses the boundary to C.
+-- The calls' answers as numbers.
 pub mod Numbers
-pub mod Crossing

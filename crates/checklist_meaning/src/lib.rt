@@ -8,8 +8,3 @@ pub enum CompleteAnswer {
     Incomplete,
     Refused(Refusal),
 }
-
-// No code stands here; the toolchain wants a function in every crate.
-pub fn holds() -> bool {
-    true
-}

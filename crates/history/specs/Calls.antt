@@ -1,11 +1,11 @@
 -- Every call that changes a table or hands one back, and the plain book's step for it (specification 5.2): what the
 -- book answers, and its pages after. Nothing here speaks of a table. Assumes nothing.
 use Prim.Native.Nat.{ℕ}
-use mathlib.Core.List.{List, [], _∷_}
+use mathlib.Core.List.{List}
 use Rattle.theory.specs.Rules.{Pages}
 use Rattle.theory.specs.Limits.{Limits}
 use Rattle.theory.specs.Book as book
-use Rattle.theory.specs.Book.{Answer, answer, after}
+use Rattle.theory.specs.Book.{Answer, answer, after, step-answers, step-pages}
 use Rattle.file_blocks.specs.Book.{loadAnswer, loadPages}
 use Rattle.checklist_meaning.specs.Book as list
 use Rattle.checklist_meaning.specs.Book.{checklistAnswer, checklistAfter}
@@ -34,9 +34,7 @@ module _ (limits : Limits) where
 
   -- What a list of calls answers and leaves.
   unfoldable pub callsAnswers : Pages → List Call → List Answer
-  callsAnswers B [] = []
-  callsAnswers B (c ∷ cs) = callAnswer B c ∷ callsAnswers (callAfter B c) cs
+  callsAnswers B cs = step-answers callAnswer callAfter B cs
 
   unfoldable pub callsAfter : Pages → List Call → Pages
-  callsAfter B [] = B
-  callsAfter B (c ∷ cs) = callsAfter (callAfter B c) cs
+  callsAfter B cs = step-pages callAfter B cs

@@ -1,30 +1,36 @@
 // The calls for C: numbers, slices and structs of numbers cross the boundary, and nothing else. include/yeqontur.h says
-// the same for C. A library for C has the functions of its own crate alone, so each call stands here under its name in C,
-// over the function of the c_.. crate that makes it.
+// the same for C.
+use add_remove::add;
+use add_remove::remove;
 use c_answers::Accepted;
 use c_answers::AtomLabel;
 use c_answers::Change;
 use c_answers::Completeness;
 use c_answers::RuleSpoiler;
 use c_answers::Written;
-use c_changes::c_add;
-use c_changes::c_mute;
-use c_changes::c_remove;
-use c_changes::c_replace;
-use c_checklists::c_complete;
-use c_checklists::c_missing;
-use c_checklists::c_open;
-use c_checklists::c_sent;
-use c_checklists::c_skipped;
-use c_checklists::c_withdraw;
-use c_files::c_load;
-use c_files::c_save;
-use c_queries::c_consequences;
-use c_queries::c_justifications;
-use c_queries::c_label;
-use c_queries::c_reason;
-use c_queries::c_repercussions;
-use c_queries::c_spoiler;
+use c_answers::crossed_add;
+use c_answers::crossed_change;
+use c_answers::crossed_complete;
+use c_answers::crossed_label;
+use c_answers::crossed_list;
+use c_answers::crossed_remove;
+use c_answers::crossed_spoiler;
+use checklist::complete;
+use checklist::missing;
+use checklist_marks::file_sent;
+use checklist_marks::file_skipped;
+use checklist_marks::skip_withdrawn;
+use checklist_open::open;
+use file_calls::load;
+use file_calls::save;
+use muting::mute;
+use queries::consequences;
+use queries::justifications;
+use queries::label;
+use queries::repercussions;
+use queries::spoiler;
+use reason_call::reason;
+use replacing::replace;
 use table::Table;
 ghost use mathlib.Core.Path.{_≡_};
 ghost use mathlib.Core.Bool.{not};
@@ -35,8 +41,8 @@ ghost use Rattle.calls.specs.Contracts.{JustificationsEnd, ConsequencesEnd, Rep
 ghost use Rattle.calls.specs.Contracts.{ReplaceEnds, MuteEnds, SaveEnds, LoadEnds};
 ghost use Rattle.checklist_meaning.specs.Questions.{file-sent, file-skipped, skip-withdrawn};
 ghost use Rattle.checklist_meaning.specs.Contracts.{OpenEnds, FileEnds, MissingEnds};
-ghost use Rattle.c_answers.specs.Crossing.{AddCrosses, RemoveCrosses, LabelCrosses, SpoilerCrosses, ListCrosses};
-ghost use Rattle.c_answers.specs.Crossing.{ChangeCrosses, CompleteCrosses};
+ghost use Rattle.yeqontur.specs.Crossing.{AddCrosses, RemoveCrosses, LabelCrosses, SpoilerCrosses, ListCrosses};
+ghost use Rattle.yeqontur.specs.Crossing.{ChangeCrosses, CompleteCrosses};
 ghost use Rattle.yeqontur.specs.Versions.{version, layout};
 
 const VERSION: u32 = 200;
@@ -76,14 +82,20 @@ pub extern "C" fn yeqontur_add(
 ) -> Change
     ensures { λ r. ⌜ AddCrosses table (ruleFrom head (now (positives .entry)) (now (negatives .entry))) r ⌝ }
 {
-    c_add(table, head, positives, negatives)
+    let done = add(table, head, positives, negatives);
+    let answer = done.answer;
+    let after = done.table;
+    crossed_add(answer, after)
 }
 
 #[no_mangle]
 pub extern "C" fn yeqontur_remove(table: Table, slot: u32) -> Change
     ensures { λ r. ⌜ RemoveCrosses table slot r ⌝ }
 {
-    c_remove(table, slot)
+    let done = remove(table, slot);
+    let answer = done.answer;
+    let after = done.table;
+    crossed_remove(slot, answer, after)
 }
 
 #[no_mangle]
@@ -97,7 +109,10 @@ pub extern "C" fn yeqontur_replace(
     ensures { λ r. ⌜ ChangeCrosses
         (ReplaceEnds table slot (ruleFrom head (now (positives .entry)) (now (negatives .entry)))) r ⌝ }
 {
-    c_replace(table, slot, head, positives, negatives)
+    let done = replace(table, slot, head, positives, negatives);
+    let answer = done.answer;
+    let replaced = done.table;
+    crossed_change(answer, replaced)
 }
 
 // 0 unmutes, any other number mutes.
@@ -105,103 +120,130 @@ pub extern "C" fn yeqontur_replace(
 pub extern "C" fn yeqontur_mute(table: Table, slot: u32, muted: u32) -> Accepted
     ensures { λ r. ⌜ ChangeCrosses (MuteEnds table slot (not (eqb muted 0))) r ⌝ }
 {
-    c_mute(table, slot, muted)
+    let done = mute(table, slot, muted != 0);
+    let answer = done.answer;
+    let marked = done.table;
+    crossed_change(answer, marked)
 }
 
 #[no_mangle]
 pub extern "C" fn yeqontur_label(table: Table, atom: u32) -> AtomLabel
     ensures { λ r. ⌜ LabelCrosses table atom r ⌝ }
 {
-    c_label(table, atom)
+    let answer = label(table, atom);
+    crossed_label(answer)
 }
 
 #[no_mangle]
 pub extern "C" fn yeqontur_spoiler(table: Table, slot: u32) -> RuleSpoiler
     ensures { λ r. ⌜ SpoilerCrosses table slot r ⌝ }
 {
-    c_spoiler(table, slot)
+    let answer = spoiler(table, slot);
+    crossed_spoiler(answer)
 }
 
 #[no_mangle]
 pub extern "C" fn yeqontur_justifications(table: Table, atom: u32, buffer: &mut [u32]) -> Written
     ensures { λ r. ⌜ ListCrosses (JustificationsEnd table atom (now (buffer .entry))) (now (buffer .exit)) r ⌝ }
 {
-    c_justifications(table, atom, buffer)
+    let answer = justifications(table, atom, buffer);
+    crossed_list(answer)
 }
 
 #[no_mangle]
 pub extern "C" fn yeqontur_consequences(table: Table, atom: u32, buffer: &mut [u32]) -> Written
     ensures { λ r. ⌜ ListCrosses (ConsequencesEnd table atom (now (buffer .entry))) (now (buffer .exit)) r ⌝ }
 {
-    c_consequences(table, atom, buffer)
+    let answer = consequences(table, atom, buffer);
+    crossed_list(answer)
 }
 
 #[no_mangle]
 pub extern "C" fn yeqontur_repercussions(table: Table, atom: u32, buffer: &mut [u32]) -> Written
     ensures { λ r. ⌜ ListCrosses (RepercussionsEnd table atom (now (buffer .entry))) (now (buffer .exit)) r ⌝ }
 {
-    c_repercussions(table, atom, buffer)
+    let answer = repercussions(table, atom, buffer);
+    crossed_list(answer)
 }
 
 #[no_mangle]
 pub extern "C" fn yeqontur_reason(table: Table, atom: u32, buffer: &mut [u32]) -> Written
     ensures { λ r. ⌜ ListCrosses (ReasonEnds table atom (now (buffer .entry))) (now (buffer .exit)) r ⌝ }
 {
-    c_reason(table, atom, buffer)
+    let answer = reason(table, atom, buffer);
+    crossed_list(answer)
 }
 
 #[no_mangle]
 pub extern "C" fn yeqontur_save(table: Table, bytes: &mut [u8]) -> Written
     ensures { λ r. ⌜ ListCrosses (SaveEnds table (now (bytes .entry))) (now (bytes .exit)) r ⌝ }
 {
-    c_save(table, bytes)
+    let answer = save(table, bytes);
+    crossed_list(answer)
 }
 
 #[no_mangle]
 pub extern "C" fn yeqontur_load(bytes: &[u8]) -> Accepted
     ensures { λ r. ⌜ ChangeCrosses (LoadEnds (now (bytes .entry))) r ⌝ }
 {
-    c_load(bytes)
+    let done = load(bytes);
+    let answer = done.answer;
+    let loaded = done.table;
+    crossed_change(answer, loaded)
 }
 
 #[no_mangle]
 pub extern "C" fn yeqontur_checklist_open(files: u32) -> Accepted
     ensures { λ r. ⌜ ChangeCrosses (OpenEnds files) r ⌝ }
 {
-    c_open(files)
+    let done = open(files);
+    let answer = done.answer;
+    let opened = done.table;
+    crossed_change(answer, opened)
 }
 
 #[no_mangle]
 pub extern "C" fn yeqontur_checklist_sent(table: Table, file: u32) -> Accepted
     ensures { λ r. ⌜ ChangeCrosses (FileEnds table (file-sent file)) r ⌝ }
 {
-    c_sent(table, file)
+    let done = file_sent(table, file);
+    let answer = done.answer;
+    let sent = done.table;
+    crossed_change(answer, sent)
 }
 
 #[no_mangle]
 pub extern "C" fn yeqontur_checklist_skipped(table: Table, file: u32) -> Accepted
     ensures { λ r. ⌜ ChangeCrosses (FileEnds table (file-skipped file)) r ⌝ }
 {
-    c_skipped(table, file)
+    let done = file_skipped(table, file);
+    let answer = done.answer;
+    let skipped = done.table;
+    crossed_change(answer, skipped)
 }
 
 #[no_mangle]
 pub extern "C" fn yeqontur_checklist_withdraw(table: Table, file: u32) -> Accepted
     ensures { λ r. ⌜ ChangeCrosses (FileEnds table (skip-withdrawn file)) r ⌝ }
 {
-    c_withdraw(table, file)
+    let done = skip_withdrawn(table, file);
+    let answer = done.answer;
+    let withdrawn = done.table;
+    crossed_change(answer, withdrawn)
 }
 
 #[no_mangle]
 pub extern "C" fn yeqontur_checklist_missing(table: Table, buffer: &mut [u32]) -> Written
     ensures { λ r. ⌜ ListCrosses (MissingEnds table (now (buffer .entry))) (now (buffer .exit)) r ⌝ }
 {
-    c_missing(table, buffer)
+    let answer = missing(table, buffer);
+    crossed_list(answer)
 }
 
 #[no_mangle]
 pub extern "C" fn yeqontur_checklist_complete(table: Table) -> Completeness
     ensures { λ r. ⌜ CompleteCrosses table r ⌝ }
 {
-    c_complete(table)
+    let answer = complete(table);
+    crossed_complete(answer)
 }
