@@ -15,11 +15,11 @@ use Rattle.theory.specs.Labels.{Label}
 use Rattle.theory.specs.Questions.{first-no, is-some, rule-questions, rules, stratified}
 use Rattle.theory.specs.Sound.{SoundLabels}
 use Rattle.theory.proofs.Lists.{and-l, and-r, and-of, any-at, any-of, clash, false-not, not-true, le-leb, leb-le}
-use Rattle.theory.proofs.Lists.{lt-ltb, ltb-lt, unless}
+use Rattle.theory.proofs.Lists.{lt-ltb, ltb-lt, some-below, unless}
 use Rattle.theory.proofs.Rules.{rules-at, rules-of}
-use Rattle.theory.proofs.Pages.{all-length, held-page}
+use Rattle.theory.proofs.Pages.{held-page}
 use Rattle.theory.proofs.Sameness.{same-refl}
-use Rattle.theory.proofs.Questions.{first-no-none, held-below}
+use Rattle.theory.proofs.Questions.{first-no-none}
 use Rattle.theory.proofs.Cycles.{stratified-iff}
 use Rattle.file_blocks.specs.Words.{BYTE, WORD}
 use Rattle.file_blocks.specs.Places.{Place, recorded, records, recordsFrom, ruleIn}
@@ -43,10 +43,6 @@ records-all F s (some q ∷ B) f = (
   (let e : s + 0 ≡ s = omega arith in subst (λ (z : ℕ). F (recorded z q)) e (f 0 q refl)),
   records-all F (suc s) B (λ t p h. later F s t p (f (suc t) p h)),
 )
-
--- A page with a rule is one of the pages.
-pub page-below : (B : Pages) (t : ℕ) (p : Page) → getD B t none ≡ some p → t < length B
-page-below B t p h = omega (arith, held-below (all B) t (p .rule) (held-page B t p h), all-length B)
 
 pub length-records : (s : ℕ) (B : Pages) → length (recordsFrom s B) ≤ length B
 unfolding recordsFrom
@@ -203,7 +199,7 @@ module _ (limits : Limits) (few : limits .entries ≤ 8) where
         and-of _ _ (records-ascend 0 0 B (omega arith))
         (and-of _ _
         (all-every (λ p. p .slot < limits .slots) (λ p. ltb (p .slot) (limits .slots)) (λ p l. lt-ltb _ _ l) (records B)
-        (records-all _ 0 B (λ t p h. omega (arith, page-below B t p h, sound .slots))))
+        (records-all _ 0 B (λ t p h. omega (arith, some-below B t p h, sound .slots))))
         (and-of _ _
         (all-every (λ p. right limits p ≡ true) (right limits) (λ p e. e) (records B)
         (records-all _ 0 B (λ t p h. (

@@ -17,7 +17,7 @@ use Rattle.theory.specs.Labels.{Label}
 use Rattle.theory.specs.Questions.{first-no, rule-questions}
 use Rattle.theory.specs.Sound.{SoundLabels}
 use Rattle.theory.proofs.Cycles.{stratified-iff}
-use Rattle.theory.proofs.Lists.{and-l, and-of, and-r, eqb-of, leb-le, le-leb, le-or-lt, lt-ltb, ltb-lt}
+use Rattle.theory.proofs.Lists.{and-l, and-of, and-r, eqb-of, leb-le, le-leb, le-or-lt, lt-ltb, ltb-lt, some-below}
 use Rattle.theory.proofs.Pages.{held-page}
 use Rattle.theory.proofs.Questions.{first-no-none, first-no-yes}
 use Rattle.file_blocks.specs.Words.{BYTE, WORD}
@@ -30,7 +30,7 @@ use Rattle.file_blocks.proofs.Reading.{places-blocks, whole-parts}
 use Rattle.file_blocks.proofs.Sequences.{blocks-back, blocks-bytes, blocks-pass, Eight, length-blocks, Passes}
 use Rattle.file_blocks.proofs.Sequences.{places-eight}
 use Rattle.file_blocks.proofs.Pages.{recorded-back, records-pages}
-use Rattle.file_blocks.proofs.Records.{length-records, page-below, pages-sound, recorded-counts, recorded-eight}
+use Rattle.file_blocks.proofs.Records.{length-records, pages-sound, recorded-counts, recorded-eight}
 use Rattle.file_blocks.proofs.Records.{recorded-fits, records-all, records-right}
 
 -- So many blocks: the records have room in them, and none is empty but the only one.
@@ -87,7 +87,7 @@ module _ (limits : Limits) (few : limits .entries ≤ 8) where
           let n = blocksFor (length ps) in
           let l = length-records 0 B in
           let fits : All Fits ps = records-all Fits 0 B (λ t p h. recorded-fits limits few (0 + t) p atoms
-          (omega (arith, page-below B t p h)) (page-passes t p h)) in
+          (omega (arith, some-below B t p h)) (page-passes t p h)) in
           subst (λ (m : ℕ). Passes m 0 (blocksIn m (fileOf B)) ps) (sym count-file)
           (blocks-pass n n 0 ps fits (omega arith) (omega arith) (blocks-room (length ps)) (blocks-used (length ps)))
 

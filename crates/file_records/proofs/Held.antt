@@ -11,14 +11,13 @@ use lib.ListN.{length, getD, take, set, length-append, length-set, List·getD-ma
 use lib.Seq.{take-suc, take-suc-set, take-set-le, take-all, getD-take, length-take-le}
 use Rattle.theory.specs.Limits.{document}
 use Rattle.theory.specs.Rules.{Page, Pages}
-use Rattle.theory.proofs.Lists.{le-or-lt}
+use Rattle.theory.proofs.Lists.{le-or-lt, some-below}
 use Rattle.table.specs.declared.Rule.{Rule}
 use Rattle.table.specs.declared.Slot.{Slot}
 use Rattle.table.specs.Rules.{bookOf, pageOf, pastRule}
 use Rattle.table.proofs.Programs.{book-at, book-length, page-free, page-there}
 use Rattle.file_blocks.specs.Places.{Place, recorded, recordsFrom, records}
 use Rattle.file_blocks.proofs.Pages.{records-append}
-use Rattle.file_blocks.proofs.Records.{page-below}
 use Rattle.file_records.specs.declared.HeldSlots.{HeldSlots}
 use Rattle.file_records.specs.Held.{HeldIn, slot}
 use Rattle.file_records.specs.Bytes.{heldPage}
@@ -177,7 +176,7 @@ module _ (rules : List Rule) (h : HeldSlots) (H : HeldIn (bookOf rules) h) (k : 
       omega (
         arith,
         same-slot,
-        page-below (bookOf rules) (found .slot) (found .page) (found .there),
+        some-below (bookOf rules) (found .slot) (found .page) (found .there),
         book-length rules,
       )
 
