@@ -45,8 +45,8 @@ as-read a e =
 -- A reading with no lists has none, whatever it is.
 pub none-positive : (x : Reading) → 0 ≡ length (positivesOf (lineOf x [] []))
 none-positive of.Blank = refl
-none-positive of.TooLong = refl
-none-positive of.NoCommand = refl
+none-positive of.LineTooLong = refl
+none-positive of.NotACommand = refl
 none-positive (of.Command (Add head)) = refl
 none-positive (of.Command (Remove slot)) = refl
 none-positive (of.Command (Replace slot head)) = refl
@@ -55,8 +55,8 @@ none-positive (of.Command Labels) = refl
 
 pub none-negative : (x : Reading) → 0 ≡ length (negativesOf (lineOf x [] []))
 none-negative of.Blank = refl
-none-negative of.TooLong = refl
-none-negative of.NoCommand = refl
+none-negative of.LineTooLong = refl
+none-negative of.NotACommand = refl
 none-negative (of.Command (Add head)) = refl
 none-negative (of.Command (Remove slot)) = refl
 none-negative (of.Command (Replace slot head)) = refl

@@ -56,8 +56,8 @@ commandOf Labels ps ns = spec.labels
 
 abbrev pub lineOf : Reading → List ℕ → List ℕ → Line
 lineOf reading-of.Blank ps ns = is-blank
-lineOf reading-of.TooLong ps ns = too-long
-lineOf reading-of.NoCommand ps ns = no-command
+lineOf reading-of.LineTooLong ps ns = too-long
+lineOf reading-of.NotACommand ps ns = no-command
 lineOf (reading-of.Command c) ps ns = is (commandOf c ps ns)
 
 -- The lists of a rule, as they stand beside it.

@@ -16,8 +16,8 @@ pub enum Command {
 // command.
 pub enum Reading {
     Blank,
-    TooLong,
-    NoCommand,
+    LineTooLong,
+    NotACommand,
     Command(Command),
 }
 

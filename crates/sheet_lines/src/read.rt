@@ -113,12 +113,12 @@ fn lists(line: &[u8], purpose: Purpose, head: u32, place: Place) -> Parsed
     let after = t.next;
     let end = after.offset;
     if !is(&line[start..end], b'!') {
-        return plain(Reading::NoCommand, after);
+        return plain(Reading::NotACommand, after);
     }
     let n = collect(line, found, positives, after);
     let last = n.next;
     if !ended(line, last) {
-        return plain(Reading::NoCommand, last);
+        return plain(Reading::NotACommand, last);
     }
     let entries = n.entries;
     Parsed {
@@ -143,14 +143,14 @@ fn rule(line: &[u8], place: Place, purpose: Purpose) -> Parsed
     let after = h.next;
     let end = after.offset;
     let Number::Is(head) = numeral(&line[start..end]) else {
-        return plain(Reading::NoCommand, after);
+        return plain(Reading::NotACommand, after);
     };
     let c = next_token(line, after);
     let from = c.start;
     let next = c.next;
     let to = next.offset;
     if !is(&line[from..to], b':') {
-        return plain(Reading::NoCommand, next);
+        return plain(Reading::NotACommand, next);
     }
     lists(line, purpose, head, next)
 }
@@ -167,7 +167,7 @@ fn replacement(line: &[u8], place: Place) -> Parsed
     let next = t.next;
     let end = next.offset;
     let Number::Is(slot) = numeral(&line[start..end]) else {
-        return plain(Reading::NoCommand, next);
+        return plain(Reading::NotACommand, next);
     };
     rule(line, next, Purpose::Replaces(slot))
 }
@@ -184,10 +184,10 @@ fn numbered(line: &[u8], place: Place, removes: bool) -> Parsed
     let next = t.next;
     let end = next.offset;
     if !ended(line, next) {
-        return plain(Reading::NoCommand, next);
+        return plain(Reading::NotACommand, next);
     }
     let Number::Is(n) = numeral(&line[start..end]) else {
-        return plain(Reading::NoCommand, next);
+        return plain(Reading::NotACommand, next);
     };
     if removes {
         return plain(Reading::Command(Command::Remove(n)), next);
@@ -201,7 +201,7 @@ fn labels_form(line: &[u8], place: Place) -> Parsed
     ensures { λ r. ⌜ Onward (now (line .entry)) place (r .place) ⌝ }
 {
     if !ended(line, place) {
-        return plain(Reading::NoCommand, place);
+        return plain(Reading::NotACommand, place);
     }
     plain(Reading::Command(Command::Labels), place)
 }
@@ -233,7 +233,7 @@ fn form(line: &[u8], place: Place) -> Parsed
     if is(word, b'L') {
         return labels_form(line, next);
     }
-    plain(Reading::NoCommand, next)
+    plain(Reading::NotACommand, next)
 }
 
 // What stands in a line from a place on: it is blank, over-long, of no form, or a command with its lists. Any bytes and
@@ -244,7 +244,7 @@ pub fn read(line: &[u8], place: Place) -> Parsed
     ensures { λ r. ⌜ Onward (now (line .entry)) place (r .place) ⌝ }
 {
     if bytes_left(line.len(), place.offset) > Parsed::LINE {
-        return plain(Reading::TooLong, place);
+        return plain(Reading::LineTooLong, place);
     }
     if ended(line, place) {
         return plain(Reading::Blank, place);

@@ -27,9 +27,9 @@ told p x e = ap (λ (y : Reading). lineOf y (positivesIn p) (negativesIn p)) e
 pub neither : {P : Type 0} (x : Reading) → OneOf (2 ∷ 3 ∷ []) (tagOf T.the-type x) → Unless x P → P
 neither reading-of.Blank (inl e) p = absurd (omega (arith, e))
 neither reading-of.Blank (inr e) p = absurd (omega (arith, e))
-neither reading-of.TooLong (inl e) p = absurd (omega (arith, e))
-neither reading-of.TooLong (inr e) p = absurd (omega (arith, e))
-neither reading-of.NoCommand k p = p
+neither reading-of.LineTooLong (inl e) p = absurd (omega (arith, e))
+neither reading-of.LineTooLong (inr e) p = absurd (omega (arith, e))
+neither reading-of.NotACommand k p = p
 neither (reading-of.Command c) k p = p
 
 -- A line whose reading is none of the commands is refused by question 13, unless it is blank or too long.
@@ -43,10 +43,10 @@ module _ (p : Parsed) {before : List ℕ} {at : ℕ} {after : List ℕ} {next : 
       go : (x : Reading) → p .reading ≡ x → OneOf (0 ∷ 1 ∷ 2 ∷ []) (tagOf T.the-type x)
           → Unless x (Judges p before at after (judged.Told next))
       go reading-of.Blank e k = tt
-      go reading-of.TooLong e k = tt
-      go reading-of.NoCommand e k =
+      go reading-of.LineTooLong e k = tt
+      go reading-of.NotACommand e k =
           λ line d.
-          record { printed = _; prints = λ t. prints.unread (d ∙ told p reading-of.NoCommand e); wrote = w }
+          record { printed = _; prints = λ t. prints.unread (d ∙ told p reading-of.NotACommand e); wrote = w }
       go (reading-of.Command c) e (inl k) = absurd (omega (arith, k))
       go (reading-of.Command c) e (inr (inl k)) = absurd (omega (arith, k))
       go (reading-of.Command c) e (inr (inr k)) = absurd (omega (arith, k))

@@ -29,8 +29,8 @@ Judges p before at after (judged.Command c) =
 -- Private: the same where a line was neither blank nor too long.
 abbrev pub Unless : Reading → Type 0 → Type 0
 Unless reading-of.Blank P = Unit {0}
-Unless reading-of.TooLong P = Unit {0}
-Unless reading-of.NoCommand P = P
+Unless reading-of.LineTooLong P = Unit {0}
+Unless reading-of.NotACommand P = P
 Unless (reading-of.Command c) P = P
 
 abbrev pub Unread : Parsed → List ℕ → ℕ → List ℕ → Judged → Type 0

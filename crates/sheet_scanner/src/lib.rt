@@ -89,7 +89,7 @@ pub fn judge(parsed: Parsed, out: &mut [u8], at: usize) -> Judged
     let reading = parsed.reading;
     match reading {
         Reading::Blank => Judged::Told(at),
-        Reading::TooLong => Judged::Told(write_refusal(out, at, place.line, 14)),
+        Reading::LineTooLong => Judged::Told(write_refusal(out, at, place.line, 14)),
         _ => command_of(parsed, out, at),
     }
 }
