@@ -8,12 +8,13 @@ use Rattle.calls.specs.declared.ChangeAnswer.{ChangeAnswer}
 use Rattle.calls.specs.declared.ListAnswer.the-variants as listed
 use Rattle.calls.specs.Contracts.{LoadEnds}
 use Rattle.fields.specs.Written.{Wrote}
-use Rattle.file_lines.specs.Loads.{LINES, tellLoad, LoadWrites, printed}
+use Rattle.sheet_label_lines.specs.LabelLines.{LABELS_ROOM}
+use Rattle.file_lines.specs.Loads.{tellLoad, LoadWrites, printed}
 
 -- The lines that tell how a load ended were written.
 pub told-lines :
     {file before after : List ℕ} {n : ℕ} {x : ChangeAnswer} {u : Table} (y : ChangeAnswer) {bs : List ℕ}
-    → LINES ≤ length before → LoadEnds file x u → x ≡ y → bs ≡ tellLoad y u → Wrote bs before 0 after n
+    → LABELS_ROOM ≤ length before → LoadEnds file x u → x ≡ y → bs ≡ tellLoad y u → Wrote bs before 0 after n
     → LoadWrites file before (listed.Count n) after
 told-lines {x = x} {u = u} y room ends e d wrote =
     printed room

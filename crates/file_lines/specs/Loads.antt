@@ -20,7 +20,7 @@ use Rattle.calls.specs.Contracts.{LoadEnds}
 use Rattle.fields.specs.Texts.{bytes}
 use Rattle.fields.specs.Written.{Wrote}
 use Rattle.sheet_printing.specs.Printed.{named}
-use Rattle.sheet_label_lines.specs.LabelLines.{labelLines}
+use Rattle.sheet_label_lines.specs.LabelLines.{LABELS_ROOM, labelLines}
 use Rattle.sheet_meaning.specs.Seen.{SeesLabels}
 
 -- `refused` and the number, alone on its line.
@@ -53,14 +53,10 @@ BookLoads file out = LoadSeen file (first-no (file-questions document file)) out
 abbrev pub LONGEST : ℕ
 LONGEST = BLOCK * BLOCKS
 
--- The room that the lines of every atom need: 32 bytes for each.
-abbrev pub LINES : ℕ
-LINES = 32 * document .atoms
-
--- What is printed stands from the start of a buffer with that room, and so many bytes it has. A shorter buffer is
+-- What is printed stands from the start of a buffer with room for the lines of every atom, and so many bytes it has. A shorter buffer is
 -- refused by 11, and stays as it was.
 pub data LoadWrites (file before : List ℕ) : ListAnswer → List ℕ → Type 0 where
-  short : length before < LINES → LoadWrites file before (listed.Refused (BufferTooShort LINES)) before
+  short : length before < LABELS_ROOM → LoadWrites file before (listed.Refused (BufferTooShort LABELS_ROOM)) before
   printed :
-      {out after : List ℕ} {n : ℕ} → LINES ≤ length before → LoadPrints file out → Wrote out before 0 after n
+      {out after : List ℕ} {n : ℕ} → LABELS_ROOM ≤ length before → LoadPrints file out → Wrote out before 0 after n
       → LoadWrites file before (listed.Count n) after

@@ -4,13 +4,10 @@ use calls::ListAnswer;
 use file_calls::load;
 use refusals::Refusal;
 use refusals::refusal_number;
+use sheet_label_lines::LABELS_ROOM;
 use sheet_label_lines::write_labels;
 use sheet_printing::write_named;
-use table::Table;
 ghost use Rattle.file_lines.specs.Loads.{LoadWrites};
-
-// The room that the lines of every atom need: 32 bytes for each.
-pub const LINES: usize = 32 * Table::ATOMS;
 
 // Writes what is printed of any bytes from the start of the buffer: the labels of the table that they record, or
 // `refused` and the number of the first question answered no. Answers how many bytes that are. A buffer without room
@@ -18,8 +15,8 @@ pub const LINES: usize = 32 * Table::ATOMS;
 pub fn load_lines(bytes: &[u8], out: &mut [u8]) -> ListAnswer
     ensures { λ r. ⌜ LoadWrites (now (bytes .entry)) (now (out .entry)) r (now (out .exit)) ⌝ }
 {
-    if out.len() < LINES {
-        return ListAnswer::Refused(Refusal::BufferTooShort(LINES));
+    if out.len() < LABELS_ROOM {
+        return ListAnswer::Refused(Refusal::BufferTooShort(LABELS_ROOM));
     }
     let loading = load(bytes);
     let answer = loading.answer;

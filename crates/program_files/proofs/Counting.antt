@@ -9,7 +9,8 @@ use Rattle.calls.specs.declared.ListAnswer.{ListAnswer}
 use Rattle.calls.specs.Contracts as contract
 use Rattle.calls.specs.Contracts.{SaveEnds}
 use Rattle.fields.proofs.Wrote.{wrote-start, wrote-length}
-use Rattle.file_lines.specs.Loads.{LINES, LoadPrints, LoadWrites, short, printed}
+use Rattle.sheet_label_lines.specs.LabelLines.{LABELS_ROOM}
+use Rattle.file_lines.specs.Loads.{LoadPrints, LoadWrites, short, printed}
 use Rattle.program_io.specs.Told.{Writes}
 use Rattle.program_files.specs.Saves.{countOf}
 
@@ -29,14 +30,14 @@ saved-count {t} {before} {after} {x} s e = omega (arith, e, saved-within t befor
 
 -- So does what a load counts, and with room for every line it is what is printed.
 lines-in :
-    (file before after : List ℕ) (x : ListAnswer) → LoadWrites file before x after → LINES ≤ length before
+    (file before after : List ℕ) (x : ListAnswer) → LoadWrites file before x after → LABELS_ROOM ≤ length before
     → (countOf x ≤ length after) × LoadPrints file (take (countOf x) after)
 lines-in file before after x (short l) room = absurd (omega (arith, l, room))
 lines-in file before after x (printed l p w) room =
     (omega (arith, w .room, w .place, wrote-length w), subst (LoadPrints file) (sym (wrote-start w)) p)
 
 pub lines-counted :
-    {file before after : List ℕ} {x : ListAnswer} {n : ℕ} → LoadWrites file before x after → LINES ≤ length before
+    {file before after : List ℕ} {x : ListAnswer} {n : ℕ} → LoadWrites file before x after → LABELS_ROOM ≤ length before
     → n ≡ countOf x → (n ≤ length after) × LoadPrints file (take n after)
 lines-counted {file} {before} {after} {x} {n} w room e =
     let counted = lines-in file before after x w room in

@@ -17,3 +17,7 @@ pub record LoadsInput (file out : List ℕ) (r : Listed) : Type 0 where
   pub ended : r .read < length file → r .got ≡ 0
   pub lines : LoadPrints (take (r .read) file) (take (r .printed) out)
   pub writes : Writes (take (r .printed) out) 0 (r .shown) (r .lost)
+
+-- The whole of the loading program: with some buffers.
+abbrev pub LoadsFile : Listed → Type 0
+LoadsFile r = (file out : List ℕ) × LoadsInput file out r

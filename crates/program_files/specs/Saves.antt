@@ -26,3 +26,7 @@ pub record SavesInput (buffer before after : List ℕ) (r : Saved) : Type 0 wher
   pub saves : SaveEnds (r .last .reply .table) before answer after
   pub count : r .count ≡ countOf answer
   pub writes : Writes (take (r .count) after) 0 (r .shown) (r .lost)
+
+-- The whole of the saving program: with some buffers.
+abbrev pub SavesSheet : Saved → Type 0
+SavesSheet r = (buffer before after : List ℕ) × SavesInput buffer before after r

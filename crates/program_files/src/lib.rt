@@ -17,8 +17,8 @@ ghost use lib.ListN.{length};
 ghost use Rattle.sheet_meaning.specs.Sheets.{MOST};
 ghost use Rattle.file_lines.specs.Loads.{LONGEST};
 ghost use Rattle.program_loop.specs.Takes.{SPACE};
-ghost use Rattle.program_files.specs.Saves.{countOf, SavesInput};
-ghost use Rattle.program_files.specs.Loads.{LoadsInput};
+ghost use Rattle.program_files.specs.Saves.{countOf, SavesInput, SavesSheet};
+ghost use Rattle.program_files.specs.Loads.{LoadsInput, LoadsFile};
 
 // What a sheet left and what was saved of it: the reply to its last line, with the table after it; how many bytes that
 // table's file has; how many were shown, and how many were lost because they could not be written.
@@ -72,11 +72,13 @@ pub fn save_input(input: &mut [u8], file: &mut [u8]) -> Saved
     }
 }
 
-// The whole of the saving program: what `save_input` hands back is for its contract alone.
-pub fn save_run() {
+// The whole of the saving program. What it hands back is for its contract alone.
+pub fn save_run() -> Saved
+    ensures { λ r. ⌜ SavesSheet r ⌝ }
+{
     let mut input = input_buffer();
     let mut file: [u8; LONGEST] = [0; LONGEST];
-    save_input(&mut input, &mut file);
+    save_input(&mut input, &mut file)
 }
 
 // Reads an input and prints the lines of it on standard output. The buffer has room for one byte more than a file can
@@ -113,9 +115,11 @@ pub fn load_input(file: &mut [u8], out: &mut [u8]) -> Listed
     }
 }
 
-// The whole of the loading program: what `load_input` hands back is for its contract alone.
-pub fn load_run() {
+// The whole of the loading program. What it hands back is for its contract alone.
+pub fn load_run() -> Listed
+    ensures { λ r. ⌜ LoadsFile r ⌝ }
+{
     let mut file: [u8; LONGEST + 1] = [0; LONGEST + 1];
     let mut out = io::large_buffer();
-    load_input(&mut file, &mut out);
+    load_input(&mut file, &mut out)
 }

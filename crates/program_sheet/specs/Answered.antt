@@ -1,7 +1,7 @@
 -- What can be said of a program that answers its input as a sheet. Assumes nothing.
 use Prim.Native.Nat.{ℕ, _≤_, _<_}
 use mathlib.Core.Path.{_≡_}
-use mathlib.Core.Bool.{Bool}
+use mathlib.Core.Bool.{Bool, true}
 use mathlib.Core.List.{List}
 use lib.ListN.{length, take}
 use Rattle.sheet_meaning.specs.Sheets.{start, MOST}
@@ -40,3 +40,7 @@ pub record AnswersLast (showing : Bool) (buffer : List ℕ) (r : Last) : Type 0 
   pub first : Sheet
   pub starts : StandsFor start first
   pub answers : AnswersFrom first showing buffer r
+
+-- The whole of the sheet program: what was read into some buffer was answered so, each reply shown.
+abbrev pub AnswersSheet : Last → Type 0
+AnswersSheet r = (buffer : List ℕ) × AnswersLast true buffer r

@@ -12,7 +12,7 @@ ghost use mathlib.Core.Bool.{true, false};
 ghost use lib.ListN.{length};
 ghost use Rattle.sheet_meaning.specs.Sheets.{MOST};
 ghost use Rattle.program_loop.specs.Takes.{SPACE};
-ghost use Rattle.program_sheet.specs.Answered.{RepliesLast, AnswersFrom, AnswersLast};
+ghost use Rattle.program_sheet.specs.Answered.{RepliesLast, AnswersFrom, AnswersLast, AnswersSheet};
 
 // The most bytes of input that are read (`MOST` in crates/sheet_meaning/specs/Sheets.antt): what follows is as if the
 // input ended there.
@@ -102,8 +102,10 @@ pub fn input_buffer() -> [u8; MOST]
     [0; MOST]
 }
 
-// The whole of the sheet program: what `answer_input` hands back is for its contract alone.
-pub fn run() {
+// The whole of the sheet program. What it hands back is for its contract alone.
+pub fn run() -> Last
+    ensures { λ r. ⌜ AnswersSheet r ⌝ }
+{
     let mut input = input_buffer();
-    answer_input(&mut input);
+    answer_input(&mut input)
 }
