@@ -3,7 +3,7 @@
 // calls are. Arguments are bare numbers; no call asks anything of its caller.
 use calls::LabelAnswer;
 use calls::ListAnswer;
-use checklist_frame::MOST;
+use checklist_frame::MOST_FILES;
 use checklist_frame::Mark;
 use checklist_frame::file_count;
 use checklist_frame::good_atom;
@@ -38,11 +38,11 @@ pub fn is_sound(table: Table) -> bool
 }
 
 // Which of n files are unsent or have a skip standing, by the atoms that are in.
-fn lacking(flags: &[bool; Table::ATOMS], n: usize) -> [bool; MOST + 1]
+fn lacking(flags: &[bool; Table::ATOMS], n: usize) -> [bool; MOST_FILES + 1]
     requires { ⌜ n ≤ most-files ⌝ }
     ensures { λ r. ⌜ Lacking (now (flags .entry)) n r ⌝ }
 {
-    let mut lacks: [bool; MOST + 1] = [false; MOST + 1];
+    let mut lacks: [bool; MOST_FILES + 1] = [false; MOST_FILES + 1];
     let mut i: usize = 1;
     while i <= n {
         let sent = mark_atom(Mark::Sent, i as u16);

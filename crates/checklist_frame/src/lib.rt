@@ -15,7 +15,7 @@ ghost use Rattle.checklist_frame.specs.Frame.{most-files, good, fact, fr
 ghost use Rattle.checklist_frame.specs.Parts.{mark-atom, FreeOrMark, FrameRun, MarksBehind, count-of};
 
 // The most files of a checklist.
-pub const MOST: usize = 60;
+pub const MOST_FILES: usize = 60;
 
 // The two marks that a file can have.
 pub enum Mark {
@@ -148,7 +148,7 @@ fn frame_run(rules: [Rule; Table::SLOTS]) -> usize
         return 0;
     }
     let mut n: usize = 0;
-    while n < MOST {
+    while n < MOST_FILES {
         let rule = rules[n + 1];
         if !holds_file(rule, n as u16 + 1) {
             return n;

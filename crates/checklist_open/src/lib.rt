@@ -2,7 +2,7 @@
 use add_remove::add;
 use calls::ChangeAnswer;
 use calls::Changed;
-use checklist_frame::MOST;
+use checklist_frame::MOST_FILES;
 use checklist_frame::on_list;
 use refusals::Refusal;
 use table::Table;
@@ -48,7 +48,7 @@ fn framed(n: u32) -> Table
 pub fn open(files: u32) -> Changed
     ensures { λ r. ⌜ OpenEnds files (r .answer) (r .table) ⌝ }
 {
-    if !on_list(files, MOST) {
+    if !on_list(files, MOST_FILES) {
         return Changed {
             answer: ChangeAnswer::Refused(Refusal::WrongFileCount),
             table: Table::empty(),

@@ -6,6 +6,7 @@ use file_calls::save;
 use file_lines::load_lines;
 use program_io::show;
 use program_loop::Task;
+use program_loop::output_buffer;
 use program_loop::take_input;
 use program_sheet::Last;
 use program_sheet::input_buffer;
@@ -120,6 +121,6 @@ pub fn load_run() -> Listed
     ensures { λ r. ⌜ LoadsFile r ⌝ }
 {
     let mut file: [u8; LONGEST + 1] = [0; LONGEST + 1];
-    let mut out = io::large_buffer();
+    let mut out = output_buffer();
     load_input(&mut file, &mut out)
 }

@@ -8,7 +8,7 @@ use mathlib.Core.Bool.{Bool, true, false}
 use mathlib.Core.List.{List, [], _++_}
 use lib.ListN.{length, take, length-append}
 
--- Since the program began, the reads gave these bytes, in this order, so many in all; the last read gave so many of
+-- Since the cells were made, the reads gave these bytes, in this order, so many in all; the last read gave so many of
 -- them. Before the first read this number is any but 0.
 pub record Given (bytes : List ℕ) (read got : ℕ) : Type 0 where
   size : length bytes ≡ read
@@ -21,8 +21,8 @@ pub given-more :
     → Given (bytes ++ more) (read + length more) (length more)
 given-more {bytes} more g some = record { size = omega (arith, g .size, length-append bytes more) }
 
--- Since the program began, these bytes were written, in this order, so many in all; behind them so many were lost in a
--- write that failed.
+-- Since the cells were made, these bytes were written, in this order, so many in all; then a write of so many more
+-- failed, of which the first may be there: they are called lost.
 pub record Shown (bytes : List ℕ) (shown lost : ℕ) : Type 0 where
   size : length bytes ≡ shown
 
@@ -41,8 +41,8 @@ abbrev pub shownOf : Bool → List ℕ → List ℕ
 shownOf true bytes = bytes
 shownOf false bytes = []
 
--- These bytes were handed to standard output behind those before, and so many of them, the last ones, were lost: none,
--- unless a write failed.
+-- These bytes were handed to standard output behind those before, and a write of so many of them, the last ones, failed:
+-- none, or all.
 pub record Writes (bytes : List ℕ) (shown₀ shown lost : ℕ) : Type 0 where
   pub count : shown + lost ≡ shown₀ + length bytes
   pub few : lost ≤ length bytes

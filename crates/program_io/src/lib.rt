@@ -50,9 +50,10 @@ fn read_part(part: &mut [u8], read: &mut usize, got: &mut usize)
     *read += n;
 }
 
-// Reads once behind the bytes that were read before, which stay.
-pub fn read_on(input: &mut [u8], read: &mut usize, got: &mut usize)
-    requires { ⌜ (now read < length (now input)) × (0 < now got) ⌝ }
+// Reads once behind the bytes that were read before, which stay. Not to be called once bytes are lost: then nothing
+// more is read.
+pub fn read_on(input: &mut [u8], read: &mut usize, got: &mut usize, lost: &usize)
+    requires { ⌜ (now read < length (now input)) × (0 < now got) × (now lost ≡ 0) ⌝ }
     ensures { λ _. ⌜ ReadsOn (now (input .entry)) (now (read .entry)) (now (got .entry))
         (now (input .exit)) (now (read .exit)) (now (got .exit)) ⌝ }
 {

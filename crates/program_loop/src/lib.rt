@@ -17,6 +17,16 @@ pub enum Task {
     Keep,
 }
 
+// The bytes of the buffer that replies are written into.
+const SPACE: usize = 65536;
+
+// Zeros, for what a program prints at a time.
+pub fn output_buffer() -> [u8; SPACE]
+    ensures { λ r. ⌜ SPACE ≡ length r ⌝ }
+{
+    [0; SPACE]
+}
+
 // Answers the lines of a piece: all of its bytes are fed, in order, unless what is shown can't be written.
 fn answer(
     sheet: Sheet,
@@ -81,7 +91,7 @@ fn take_read(
         (now (input .exit)) (now (read .exit)) (now (got .exit)) (now (shown .exit)) (now (lost .exit)) r ⌝ }
 {
     let from = *read;
-    read_on(input, read, got);
+    read_on(input, read, got, lost);
     let end = *read;
     take_piece(task, sheet, input, from, end, out, shown, lost)
 }

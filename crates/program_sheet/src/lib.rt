@@ -2,6 +2,7 @@
 // none is.
 use program_io::show;
 use program_loop::Task;
+use program_loop::output_buffer;
 use program_loop::take_input;
 use sheet_feed::Reply;
 use sheet_feed::Sheet;
@@ -53,7 +54,7 @@ fn answer_from(sheet: Sheet, showing: bool, input: &mut [u8]) -> Last
     requires { ⌜ length (now input) ≡ MOST ⌝ }
     ensures { λ r. ⌜ AnswersFrom sheet showing (now (input .exit)) r ⌝ }
 {
-    let mut out = io::large_buffer();
+    let mut out = output_buffer();
     let mut read: usize = 0;
     let mut got: usize = 1;
     let mut shown: usize = 0;

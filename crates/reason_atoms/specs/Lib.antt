@@ -1,3 +1,3 @@
--- What the functions of this crate promise one another and `reasons`.
+-- What the functions of this crate promise one another and `reason_call`.
 pub mod SupportEntries
 pub mod Gathering

@@ -21,7 +21,7 @@ returns : tie.Need-returns
 returns c =
     let taken = c .before .before .take-piece in
     let read = c .before .before .before .before .before .before .before .before .before in
-    let s = read .before .before .before .before .before .before .before in
+    let s = read .before .before .before .before .before .before .before .before in
     let r = read .read-on in
     record {
       reads = r .ensures;

@@ -9,8 +9,8 @@ use borrow.Author.Needs.{needs}
 use Rattle.program_sheet.proofs.answer_from.Statement.{statement}
 use Rattle.program_sheet.proofs.answer_from.Tie as tie
 
-large-buffer-requires : tie.Need-large-buffer-requires
-large-buffer-requires c κs = search needs
+output-buffer-requires : tie.Need-output-buffer-requires
+output-buffer-requires c κs = search needs
 
 slice-aggregate-take-input : tie.Need-slice-aggregate-take-input
 slice-aggregate-take-input c = search needs
@@ -22,7 +22,7 @@ take-input-requires c κs = search needs
 size : (c : tie.After-take-input) → length (c .take-input .last .1 .1 .1 .0) ≡ SPACE
 size c =
     c .take-input .kept .1 .1 .1 .0
-    ∙ sym (c .before .before .before .before .before .before .before .large-buffer .ensures)
+    ∙ sym (c .before .before .before .before .before .before .before .output-buffer .ensures)
 
 bound : (c : tie.After-take-input) → c .take-input .last .1 .1 .1 .1 .1 .1 .0 + SPACE < 2 ^ 64
 bound c =
@@ -68,7 +68,7 @@ pub answer-from-spec : {M : Type 1} → statement M
 answer-from-spec =
     tie.close
     (tie.spec
-    large-buffer-requires
+    output-buffer-requires
     slice-aggregate-take-input
     take-input-requires
     slice-aggregate-reply-last
