@@ -1,56 +1,195 @@
--- Laws of what the labels keep, taken field by field into arrays. Assumes nothing.
-use Prim.Native.Nat.{ℕ, zero, suc, _≤_, _<_}
+-- Laws of what the slots keep of each atom, gathered into arrays by a walk down the slots. Assumes nothing.
+use Prim.Native.Nat.{ℕ, zero, suc, _+_, _≤_, _<_}
 use native.Mathlib.Omega.{arith}
-use mathlib.Core.Path.{_≡_, refl, sym, _∙_, ap, fun-ext}
-use mathlib.Core.Bool.{false}
-use mathlib.Core.List.{List}
+use native.Mathlib.Decide.{ℕ-discrete}
+use mathlib.Core.Path.{_≡_, refl, sym, _∙_, ap, ap₂, fun-ext}
+use mathlib.Core.Bool.{Bool, true, false, not, _&&_, cond}
 use mathlib.Core.Logic.{⊎-elim}
-use lib.Dec.{ltb}
-use lib.ListN.{length, length-map, List·getD-map}
-use Rattle.theory.specs.Labels as theory
+use mathlib.Core.List.{List, [], _∷_, List·Memᴰ·head}
+use mathlib.Core.Option.{Option, none, some}
+use lib.Dec.{eqb}
+use lib.ListN.{length, getD, set, drop, length-set, replicate, length-replicate, drop-of-length-le, List·getD-eq-default}
+use lib.Seq.{drop-cons}
+use Rattle.theory.specs.Rules.{Bounded, Program, all}
+use Rattle.theory.specs.Rules as theory
+use Rattle.theory.specs.Limits.{document}
+use Rattle.theory.specs.Labels.{absent, out, in-at}
 use Rattle.theory.specs.Questions.{is-in-label}
-use Rattle.theory.proofs.Lists.{lt-ltb, ltb-lt, le-or-lt, unless}
 use Rattle.theory.specs.Certificate.{depth-in, slot-in, kept-in, kept-depth, kept-slot}
-use Rattle.table.specs.declared.Label.{Label}
-use Rattle.table.specs.Labels.{label-in, labelOf, labelAt, absentLabel}
-use Rattle.table.specs.Sets.{member, number}
+use Rattle.theory.specs.Slots.{keeps?, kept-from, label-from, label-by, occurs?}
+use Rattle.theory.proofs.Lists.{eqb-of, eqb-not, le-or-lt}
+use Rattle.table.specs.declared.Rule.{Rule}
 use Rattle.table.specs.declared.arrays.LabelArrays.{LabelArrays}
-use Rattle.table.specs.Arrays.{ArraysOf}
-use Rattle.table.proofs.Programs.{label-is-in}
+use Rattle.table.specs.Sets.{member, number}
+use Rattle.table.specs.Rules.{slotOf, ruleOf, programOf, bookOf, pastRule}
+use Rattle.table.specs.Words.{rulesOf, depthAt}
+use Rattle.table.specs.Labels.{labelAt}
+use Rattle.table.specs.Arrays.{ArraysOf, Noted}
+use Rattle.table.proofs.Members.{all-alike, mark-in, mark-other, number-same, number-other}
+use Rattle.table.proofs.Programs.{program-at, program-length, slot-rule}
+use Rattle.table.proofs.Words.{rules-length}
 
--- A field that an in label alone has: 0 for the others.
-in-less :
-    {A : Type 0} (f : theory.Label → A) (z : A) → f theory.absent ≡ z → f theory.out ≡ z → (n d s : ℕ) → n ≤ 1
-    → f (label-in n d s) ≡ z
-in-less f z a o zero d s l = a
-in-less f z a o (suc zero) d s l = o
-in-less f z a o (suc (suc n)) d s l = absurd (omega arith)
+-- What a slot found tells of its atom.
+abbrev told-flag : Option ℕ → Bool
+told-flag none = false
+told-flag (some s) = true
 
-module _ (l : Label) where
-  pub label-not-in : {A : Type 0} (f : theory.Label → A) (z : A) → f theory.absent ≡ z → f theory.out ≡ z → l .state ≤ 1
-      → f (labelOf l) ≡ z
-  label-not-in f z a o h = in-less f z a o (l .state) (l .depth) (l .slot .0) h
+abbrev told-depth : (ℕ → ℕ) → Option ℕ → ℕ
+told-depth depth none = zero
+told-depth depth (some s) = depth s
 
-  pub in-test : ltb 1 (l .state) ≡ is-in-label (labelOf l)
-  in-test = ⊎-elim
-      (λ (h : l .state ≤ 1). unless _ (λ t. (let k = ltb-lt 1 (l .state) t in omega arith))
-      ∙ sym (label-not-in is-in-label false refl refl h))
-      (λ (h : 1 < l .state). lt-ltb 1 (l .state) h ∙ sym (ap is-in-label (label-is-in l h)))
-      (le-or-lt (l .state) 1)
+abbrev told-slot : Option ℕ → ℕ
+told-slot none = zero
+told-slot (some s) = s
 
--- What was taken apart is what is kept.
-module _ (labels : List Label) (k : LabelArrays) (K : ArraysOf labels k) where
-  pub flags-long : length (k .flags) ≡ length labels
-  flags-long = ap length (K .flags) ∙ simp length-map
+-- The lowest slot from k on that keeps a depth for an atom.
+abbrev from-on : List Rule → (ℕ → ℕ) → ℕ → ℕ → Option ℕ
+from-on rows depth a k = kept-from depth a k (drop k (programOf rows))
 
-  pub flags-are : member (k .flags) ≡ kept-in (labelAt labels)
-  flags-are = fun-ext (λ a. ap (λ xs. member xs a) (K .flags)
-      ∙ List·getD-map (λ l. is-in-label (labelOf l)) labels a absentLabel)
+-- The arrays have what the slots from k on keep.
+pub record Read (rows : List Rule) (depth : ℕ → ℕ) (k : ℕ) (f : List Bool) (d s : List ℕ) : Type 0 where
+  pub many : length f ≡ document .atoms
+  pub deep : length d ≡ document .atoms
+  pub wide : length s ≡ document .atoms
+  pub flags : (a : ℕ) → a < document .atoms → member f a ≡ told-flag (from-on rows depth a k)
+  pub depths : (a : ℕ) → a < document .atoms → number d a ≡ told-depth depth (from-on rows depth a k)
+  pub slots : (a : ℕ) → a < document .atoms → number s a ≡ told-slot (from-on rows depth a k)
 
-  pub depths-are : number (k .depths) ≡ kept-depth (labelAt labels)
-  depths-are = fun-ext (λ a. ap (λ xs. number xs a) (K .depths)
-      ∙ List·getD-map (λ l. depth-in (labelOf l)) labels a absentLabel)
+module _ (rows : List Rule) (depth : ℕ → ℕ) where
+  past-end : (a k : ℕ) → length rows ≤ k → from-on rows depth a k ≡ none
+  unfolding kept-from
+  past-end a k l =
+      ap (kept-from depth a k) (drop-of-length-le (programOf rows) {i = k} (omega (arith, program-length rows)))
 
-  pub slots-are : number (k .slots) ≡ kept-slot (labelAt labels)
-  slots-are = fun-ext (λ a. ap (λ xs. number xs a) (K .slots)
-      ∙ List·getD-map (λ l. slot-in (labelOf l)) labels a absentLabel)
+  -- Past the last slot nothing is kept.
+  pub read-none :
+      (k : ℕ) → length rows ≤ k
+      → Read rows depth k (replicate (document .atoms) false) (replicate (document .atoms) 0)
+      (replicate (document .atoms) 0)
+  read-none k l = record {
+    many = length-replicate (document .atoms) false;
+    deep = length-replicate {A = ℕ} (document .atoms) 0;
+    wide = length-replicate {A = ℕ} (document .atoms) 0;
+    flags = λ a m. all-alike (document .atoms) a false ∙ sym (ap told-flag (past-end a k l));
+    depths = λ a m. all-alike {A = ℕ} (document .atoms) a 0 ∙ sym (ap (told-depth depth) (past-end a k l));
+    slots = λ a m. all-alike {A = ℕ} (document .atoms) a 0 ∙ sym (ap told-slot (past-end a k l));
+  }
+
+  -- One slot down, at slot i, which has the rule r and keeps x.
+  module _ (i k : ℕ) (l : i < length rows) (above : k ≡ suc i) (r : Rule) (read : r ≡ getD rows i pastRule) (x : ℕ)
+      (kept : x ≡ depth i) where
+    one-down : (a : ℕ) → from-on rows depth a i
+        ≡ elim (keeps? x a (slotOf r)) [ true ↦ some i | false ↦ from-on rows depth a k ]
+    unfolding kept-from
+    one-down a =
+        ap (kept-from depth a i) (drop-cons (programOf rows) i none (omega (arith, program-length rows)))
+        ∙ ap (λ (b : Bool). elim b [ true ↦ some i | false ↦ from-on rows depth a (suc i) ])
+        (ap₂ (λ y o. keeps? y a o) (sym kept) (program-at rows i ∙ ap slotOf (sym read)))
+        ∙ ap (λ (j : ℕ). elim (keeps? x a (slotOf r)) [ true ↦ some i | false ↦ from-on rows depth a j ]) (sym above)
+
+    down-other : (a : ℕ) → keeps? x a (slotOf r) ≡ false → from-on rows depth a i ≡ from-on rows depth a k
+    down-other a e = one-down a ∙ ap (λ (b : Bool). elim b [ true ↦ some i | false ↦ from-on rows depth a k ]) e
+
+    down-here : (a : ℕ) → keeps? x a (slotOf r) ≡ true → from-on rows depth a i ≡ some i
+    down-here a e = one-down a ∙ ap (λ (b : Bool). elim b [ true ↦ some i | false ↦ from-on rows depth a k ]) e
+
+    module _ (f : List Bool) (d s : List ℕ) (R : Read rows depth k f d s) where
+      -- nothing is kept here
+      idle-down : ((a : ℕ) → keeps? x a (slotOf r) ≡ false) → Read rows depth i f d s
+      idle-down n = record {
+        many = R .many;
+        deep = R .deep;
+        wide = R .wide;
+        flags = λ a m. R .flags a m ∙ sym (ap told-flag (down-other a (n a)));
+        depths = λ a m. R .depths a m ∙ sym (ap (told-depth depth) (down-other a (n a)));
+        slots = λ a m. R .slots a m ∙ sym (ap told-slot (down-other a (n a)));
+      }
+
+      -- a depth is kept for the head of a rule
+      module _ (q : theory.Rule) (holds : slotOf r ≡ some q) (deep : x ≡ 0 → ⊥) where
+        abbrev h : ℕ
+        h = r .head .0
+
+        keeps-is : (a : ℕ) → keeps? x a (slotOf r) ≡ eqb h a
+        keeps-is a =
+            ap (keeps? x a) holds
+            ∙ ap₂ (λ b c. b && not c) (ap (λ (p : theory.Rule). eqb (p .head) a) (sym (slot-rule r q holds)))
+            (eqb-not x 0 deep)
+            ∙ and-true (eqb h a)
+          where
+            and-true : (b : Bool) → (b && true) ≡ b
+            and-true true = refl
+            and-true false = refl
+
+        here : (a : ℕ) → a ≡ h → from-on rows depth a i ≡ some i
+        here a e = down-here a (keeps-is a ∙ eqb-of h a (sym e))
+
+        there : (a : ℕ) → (a ≡ h → ⊥) → from-on rows depth a i ≡ from-on rows depth a k
+        there a n = down-other a (keeps-is a ∙ eqb-not h a (λ e. n (sym e)))
+
+        kept-down : Read rows depth i (set f h true) (set d h x) (set s h i)
+        kept-down = record {
+          many = length-set f h true ∙ R .many;
+          deep = length-set d h x ∙ R .deep;
+          wide = length-set s h i ∙ R .wide;
+          flags = λ a m. elim (ℕ-discrete a h) [
+            | yes e ↦ ap (member (set f h true)) e ∙ mark-in f h (omega (arith, R .many))
+                ∙ sym (ap told-flag (here a e))
+            | no n ↦ mark-other f h a n ∙ R .flags a m ∙ sym (ap told-flag (there a n))
+          ];
+          depths = λ a m. elim (ℕ-discrete a h) [
+            | yes e ↦ ap (number (set d h x)) e ∙ number-same d h x (omega (arith, R .deep)) ∙ kept
+                ∙ sym (ap (told-depth depth) (here a e))
+            | no n ↦ number-other d h x a n ∙ R .depths a m ∙ sym (ap (told-depth depth) (there a n))
+          ];
+          slots = λ a m. elim (ℕ-discrete a h) [
+            | yes e ↦ ap (number (set s h i)) e ∙ number-same s h i (omega (arith, R .wide))
+                ∙ sym (ap told-slot (here a e))
+            | no n ↦ number-other s h i a n ∙ R .slots a m ∙ sym (ap told-slot (there a n))
+          ];
+        }
+
+      pub read-down : (g : List Bool) (e t : List ℕ) → Noted (slotOf r) (r .head .0) x i f d s g e t → Read rows depth i g e t
+      read-down g e t N = go (slotOf r) refl
+        where
+          as-it-was : (g ≡ f) × (e ≡ d) × (t ≡ s) → ((a : ℕ) → keeps? x a (slotOf r) ≡ false) → Read rows depth i g e t
+          as-it-was w n = rw (w .0, w .1, w .2) (idle-down n)
+
+          go : (o : Option theory.Rule) → slotOf r ≡ o → Read rows depth i g e t
+          go none h = as-it-was (N .free h) (λ a. ap (keeps? x a) h)
+          go (some q) h = elim (ℕ-discrete x 0) [
+            | yes z ↦ as-it-was (N .idle z) (λ a. ap (keeps? x a) h ∙ ap (λ c. eqb (q .head) a && not c) (eqb-of x 0 z)
+                ∙ and-false (eqb (q .head) a))
+            | no n ↦ (let K = N .kept q h n in rw (K .flags, K .depths, K .slots) (kept-down q h n))
+          ]
+            where
+              and-false : (b : Bool) → (b && false) ≡ false
+              and-false true = refl
+              and-false false = refl
+
+-- The slots from 0 on are all of them: the arrays have what the labels say.
+label-flag : (o : Option ℕ) (depth : ℕ → ℕ) (b : Bool) → told-flag o ≡ is-in-label (label-from o depth b)
+label-flag none depth true = refl
+label-flag none depth false = refl
+label-flag (some s) depth b = refl
+
+label-depth : (o : Option ℕ) (depth : ℕ → ℕ) (b : Bool) → told-depth depth o ≡ depth-in (label-from o depth b)
+label-depth none depth true = refl
+label-depth none depth false = refl
+label-depth (some s) depth b = refl
+
+label-slot : (o : Option ℕ) (depth : ℕ → ℕ) (b : Bool) → told-slot o ≡ slot-in (label-from o depth b)
+label-slot none depth true = refl
+label-slot none depth false = refl
+label-slot (some s) depth b = refl
+
+pub read-all : (table : List ℕ) (k : ℕ) (c : LabelArrays) → k ≡ 0
+    → Read (rulesOf table) (depthAt table) k (c .flags) (c .depths) (c .slots) → ArraysOf table c
+read-all table k c z R =
+    let S : Read (rulesOf table) (depthAt table) 0 (c .flags) (c .depths) (c .slots) = rw (sym z) R in
+    record {
+      long = S .many;
+      flags = λ a l. S .flags a l ∙ label-flag (kept-from (depthAt table) a 0 (programOf (rulesOf table))) _ _;
+      depths = λ a l. S .depths a l ∙ label-depth (kept-from (depthAt table) a 0 (programOf (rulesOf table))) _ _;
+      slots = λ a l. S .slots a l ∙ label-slot (kept-from (depthAt table) a 0 (programOf (rulesOf table))) _ _;
+    }

@@ -2,10 +2,10 @@
 pub mod Members
 pub mod Entries
 pub mod Programs
+pub mod Pasting
+pub mod Words
 pub mod Walks
-pub mod Empty
 pub mod Owned
 pub mod Copies
 pub mod LabelArrays
-pub mod CleanLabels
 pub mod SlotsInTurn

@@ -2,6 +2,7 @@
 -- these.
 pub mod Sets
 pub mod Rules
+pub mod Words
 pub mod Labels
 pub mod Arrays
 pub mod Turns

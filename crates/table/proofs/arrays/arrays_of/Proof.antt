@@ -1,90 +1,77 @@
--- `table::arrays::arrays-of` meets its contract. Assumes nothing.
-use Prim.Native.Nat.{_-_}
+-- `table::arrays::arrays_of` meets its contract: by what the slots from the one at hand on keep. Assumes nothing.
+use Prim.Native.Nat.{suc, _-_, _≤_, _<_}
 use native.Mathlib.Omega.{arith}
-use Rattle.theory.specs.Questions.{is-in-label}
-use Rattle.theory.specs.Limits.{document}
-use Rattle.theory.specs.Certificate.{depth-in, slot-in}
-use Rattle.table.specs.Labels.{labelOf, absentLabel}
-use Rattle.table.proofs.Copies.{Copied, copied-start, copied-next, copied-all}
-use Prim.Native.Nat.{_≤_, _<_}
-use mathlib.Core.Path.{_≡_, sym}
+use mathlib.Core.Path.{_≡_}
 use lib.ListN.{length}
 use borrow.Author.Needs.{needs}
+use Rattle.theory.specs.Limits.{document}
+use Rattle.table.specs.Words.{rulesOf, depthAt}
+use Rattle.table.proofs.Words.{rules-length}
+use Rattle.table.proofs.LabelArrays.{Read, read-none, read-down, read-all}
 use Rattle.table.proofs.arrays.arrays_of.Statement.{statement}
 use Rattle.table.proofs.arrays.arrays_of.Tie as tie
+use Rattle.table.proofs.arrays.arrays_of.Reads as reads
+use Rattle.table.proofs.arrays.arrays_of.Lts as lts
+use Rattle.table.proofs.arrays.note.Reads as note-reads
+use Rattle.table.proofs.slots.depth_at.Reads as depth-at-reads
+use Rattle.table.proofs.slots.rule_at.Reads as rule-at-reads
 
 abbrev Inv-loop : tie.InvT-loop
-Inv-loop labels flags₀ depths₀ slots₀ a₀ flags depths slots a =
-    Copied (λ l. is-in-label (labelOf l)) labels flags a
-    × Copied (λ l. depth-in (labelOf l)) labels depths a
-    × Copied (λ l. slot-in (labelOf l)) labels slots a
+Inv-loop table flags₀ depths₀ slots₀ left₀ flags depths slots left =
+    (left ≤ document .slots) × Read (rulesOf table) (depthAt table) left flags depths slots
 
 abbrev μ-loop : tie.MeasureT-loop
-μ-loop labels flags₀ depths₀ slots₀ a₀ flags depths slots a = document .atoms - a
+μ-loop table flags₀ depths₀ slots₀ left₀ flags depths slots left = left
 
+-- src/arrays.rt:56:5
 loop-holds : tie.Need-loop-holds Inv-loop μ-loop
 loop-holds c =
-    let l : length (c .args .t1) ≡ 256 = search needs in
-    (copied-start _ _ _ (sym l), copied-start _ _ _ (sym l), copied-start _ _ _ (sym l))
+    let w = c .args .table .now in
+    (omega arith, read-none (rulesOf w) (depthAt w) (document .slots) (omega (arith, rules-length w)))
 
-mul-label : tie.Need-mul-label Inv-loop μ-loop
-mul-label c = search needs
+-- src/arrays.rt:57:9
+sub-left : tie.Need-sub-left Inv-loop μ-loop
+sub-left c = search needs
 
-array-copy-out-label : tie.Need-array-copy-out-label Inv-loop μ-loop
-array-copy-out-label c = search needs
+-- src/arrays.rt:58:13
+rule-at-requires : tie.Need-rule-at-requires Inv-loop μ-loop
+rule-at-requires c κs = search needs
 
-is-in-requires : tie.Need-is-in-requires Inv-loop μ-loop
-is-in-requires c κs = tt
+-- src/arrays.rt:59:13
+depth-at-requires : tie.Need-depth-at-requires Inv-loop μ-loop
+depth-at-requires c κs = search needs
 
-array-write-flags : tie.Need-array-write-flags Inv-loop μ-loop
-array-write-flags c = search needs
+-- src/arrays.rt:60:17
+cast-n : tie.Need-cast-n Inv-loop μ-loop
+cast-n c = search needs
 
-depth-in-requires : tie.Need-depth-in-requires Inv-loop μ-loop
-depth-in-requires c κs = tt
+-- src/arrays.rt:61:9
+note-requires : tie.Need-note-requires Inv-loop μ-loop
+note-requires c κs = search needs
 
-mul-depths : tie.Need-mul-depths Inv-loop μ-loop
-mul-depths c = search needs
-
-array-write-depths : tie.Need-array-write-depths Inv-loop μ-loop
-array-write-depths c = search needs
-
-slot-in-requires : tie.Need-slot-in-requires Inv-loop μ-loop
-slot-in-requires c κs = tt
-
-mul-slots : tie.Need-mul-slots Inv-loop μ-loop
-mul-slots c = search needs
-
-array-write-slots : tie.Need-array-write-slots Inv-loop μ-loop
-array-write-slots c = search needs
-
-add-a : tie.Need-add-a Inv-loop μ-loop
-add-a c = search needs
-
+-- src/arrays.rt:56:5
 loop-less : tie.Need-loop-less Inv-loop μ-loop
 loop-less c = search needs
 
+-- src/arrays.rt:56:5
 loop-again : tie.Need-loop-again Inv-loop μ-loop
 loop-again c =
-    let s = c .before .before .before .before .before .before in
-    let l = c .before .before .before .before .before .loop in
-    let long : length (s .args .t1) ≡ 256 = search needs in
-    let low : l .a < length (s .args .t1) = omega arith in (
-      copied-next _ _ _ (l .a) absentLabel _ low (l .inv .0) (c .before .before .is-in .ensures),
-      copied-next _ _ _ (l .a) absentLabel _ low (l .inv .1) (c .before .depth-in .ensures),
-      copied-next _ _ _ (l .a) absentLabel _ low (l .inv .2) (c .slot-in .ensures),
+    let n = c .before .before .before .before in
+    let r = n .before in
+    let t = r .before .before .loop in
+    let w = r .before .before .before .args .table .now in
+    let l = r .before .loop-test .taken in (
+      omega (arith, t .inv .0),
+      read-down (rulesOf w) (depthAt w) (t .left - 1) (t .left) (omega (arith, t .inv .0, rules-length w, l))
+          (omega (arith, l)) _ (r .rule-at .ensures) _ (n .depth-at .ensures) _ _ _ (t .inv .1) _ _ _
+          (c .note .ensures),
     )
 
+-- src/arrays.rt:49:1
 returns : tie.Need-returns Inv-loop μ-loop
 returns c =
-    let s = c .before .before in
-    let l = c .before .loop in
-    let long : length (s .args .t1) ≡ 256 = search needs in
-    let over : length (s .args .t1) ≤ l .a = omega arith in
-    record {
-      flags = copied-all _ _ _ (l .a) over (l .inv .0);
-      depths = copied-all _ _ _ (l .a) over (l .inv .1);
-      slots = copied-all _ _ _ (l .a) over (l .inv .2);
-    }
+    let t = c .before .loop in
+    read-all (c .before .before .args .table .now) (t .left) _ (omega (arith, c .loop-test .left)) (t .inv .1)
 
 pub arrays-of-spec : {M : Type 1} → statement M
 arrays-of-spec =
@@ -93,17 +80,11 @@ arrays-of-spec =
     Inv-loop
     μ-loop
     loop-holds
-    mul-label
-    array-copy-out-label
-    is-in-requires
-    array-write-flags
-    depth-in-requires
-    mul-depths
-    array-write-depths
-    slot-in-requires
-    mul-slots
-    array-write-slots
-    add-a
+    sub-left
+    rule-at-requires
+    depth-at-requires
+    cast-n
+    note-requires
     loop-less
     loop-again
     returns)
