@@ -10,6 +10,7 @@ pub mod Labels
 pub mod Explanations
 pub mod Questions
 pub mod Certificate
+pub mod Slots
 pub mod Sound
 pub mod Book
 pub mod Tables
