@@ -1,12 +1,13 @@
 -- What a table keeps of each slot (specification 1.9), and the label of an atom read off it. Assumes nothing.
 use Prim.Native.Nat.{ℕ, zero, suc}
+use mathlib.Core.Path.{_≡_}
 use mathlib.Core.Bool.{Bool, true, false, not, _&&_, cond}
 use mathlib.Core.List.{[], _∷_}
 use mathlib.Core.Option.{Option, none, some}
 use lib.Dec.{eqb}
 use lib.ListN.{getD}
 use Rattle.theory.specs.Lists.{any}
-use Rattle.theory.specs.Rules.{Rule, Program, Pages, all, active, entries, any-rule}
+use Rattle.theory.specs.Rules.{Rule, Program, Held, Pages, all, active, entries, any-rule}
 use Rattle.theory.specs.Models.{AtomSet}
 use Rattle.theory.specs.Derivations.{Depth}
 use Rattle.theory.specs.Labels.{Supporting, spoiler, place-over, Label, absent, out, in-at}
@@ -29,6 +30,13 @@ slot-spoiler B M s = place-kept M (getD (active B) s none)
 abbrev pub keeps? : ℕ → ℕ → Option Rule → Bool
 keeps? depth a none = false
 keeps? depth a (some r) = eqb (r .head) a && not (eqb depth 0)
+
+-- Such a slot.
+pub record Keeps (P : Program) (depth : ℕ → ℕ) (a s : ℕ) : Type 0 where
+  pub rule : Rule
+  pub held : Held P s rule
+  pub heads : rule .head ≡ a
+  pub deep : depth s ≡ 0 → ⊥
 
 -- The lowest such slot, from slot s on.
 unfoldable pub kept-from : (ℕ → ℕ) → ℕ → ℕ → Program → Option ℕ
