@@ -163,6 +163,12 @@ slot-depth-unique B M s d e (supports {a = a} D S) (idle n) = absurd (n a S)
 slot-depth-unique B M s d e (idle n) (supports {a = b} E T) = absurd (n b T)
 slot-depth-unique B M s d e (idle n) (idle m) = refl
 
+-- An in atom has the depth d, and slot s supports it.
+pub record InAt (B : Pages) (M : AtomSet) (a d s : ℕ) : Type 0 where
+  pub inside : M a ≡ true
+  pub deep : Depth (active B) M a d
+  pub support : Supporting (active B) M a s
+
 -- Slots that are sound.
 module _ (B : Pages) (depth spoiler : ℕ → ℕ) (K : SoundSlots B depth spoiler) where
   abbrev M : AtomSet
@@ -172,15 +178,10 @@ module _ (B : Pages) (depth spoiler : ℕ → ℕ) (K : SoundSlots B depth spoil
   low s r h = omega (arith, held-below (all B) s r h, all-length B)
 
   -- A slot that keeps a depth supports its head, which is in and has this depth.
-  pub record Kept (a s : ℕ) : Type 0 where
-    pub inside : M a ≡ true
-    pub deep : Depth (active B) M a (depth s)
-    pub support : Supporting (active B) M a s
-
-  pub keeps-supports : (a s : ℕ) → Keeps (all B) depth a s → Kept a s
+  pub keeps-supports : (a s : ℕ) → Keeps (all B) depth a s → InAt B M a (depth s) s
   keeps-supports a s k = go (depth s) refl (K .depths s (low s (k .rule) (k .held)))
     where
-      go : (d : ℕ) → depth s ≡ d → SlotDepth B M s d → Kept a s
+      go : (d : ℕ) → depth s ≡ d → SlotDepth B M s d → InAt B M a (depth s) s
       go d e (supports {a = b} D T) =
           let same : b ≡ a = sym (supports-head B M b s (k .rule) T (k .held)) ∙ k .heads in
           let E : Depth (active B) M a (depth s) = rw e (subst (λ (z : ℕ). Depth (active B) M z d) same D) in
@@ -231,8 +232,10 @@ module _ (B : Pages) (depth spoiler : ℕ → ℕ) (K : SoundSlots B depth spoil
           (test (M a)))
 
   -- And back: a label that is read as in tells the supporting slot, which keeps the depth told.
-  pub kept-in-at : (a d s : ℕ) → label-by B depth a ≡ in-at d s → Kept a s × (depth s ≡ d)
-  kept-in-at a d s e = let w = read-in-at B depth a d s e in (keeps-supports a s (w .0), w .1)
+  pub kept-in-at : (a d s : ℕ) → label-by B depth a ≡ in-at d s → InAt B M a d s × (depth s ≡ d)
+  kept-in-at a d s e =
+      let w = read-in-at B depth a d s e in
+      (subst (λ (k : ℕ). InAt B M a k s) (w .1) (keeps-supports a s (w .0)), w .1)
 
   -- A slot that holds no unmuted rule keeps nothing.
   pub empty-keeps :

@@ -9,8 +9,8 @@ pub mod Rounds
 pub mod Labels
 pub mod Explanations
 pub mod Questions
-pub mod Certificate
 pub mod Slots
+pub mod Certificate
 pub mod Sound
 pub mod Book
 pub mod Tables
