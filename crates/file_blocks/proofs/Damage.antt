@@ -12,9 +12,8 @@ use lib.Seq.{drop-drop, drop-set-add, getD-drop, getD-set-other, getD-set-same, 
 use Rattle.theory.specs.Lists.{every}
 use Rattle.theory.specs.Limits.{document, Limits}
 use Rattle.theory.specs.Rules.{Pages}
-use Rattle.theory.specs.Labels.{Label}
 use Rattle.theory.specs.Questions.{first-no}
-use Rattle.theory.specs.Sound.{SoundLabels}
+use Rattle.theory.specs.Sound.{SoundRules}
 use Rattle.theory.proofs.Lists.{and-l, and-r, eqb-eq, le-or-lt, unless, ltb-lt}
 use Rattle.theory.proofs.Questions.{first-no-here, first-no-none, first-no-yes}
 use Rattle.file_blocks.specs.Words.{BYTE, WORD, wordAt}
@@ -164,10 +163,10 @@ module _ (bs : List ℕ) (h : whole bs ≡ true) (t : every summed (blocks bs) �
 
 -- A saved file with any one byte changed is refused: 17.
 pub one-byte-17 :
-    (B : Pages) (label : ℕ → Label) → SoundLabels document B label → (i x : ℕ) → i < length (fileOf B) → x < BYTE
+    (B : Pages) → SoundRules document B → (i x : ℕ) → i < length (fileOf B) → x < BYTE
     → (x ≡ getD (fileOf B) i 0 → ⊥) → first-no (file-questions document (set (fileOf B) i x)) ≡ some 17
-one-byte-17 B label sound =
-    let one = first-no-none _ _ (file-accepted B label sound) in
+one-byte-17 B sound =
+    let one = first-no-none _ _ (file-accepted B sound) in
     let two = first-no-none _ _ (one .1) in
     changed-refused (fileOf B) (one .0) (two .0)
     (every-all _ (λ b. ltb b BYTE) (λ b t. ltb-lt b BYTE t) (fileOf B) (file-bytes B (sound .passes))) document

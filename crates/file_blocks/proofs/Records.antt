@@ -11,9 +11,8 @@ use lib.ListN.{getD, length, replicate, length-append}
 use Rattle.theory.specs.Lists.{_∈_, any, Sorted}
 use Rattle.theory.specs.Limits.{Limits}
 use Rattle.theory.specs.Rules.{all, Ascending, entries, Held, Page, Pages, Program, Rule, same}
-use Rattle.theory.specs.Labels.{Label}
 use Rattle.theory.specs.Questions.{first-no, is-some, rule-questions, rules, stratified}
-use Rattle.theory.specs.Sound.{SoundLabels}
+use Rattle.theory.specs.Sound.{SoundRules}
 use Rattle.theory.proofs.Lists.{and-l, and-r, and-of, any-at, any-of, clash, false-not, not-true, le-leb, leb-le}
 use Rattle.theory.proofs.Lists.{lt-ltb, ltb-lt, some-below, unless}
 use Rattle.theory.proofs.Rules.{rules-at, rules-of}
@@ -187,7 +186,7 @@ module _ (limits : Limits) (few : limits .entries ≤ 8) where
       (ascends-sorted (r .positives) .1 (a .positives))
       (ascends-sorted (r .negatives) .1 (a .negatives)))))
 
-  module _ (B : Pages) (label : ℕ → Label) (sound : SoundLabels limits B label) where
+  module _ (B : Pages) (sound : SoundRules limits B) where
     pub pages-sound : pagesWith limits (records B) ≡ B
     pages-sound =
         ap (λ (n : ℕ). recordedOn limits (replicate n none) (records B)) (sym (sound .slots))

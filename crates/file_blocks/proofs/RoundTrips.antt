@@ -13,9 +13,8 @@ use Rattle.theory.specs.Lists.{every}
 use Rattle.theory.specs.Limits.{document, Limits}
 use Rattle.theory.specs.Rules.{all, Held, Page, Pages, Rule}
 use Rattle.theory.specs.Dependencies.{NegativeCycle}
-use Rattle.theory.specs.Labels.{Label}
 use Rattle.theory.specs.Questions.{first-no, rule-questions}
-use Rattle.theory.specs.Sound.{SoundLabels}
+use Rattle.theory.specs.Sound.{SoundRules}
 use Rattle.theory.proofs.Cycles.{stratified-iff}
 use Rattle.theory.proofs.Lists.{and-l, and-of, and-r, eqb-of, leb-le, le-leb, le-or-lt, lt-ltb, ltb-lt, some-below}
 use Rattle.theory.proofs.Pages.{held-page}
@@ -93,8 +92,8 @@ module _ (limits : Limits) (few : limits .entries ≤ 8) where
 
   -- Sound pages, and limits that the format has room for.
   module _
-      (atoms : limits .atoms ≤ WORD) (slots : limits .slots ≤ 264) (B : Pages) (label : ℕ → Label)
-      (sound : SoundLabels limits B label)
+      (atoms : limits .atoms ≤ WORD) (slots : limits .slots ≤ 264) (B : Pages)
+      (sound : SoundRules limits B)
     where
       whole-file : whole (fileOf B) ≡ true
       unfolding whole
@@ -114,13 +113,13 @@ module _ (limits : Limits) (few : limits .entries ≤ 8) where
           ∙ first-no-yes _ _ (p .sums)
           ∙ first-no-yes _ _ (p .numbers)
           ∙ first-no-yes _ _ (and-of _ _ (p .filler)
-          (ap (recordsRight limits) (p .places) ∙ records-right limits few B label sound))
+          (ap (recordsRight limits) (p .places) ∙ records-right limits few B sound))
           ∙ (unfold first-no in refl)
 
       pages-of-file : pagesOf limits (fileOf B) ≡ B
       pages-of-file =
           let p = file-passes B (sound .passes) atoms (omega (arith, sound .slots)) in
-          ap (pagesWith limits) (p .places) ∙ pages-sound limits few B label sound
+          ap (pagesWith limits) (p .places) ∙ pages-sound limits few B sound
 
   -- Records whose slots ascend below the limit and that are right one by one are those of their pages.
   pub records-of-pages :
@@ -188,14 +187,14 @@ module _
         all-every (λ b. b < BYTE) (λ b. ltb b BYTE) (λ b l. lt-ltb b BYTE l) (fileOf B)
         (bytes-file document (omega arith) B passes)
 
-module _ (B : Pages) (label : ℕ → Label) (sound : SoundLabels document B label) where
+module _ (B : Pages) (sound : SoundRules document B) where
   -- The file of a sound table is accepted.
   pub file-accepted : first-no (file-questions document (fileOf B)) ≡ none
-  file-accepted = accepted-file document (omega arith) (omega arith) (omega arith) B label sound
+  file-accepted = accepted-file document (omega arith) (omega arith) (omega arith) B sound
 
   -- Reading it gives the same table.
   pub file-pages : pagesOf document (fileOf B) ≡ B
-  file-pages = pages-of-file document (omega arith) (omega arith) (omega arith) B label sound
+  file-pages = pages-of-file document (omega arith) (omega arith) (omega arith) B sound
 
 -- Each accepted file is, byte for byte, the one that its table writes.
 pub pages-file :

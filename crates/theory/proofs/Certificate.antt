@@ -1,5 +1,5 @@
--- Kept labels checked as a certificate: conditions on one rule or one atom at a time hold if and only if the kept
--- labels are the defined ones. Idea: the kept depths fall from a head to its positive entries, so the in atoms, taken
+-- Kept labels checked as a certificate: where conditions on one rule or one atom at a time hold, the kept labels are the
+-- defined ones. Idea: the kept depths fall from a head to its positive entries, so the in atoms, taken
 -- by depth, are founded; the local equation of depths (`DepthEquation`) has only the least heights as its solution;
 -- and among the valid rules of a head those with all positive entries of smaller depth are those whose level is the
 -- head's depth. Assumes nothing.
@@ -12,7 +12,7 @@ use mathlib.Core.List.{List, [], _∷_, List·Memᴰ, List·Memᴰ·head, List·
 use mathlib.Core.List.{List·Memᴰ·not-nil, map, Memᴰ·map}
 use Rattle.theory.specs.Lists.{_∈_, greatest}
 use Rattle.theory.specs.Rules.{active, all, Held, Occurs, Pages, Program, Rule}
-use Rattle.theory.specs.Models.{Admissible, AtomSet, Founded, next, Ordered, start, valid}
+use Rattle.theory.specs.Models.{Admissible, AtomSet, Closed, Founded, next, Ordered, start, valid}
 use Rattle.theory.specs.Derivations.{also, by, Depth, Derivation, Derivations, leaf}
 use Rattle.theory.specs.Labels.{absent, in-at, is-absent, is-in, is-out, Label, Labelled, out, Supporting}
 use Rattle.theory.specs.Labels.{Supports}
@@ -198,6 +198,41 @@ module _ (P : Program) (M : AtomSet) (d : ℕ → ℕ) where
           exactly = λ a. ((λ t. w .1 .all a t (depth-bound a t)), (λ m. w .1 .inside a m));
         }
 
+-- Among the valid rules of an atom, those that support it are those whose level is its depth.
+module _ (P : Program) (M : AtomSet) (d : ℕ → ℕ) (E : DepthEquation P M d) (C : Closed P M) where
+  pub level-supports :
+      (a s : ℕ) (r : Rule) → Held P s r → r .head ≡ a → valid M r ≡ true → level d r ≡ d a → Supports P M a s
+  level-supports a s r h e v l =
+      let D = equation-depth P M d E in
+      record {
+        rule = r;
+        held = h;
+        heads = e;
+        good = v;
+        smaller = λ x m. record {
+          less = d x;
+          more = d a;
+          depth-x = D x (valid-positive M r v x m);
+          depth-a = D a (ap M (sym e) ∙ C s r h v);
+          order = omega (arith, greatest-at d (r .positives) x m);
+        };
+      }
+
+  pub supports-level : (a s : ℕ) (S : Supports P M a s) → level d (S .rule) ≡ d a
+  supports-level a s S =
+      let r = S .rule in
+      let D = equation-depth P M d E in
+      let A = D a (ap M (sym (S .heads)) ∙ C s r (S .held) (S .good)) in
+      let low = greatest-le d (d a - 1) (r .positives) (λ x m. (
+      let z = S .smaller x m in
+      omega (
+        arith,
+        z .order,
+        depth-unique A (z .depth-a),
+        depth-unique (D x (valid-positive M r (S .good) x m)) (z .depth-x),
+      ))) in
+      omega (arith, E .least s r (S .held) (S .good), ap d (S .heads), last (A .reached) .height)
+
 -- The conditions, each on one rule or one atom.
 pub record Certified (B : Pages) (label : ℕ → Label) : Type 0 where
   -- the head of a rule that is valid by the kept labels is in, and not deeper than the rule's level
@@ -243,43 +278,16 @@ module _ (B : Pages) (label : ℕ → Label) where
     pub certified-admissible : Admissible (active B) M
     certified-admissible = record { founded = equation-founded (active B) M d certified-equation; closed = C .closed }
 
-    certified-supporting : (a e s : ℕ) → label a ≡ in-at e s → Depth (active B) M a e → Supporting (active B) M a s
-    certified-supporting a e s q D =
+    certified-supporting : (a e s : ℕ) → label a ≡ in-at e s → Supporting (active B) M a s
+    certified-supporting a e s q =
         let w = C .supported a e s q in
-        let depth : (x : ℕ) → M x ≡ true → Depth (active B) M x (d x) =
-        equation-depth (active B) M d certified-equation in
+        let k : d a ≡ e = ap depth-in q in
         record {
-          supports = record {
-            rule = w .0;
-            held = w .1;
-            heads = w .2;
-            good = w .3;
-            smaller = λ x m. record {
-              less = d x;
-              more = e;
-              depth-x = depth x (valid-positive M (w .0) (w .3) x m);
-              depth-a = D;
-              order = omega (arith, greatest-at d (w .0 .positives) x m, w .4);
-            };
-          };
-          lowest = λ t l S. C .lowest a e s q t l (S .rule) (S .held) (S .heads) (S .good) (
-              let high : d (S .rule .head) ≤ level d (S .rule) = C .least t (S .rule) (S .held) (S .good) in
-              let low : greatest d (S .rule .positives) < e = below (S .rule .positives) (λ x m. (
-              let z = S .smaller x m in
-              omega (
-                arith,
-                z .order,
-                depth-unique D (z .depth-a),
-                depth-unique (depth x (valid-positive M (S .rule) (S .good) x m)) (z .depth-x),
-              ))) in
-              omega (arith, ap d (S .heads), ap depth-in q));
+          supports = level-supports (active B) M d certified-equation (C .closed) a s (w .0) (w .1) (w .2) (w .3)
+              (w .4 ∙ sym k);
+          lowest = λ t l S. C .lowest a e s q t l (S .rule) (S .held) (S .heads) (S .good)
+              (supports-level (active B) M d certified-equation (C .closed) a t S ∙ k);
         }
-      where
-        below : (xs : List ℕ) → ((x : ℕ) → x ∈ xs → d x < e) → greatest d xs < e
-        below xs f = ⊎-elim
-            (λ (i : e ≤ 0). absurd (omega (arith, last (D .reached) .height)))
-            (λ (i : 0 < e). (let j = greatest-le d (e - 1) xs (λ x m. omega (arith, f x m)) in omega arith))
-            (le-or-lt e 0)
 
     -- Labels that meet the conditions are the defined ones. Idea: the conditions on depths are the equation above,
     -- whose only solution are the depths; with these known, a kept slot that is the first of its level is the first
@@ -294,104 +302,4 @@ module _ (B : Pages) (label : ℕ → Label) where
             let t : M a ≡ true = ap is-in-label e in
             let D : Depth (active B) M a k = subst (λ (z : ℕ). Depth (active B) M a z) (ap depth-in e)
             (equation-depth (active B) M d certified-equation a t) in
-            is-in t D (certified-supporting a k s e D)
-
--- The defined labels of every atom meet the conditions.
-module _ (B : Pages) (N : AtomSet) (label : ℕ → Label) (A : Admissible (active B) N)
-    (L : (a : ℕ) → Labelled B N a (label a)) where
-  kept-model : (a : ℕ) → kept-in label a ≡ N a
-  kept-model a = label-in B N A a (label a) (L a)
-
-  same-set : kept-in label ≡ N
-  same-set = fun-ext kept-model
-
-  record InLabel (a k s : ℕ) : Type 0 where
-    inside : N a ≡ true
-    depth : Depth (active B) N a k
-    support : Supporting (active B) N a s
-
-  in-at-label : (a k s : ℕ) → label a ≡ in-at k s → InLabel a k s
-  in-at-label a k s e = go (label a) e (L a)
-    where
-      go : (l : Label) → l ≡ in-at k s → Labelled B N a l → InLabel a k s
-      go absent q w = absurd (let z : _≡_ {A = ℕ} 0 1 = cc in omega arith)
-      go out q w = absurd (let z : _≡_ {A = ℕ} 0 1 = cc in omega arith)
-      go (in-at j t) q (is-in i D S) =
-          let u : j ≡ k = cc in
-          let v : t ≡ s = cc in
-          record {
-            inside = i;
-            depth = subst (λ (z : ℕ). Depth (active B) N a z) u D;
-            support = subst (λ (z : ℕ). Supporting (active B) N a z) v S;
-          }
-
-  depth-kept : (a : ℕ) → N a ≡ true → Depth (active B) N a (kept-depth label a)
-  depth-kept a t =
-      let w = in-label (label a) (kept-model a ∙ t) in
-      subst (λ (z : ℕ). Depth (active B) N a z) (sym (ap depth-in (w .2))) (in-at-label a (w .0) (w .1) (w .2) .depth)
-
-  equation : DepthEquation (active B) N (kept-depth label)
-  equation = depth-equation (active B) N (kept-depth label) A depth-kept
-
-  -- a rule of a, valid, whose level is a's depth, supports a
-  level-supports : (a k t : ℕ) (r : Rule) → Depth (active B) N a k → Held (active B) t r → r .head ≡ a
-      → valid N r ≡ true → level (kept-depth label) r ≡ k → Supports (active B) N a t
-  level-supports a k t r D h e v l = record {
-    rule = r;
-    held = h;
-    heads = e;
-    good = v;
-    smaller = λ x m. record {
-      less = kept-depth label x;
-      more = k;
-      depth-x = depth-kept x (valid-positive N r v x m);
-      depth-a = D;
-      order = omega (arith, greatest-at (kept-depth label) (r .positives) x m);
-    };
-  }
-
-  -- and a rule that supports a has that level
-  supports-level :
-      (a k t : ℕ) → Depth (active B) N a k → (S : Supports (active B) N a t) → level (kept-depth label) (S .rule) ≡ k
-  supports-level a k t D S =
-      let r = S .rule in
-      let e : kept-depth label a ≡ k = depth-unique
-      (depth-kept a (ap N (sym (S .heads)) ∙ A .closed t r (S .held) (S .good))) D in
-      let high = equation .least t r (S .held) (S .good) in
-      let low = greatest-le (kept-depth label) (k - 1) (r .positives) (λ x m. (
-      let z = S .smaller x m in
-      omega (
-        arith,
-        z .order,
-        depth-unique D (z .depth-a),
-        depth-unique (depth-kept x (valid-positive N r (S .good) x m)) (z .depth-x),
-      ))) in
-      omega (arith, ap (kept-depth label) (S .heads), last (D .reached) .height)
-
-  same-valid : (r : Rule) → valid (kept-in label) r ≡ valid N r
-  same-valid r = ap (λ (X : AtomSet). valid X r) same-set
-
-  pub labels-certified : Certified B label
-  labels-certified = record {
-    closed = λ s r h v. kept-model (r .head) ∙ A .closed s r h (sym (same-valid r) ∙ v);
-    least = λ s r h v. equation .least s r h (sym (same-valid r) ∙ v);
-    supported = λ a k s e. (
-        let w = in-at-label a k s e in
-        let S = w .support .supports in
-        (S .rule, S .held, S .heads, same-valid (S .rule) ∙ S .good, supports-level a k s (w .depth) S));
-    lowest = λ a k s e t l r h q v z. (
-        let w = in-at-label a k s e in
-        w .support .lowest t l (level-supports a k t r (w .depth) h q (sym (same-valid r) ∙ v) z));
-    out-occurs = λ a e. out-label a (label a) e (L a);
-    absent-missing = λ a e. absent-label a (label a) e (L a);
-  }
-    where
-      out-label : (a : ℕ) (l : Label) → l ≡ out → Labelled B N a l → Occurs (all B) a
-      out-label a absent e w = absurd (let z : _≡_ {A = ℕ} 0 1 = cc in omega arith)
-      out-label a out e (is-out o t) = o
-      out-label a (in-at k s) e w = absurd (let z : _≡_ {A = ℕ} 0 1 = cc in omega arith)
-
-      absent-label : (a : ℕ) (l : Label) → l ≡ absent → Labelled B N a l → Occurs (all B) a → ⊥
-      absent-label a absent e (is-absent f) = f
-      absent-label a out e w = absurd (let z : _≡_ {A = ℕ} 0 1 = cc in omega arith)
-      absent-label a (in-at k s) e w = absurd (let z : _≡_ {A = ℕ} 0 1 = cc in omega arith)
+            is-in t D (certified-supporting a k s e)

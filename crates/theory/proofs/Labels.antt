@@ -18,10 +18,11 @@ use Rattle.theory.specs.Questions.{is-in-label}
 use Rattle.theory.specs.Labels.{absent, in-at, is-absent, is-in, is-out, Label, Labelled, out}
 use Rattle.theory.specs.Labels.{Supporting, Supports, Side, positive, negative, Spoiler, first-on, spoiler}
 use Rattle.theory.specs.Labels.{Spoils, needs, blocked}
+use Rattle.theory.specs.Slots.{occurs?}
 use Rattle.theory.proofs.Lists.{and-l, and-of, and-r, clash, eqb-eq, eqb-of, every-at, every-of, le-or-lt}
 use Rattle.theory.proofs.Lists.{first-exists, first-in, first-none, first-of, first-of-none, first-place, least}
 use Rattle.theory.proofs.Lists.{not-false, not-true, test, unless}
-use Rattle.theory.proofs.Rules.{occurs-at, occurs-of, occurs-test, passes-at, rules-at, valid-negative, valid-of}
+use Rattle.theory.proofs.Rules.{occurs-at, occurs-of, passes-at, rules-at, valid-negative, valid-of}
 use Rattle.theory.proofs.Rules.{valid-positive}
 use Rattle.theory.proofs.Strata.{acyclic-strata, model-unique, rules-below}
 use Rattle.theory.proofs.Pages.{active-acyclic, active-occurs}
@@ -131,9 +132,9 @@ label-exists B M F a = ⊎-elim
     (λ (t : M a ≡ true).
     (let d = in-depth (active B) M F a t in let s = supported (active B) M a (d .0) (d .1) in
     (in-at (d .0) (s .0), is-in t (d .1) (s .1))))
-    (λ (t : M a ≡ false). ⊎-elim (λ (o : occurs-test (all B) a ≡ true). (out, is-out (occurs-at (all B) a o) t))
-    (λ (o : occurs-test (all B) a ≡ false). (absent, is-absent (λ q. clash (occurs-of (all B) a q) o)))
-    (test (occurs-test (all B) a)))
+    (λ (t : M a ≡ false). ⊎-elim (λ (o : occurs? (all B) a ≡ true). (out, is-out (occurs-at (all B) a o) t))
+    (λ (o : occurs? (all B) a ≡ false). (absent, is-absent (λ q. clash (occurs-of (all B) a q) o)))
+    (test (occurs? (all B) a)))
     (test (M a))
 
 -- And only one.

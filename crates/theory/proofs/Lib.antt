@@ -16,6 +16,8 @@ pub mod SmallRounds
 pub mod Labels
 pub mod Certificate
 pub mod Questions
+pub mod Slots
+pub mod SlotCertificate
 pub mod Book
 pub mod Explanations
 pub mod Sameness

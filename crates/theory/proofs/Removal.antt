@@ -11,7 +11,7 @@ use Rattle.theory.specs.Models.{Admissible, AtomSet}
 use Rattle.theory.specs.Labels.{is-absent, is-in, is-out, Label, Labelled}
 use Rattle.theory.specs.Limits.{Limits}
 use Rattle.theory.specs.Questions.{is-in-label}
-use Rattle.theory.specs.Sound.{SoundLabels}
+use Rattle.theory.specs.Sound.{SoundRules}
 use Rattle.theory.proofs.Lists.{clash, unless}
 use Rattle.theory.proofs.Rules.{any-rule-at, any-rule-of, rules-at}
 use Rattle.theory.proofs.Pages.{active-held, all-set}
@@ -29,7 +29,7 @@ freed P s t r l h = (other, other-set P s t none r other h)
         Option·none-ne-some r
         (sym (getD-set-same P s none none l) ∙ ap (λ (k : ℕ). getD (set P s none) k none) (sym e) ∙ h)
 
-module _ (limits : Limits) (B : Pages) (label : ℕ → Label) (S : SoundLabels limits B label) (x : Rule) where
+module _ (limits : Limits) (B : Pages) (S : SoundRules limits B) (x : Rule) where
   -- At most one slot holds a rule that is the same as x, muted or not.
   pub one-slot :
       (s t : ℕ) (q r : Rule) → Held (all B) s q → Held (all B) t r → same x q ≡ true → same x r ≡ true → s ≡ t

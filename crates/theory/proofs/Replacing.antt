@@ -12,12 +12,11 @@ use lib.ListN.{length, length-set, getD, set}
 use lib.Seq.{getD-set-same, set-getD, set-set}
 use Rattle.theory.specs.Lists.{every}
 use Rattle.theory.specs.Rules.{all, any-rule, Held, kept, Pages, Program, Rule, same}
-use Rattle.theory.specs.Labels.{Label}
 use Rattle.theory.specs.Limits.{Limits}
 use Rattle.theory.specs.Questions.{add-questions, asks, first-no, is-some, lowest-free, put-in}
 use Rattle.theory.specs.Questions.{replace-questions, rule-questions, slot-questions, stratified, with-added}
 use Rattle.theory.specs.Questions.{with-replaced}
-use Rattle.theory.specs.Sound.{SoundLabels}
+use Rattle.theory.specs.Sound.{SoundRules}
 use Rattle.theory.proofs.Lists.{clash, eqb-eq, eqb-of, lt-ltb, same-test, test}
 use Rattle.theory.proofs.Cycles.{fewer-stratified, stratified-iff}
 use Rattle.theory.proofs.Pages.{all-length}
@@ -35,7 +34,7 @@ slot-first limits P s r k = first-no-before (slot-questions limits P s) _ k
 
 -- A rule q, muted or not, of sound pages; x is the same and passes 1 to 4; p stands in q's slot instead.
 module _
-    (limits : Limits) (B : Pages) (label : ℕ → Label) (S : SoundLabels limits B label) (s : ℕ) (q : Rule)
+    (limits : Limits) (B : Pages) (S : SoundRules limits B) (s : ℕ) (q : Rule)
     (h : Held (all B) s q) (x : Rule) (u : same x q ≡ true) (pass : first-no (rule-questions limits x) ≡ none)
     (p : Rule)
   where
@@ -59,7 +58,7 @@ module _
         ∙ first-no-yes _ _ (ap is-some (set-held P s p below))
         ∙ first-no-past (rule-questions limits x) _ pass
         ∙ first-no-yes _ _ (ap (λ (R : Program). not (any-rule (same x) R)) (set-set P s (some p) none)
-        ∙ ap not (none-left limits B label S x s q h u))
+        ∙ ap not (none-left limits B S x s q h u))
         ∙ first-no-yes _ _ (ap stratified put-back ∙ stratified-iff P .1 (S .acyclic)) ∙ (unfold first-no in refl)
 
 some-held : (o : Option Rule) → is-some o ≡ true → (q : Rule) × (o ≡ some q)

@@ -11,6 +11,7 @@ use Rattle.theory.specs.Lists.{_∈_, any, every}
 use Rattle.theory.specs.Rules.{any-rule, entries, Held, Occurs, passes, Program, Rule}
 use Rattle.theory.specs.Models.{AtomSet, valid}
 use Rattle.theory.specs.Questions.{rules}
+use Rattle.theory.specs.Slots.{occurs?}
 use Rattle.theory.proofs.Lists.{and-l, and-of, and-r, every-at}
 use Rattle.theory.proofs.Lists.{every-of, false-not, in-mem, mem, mem-in, not-true, or-cases, or-l, or-r}
 
@@ -80,16 +81,13 @@ valid-of M r hp hn =
 
 -- An atom occurs, as a test.
 
-unfoldable pub occurs-test : Program → ℕ → Bool
-occurs-test P a = any-rule (λ r. mem a (r .head ∷ entries r)) P
-
-pub occurs-at : (P : Program) (a : ℕ) → occurs-test P a ≡ true → Occurs P a
-unfolding occurs-test
+pub occurs-at : (P : Program) (a : ℕ) → occurs? P a ≡ true → Occurs P a
+unfolding occurs?
 occurs-at P a t =
     let w = any-rule-at (λ r. mem a (r .head ∷ entries r)) P t in
     record { slot = w .0; rule = w .1; held = w .2; there = mem-in a _ (w .3) }
 
-pub occurs-of : (P : Program) (a : ℕ) → Occurs P a → occurs-test P a ≡ true
-unfolding occurs-test
+pub occurs-of : (P : Program) (a : ℕ) → Occurs P a → occurs? P a ≡ true
+unfolding occurs?
 occurs-of P a o =
     any-rule-of (λ r. mem a (r .head ∷ entries r)) P (o .slot) (o .rule) (o .held) (in-mem a _ (o .there))

@@ -12,10 +12,10 @@ use lib.ListN.{getD, length, length-set, set}
 use Rattle.theory.specs.Lists.{_∈_, before, first, FirstAt, Sorted}
 use Rattle.theory.specs.Rules.{all, Held, kept, Pages, Program, Rule}
 use Rattle.theory.specs.Models.{AtomSet}
-use Rattle.theory.specs.Labels.{blocked, Label, needs, negative, positive, Spoils}
+use Rattle.theory.specs.Labels.{blocked, needs, negative, positive, Spoils}
 use Rattle.theory.specs.Limits.{Limits}
 use Rattle.theory.specs.Questions.{lowest-free, put-in, with-added}
-use Rattle.theory.specs.Sound.{SoundLabels}
+use Rattle.theory.specs.Sound.{SoundRules}
 use Rattle.theory.proofs.Lists.{clash, entry-in, first-hit, first-miss, first-of, le-leb, leb-le, test, unless}
 use Rattle.theory.proofs.Rules.{held-unique}
 use Rattle.theory.proofs.Questions.{held-below, set-held}
@@ -59,7 +59,7 @@ first-counts f xs i x s w = first-of (leb x) xs i x (record {
 
 -- A slot of a sound table, and the entry that spoils its rule.
 module _
-    (limits : Limits) (B : Pages) (label : ℕ → Label) (S : SoundLabels limits B label) (s : ℕ) (q : Rule)
+    (limits : Limits) (B : Pages) (S : SoundRules limits B) (s : ℕ) (q : Rule)
     (h : Held (all B) s q) (M : AtomSet) (i x : ℕ)
   where
     pub needs-least :

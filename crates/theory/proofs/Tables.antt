@@ -20,8 +20,9 @@ use Rattle.theory.specs.Limits.{document}
 use Rattle.theory.specs.Tables.{Example, left, Row, Shows, tables}
 use Rattle.theory.proofs.Lists.{and-l, and-of, and-r, clash, eqb-eq, eqb-of, every-at, le-or-lt, leb-le, mem}
 use Rattle.theory.proofs.Lists.{mem-in, not-true, or-cases, test}
-use Rattle.theory.proofs.Rules.{any-rule-of, occurs-at, occurs-test, passes-at}
+use Rattle.theory.proofs.Rules.{any-rule-of, occurs-at, passes-at}
 use Rattle.theory.specs.Certificate.{kept-depth, kept-in, level}
+use Rattle.theory.specs.Slots.{occurs?}
 use Rattle.theory.proofs.Certificate.{Certified, certified-admissible, certified-labels}
 
 -- The label that the rows give an atom: absent if no row names it.
@@ -92,7 +93,7 @@ module _ (B : Pages) (ls : List Row) where
 
   label-test : ℕ → Label → Bool
   label-test a absent = false
-  label-test a out = occurs-test (all B) a
+  label-test a out = occurs? (all B) a
   label-test a (in-at k s) =
       passes (support-rule a k) (getD (active B) s none)
       && none-before s (λ t. passes (support-rule a k) (getD (active B) t none))
@@ -292,6 +293,6 @@ example-shows e t =
 -- The small tables show what the specification says of them (specification 10.1 and 10.2).
 pub tables-shown : (e : Example) → List·Memᴰ e tables → Shows e
 unfolding tables every any distinct same-members insert sort same first-no lowest-free rules reaches stratified answer
-    after answers after-all valid greatest occurs-test each-rule rule-test support-rule none-before label-test
+    after answers after-all valid greatest occurs? each-rule rule-test support-rule none-before label-test
     certified-test same-label same-answer same-answers example-test lookup
 tables-shown = λ e m. example-shows e (every-at example-test tables refl e m)

@@ -1,9 +1,10 @@
 -- Supporting rules, labels and spoilers (specification 2.8 to 2.10). Assumes nothing.
-use Prim.Native.Nat.{ℕ, _<_}
+use Prim.Native.Nat.{ℕ, zero, suc, _+_, _<_}
 use mathlib.Core.Path.{_≡_}
 use mathlib.Core.Bool.{Bool, true, false, not}
 use mathlib.Core.List.{List}
 use mathlib.Core.Option.{Option, none, some, Option·map}
+use lib.ListN.{length}
 use Rattle.theory.specs.Lists.{_∈_, first, before, FirstAt}
 use Rattle.theory.specs.Rules.{Rule, Program, Held, Pages, all, active, Occurs}
 use Rattle.theory.specs.Models.{AtomSet, valid}
@@ -75,3 +76,11 @@ pub data Spoils (M : AtomSet) (r : Rule) : Spoiler → Type 0 where
       → Spoils M r (record { side = positive; place = i; atom = x })
   blocked : {i x : ℕ} → ((y : ℕ) → y ∈ r .positives → M y ≡ true) → FirstAt M (r .negatives) i x
       → Spoils M r (record { side = negative; place = i; atom = x })
+
+-- The place of a spoiler in its rule, counted from 1 over both lists, the positive one first; 0 stands for none.
+abbrev pub place-over : Rule → Option Spoiler → ℕ
+place-over r none = zero
+place-over r (some s) = elim (s .side) [
+  | positive ↦ suc (s .place)
+  | negative ↦ suc (length (r .positives) + s .place)
+]

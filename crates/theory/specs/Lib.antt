@@ -9,6 +9,7 @@ pub mod Rounds
 pub mod Labels
 pub mod Explanations
 pub mod Questions
+pub mod Slots
 pub mod Certificate
 pub mod Sound
 pub mod Book
