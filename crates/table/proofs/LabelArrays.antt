@@ -13,7 +13,7 @@ use lib.Seq.{drop-cons}
 use Rattle.theory.specs.Rules.{Bounded, Program, all}
 use Rattle.theory.specs.Rules as theory
 use Rattle.theory.specs.Limits.{document}
-use Rattle.theory.specs.Labels.{absent, out, in-at}
+use Rattle.theory.specs.Labels.{Label, absent, out}
 use Rattle.theory.specs.Questions.{is-in-label}
 use Rattle.theory.specs.Certificate.{depth-in, slot-in, kept-in, kept-depth, kept-slot}
 use Rattle.theory.specs.Slots.{keeps?, kept-from, label-from, label-by, occurs?}
@@ -23,6 +23,7 @@ use Rattle.table.specs.declared.arrays.LabelArrays.{LabelArrays}
 use Rattle.table.specs.Sets.{member, number}
 use Rattle.table.specs.Rules.{slotOf, ruleOf, programOf, bookOf, pastRule}
 use Rattle.table.specs.Words.{rulesOf, depthAt}
+use Rattle.theory.proofs.Slots.{found-kept}
 use Rattle.table.specs.Labels.{labelAt}
 use Rattle.table.specs.Arrays.{ArraysOf, Noted}
 use Rattle.table.proofs.Members.{all-alike, mark-in, mark-other, number-same, number-other}
@@ -188,8 +189,57 @@ pub read-all : (table : List ℕ) (k : ℕ) (c : LabelArrays) → k ≡ 0
 read-all table k c z R =
     let S : Read (rulesOf table) (depthAt table) 0 (c .flags) (c .depths) (c .slots) = rw (sym z) R in
     record {
-      long = S .many;
+      many = S .many;
+      deep = S .deep;
+      wide = S .wide;
       flags = λ a l. S .flags a l ∙ label-flag (kept-from (depthAt table) a 0 (programOf (rulesOf table))) _ _;
       depths = λ a l. S .depths a l ∙ label-depth (kept-from (depthAt table) a 0 (programOf (rulesOf table))) _ _;
       slots = λ a l. S .slots a l ∙ label-slot (kept-from (depthAt table) a 0 (programOf (rulesOf table))) _ _;
     }
+
+-- Where every atom is below the limit, the arrays are what is kept, of every atom.
+module _ (table : List ℕ) (c : LabelArrays) (A : ArraysOf table c)
+    (below : Bounded (programOf (rulesOf table)) (document .atoms)) where
+  none-above : (a : ℕ) → document .atoms ≤ a → kept-from (depthAt table) a 0 (programOf (rulesOf table)) ≡ none
+  none-above a l = go (kept-from (depthAt table) a 0 (programOf (rulesOf table))) refl
+    where
+      go : (o : Option ℕ) → kept-from (depthAt table) a 0 (programOf (rulesOf table)) ≡ o → o ≡ none
+      go none e = refl
+      go (some s) e =
+          let K = found-kept (programOf (rulesOf table)) (depthAt table) a s e in
+          absurd (omega (arith, below s (K .rule) (K .held) (K .rule .head) (List·Memᴰ·head refl), K .heads))
+
+  label-above : (a : ℕ) → document .atoms ≤ a → (b : Bool)
+      → label-from (kept-from (depthAt table) a 0 (programOf (rulesOf table))) (depthAt table) b ≡ cond b out absent
+  label-above a l b = ap (λ (o : Option ℕ). label-from o (depthAt table) b) (none-above a l)
+
+  -- An atom past the limit is not in, has no depth and no slot.
+  above : {A : Type 0} (f : Label → A) (z : A) → f out ≡ z → f absent ≡ z → (a : ℕ) → document .atoms ≤ a
+      → f (labelAt table a) ≡ z
+  above f z o n a l = go (occurs? (programOf (rulesOf table)) a)
+    where
+      go : (b : Bool)
+          → f (label-from (kept-from (depthAt table) a 0 (programOf (rulesOf table))) (depthAt table) b) ≡ z
+      go true = ap f (label-above a l true) ∙ o
+      go false = ap f (label-above a l false) ∙ n
+
+  pub flags-are : member (c .flags) ≡ kept-in (labelAt table)
+  flags-are = fun-ext (λ a. ⊎-elim
+      (λ (l : document .atoms ≤ a). List·getD-eq-default (c .flags) false (omega (arith, A .many))
+      ∙ sym (above is-in-label false refl refl a l))
+      (λ (l : a < document .atoms). A .flags a l)
+      (le-or-lt (document .atoms) a))
+
+  pub depths-are : number (c .depths) ≡ kept-depth (labelAt table)
+  depths-are = fun-ext (λ a. ⊎-elim
+      (λ (l : document .atoms ≤ a). List·getD-eq-default (c .depths) 0 (omega (arith, A .deep))
+      ∙ sym (above depth-in 0 refl refl a l))
+      (λ (l : a < document .atoms). A .depths a l)
+      (le-or-lt (document .atoms) a))
+
+  pub slots-are : number (c .slots) ≡ kept-slot (labelAt table)
+  slots-are = fun-ext (λ a. ⊎-elim
+      (λ (l : document .atoms ≤ a). List·getD-eq-default (c .slots) 0 (omega (arith, A .wide))
+      ∙ sym (above slot-in 0 refl refl a l))
+      (λ (l : a < document .atoms). A .slots a l)
+      (le-or-lt (document .atoms) a))

@@ -5,6 +5,7 @@ pub mod Programs
 pub mod Pasting
 pub mod Words
 pub mod Walks
+pub mod Empty
 pub mod Owned
 pub mod Copies
 pub mod LabelArrays

@@ -15,7 +15,9 @@ use Rattle.table.specs.Labels.{labelAt}
 
 -- Of each atom, by the label read off the table: is it in, its depth, its supporting slot.
 pub record ArraysOf (table : List ℕ) (k : LabelArrays) : Type 0 where
-  pub long : length (k .flags) ≡ document .atoms
+  pub many : length (k .flags) ≡ document .atoms
+  pub deep : length (k .depths) ≡ document .atoms
+  pub wide : length (k .slots) ≡ document .atoms
   pub flags : (a : ℕ) → a < document .atoms → member (k .flags) a ≡ is-in-label (labelAt table a)
   pub depths : (a : ℕ) → a < document .atoms → number (k .depths) a ≡ depth-in (labelAt table a)
   pub slots : (a : ℕ) → a < document .atoms → number (k .slots) a ≡ slot-in (labelAt table a)

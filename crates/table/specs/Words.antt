@@ -6,6 +6,7 @@ use lib.Seq.{paste}
 use Rattle.theory.specs.Limits.{document}
 use Rattle.table.specs.declared.Atom.{Atom}
 use Rattle.table.specs.declared.Rule.{Rule}
+use Rattle.table.specs.declared.Table.{Table}
 use Rattle.table.specs.Rules.{noAtom}
 
 -- Numbers to a slot, and to a table.
@@ -14,6 +15,10 @@ width = 14
 
 abbrev pub words : ℕ
 words = width * document .slots
+
+-- The table that has these numbers.
+abbrev pub tableOf : List ℕ → Table
+tableOf numbers = record { words = numbers }
 
 -- The number at a place of slot s, and an atom there.
 abbrev pub numberIn : List ℕ → ℕ → ℕ → ℕ
