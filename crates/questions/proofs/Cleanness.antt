@@ -13,9 +13,8 @@ use Rattle.theory.proofs.Lists.{le-or-lt, not-true, not-false, clash, eqb-eq, e
 pub use Rattle.theory.proofs.Lists.{is-not}
 use Rattle.table.specs.declared.Atom.{Atom}
 use Rattle.table.specs.declared.Rule.{Rule}
-use Rattle.table.specs.declared.Label.{Label}
 use Rattle.table.specs.Rules.{noAtom}
-use Rattle.table.specs.Clean.{freeRule, CleanRule, CleanLabel}
+use Rattle.table.specs.Clean.{freeRule, CleanRule}
 use Rattle.table.proofs.Entries.{past}
 
 -- Entries from a place on that are as in the empty table, as far as they have been read.
@@ -46,24 +45,6 @@ module _ (xs : List Atom) (from j sum : ℕ) (told : (sum ≡ 0) ↔ Empty xs fr
         (λ (m : i < j). told .0 (eqb-eq sum 0 t) i l m)
         (le-or-lt j i),
     λ h. eqb-of sum 0 (told .1 (λ i l m. h i l)),
-  )
-
--- Labels.
-module _ (l : Label) where
-  pub label-in : 1 < l .state → (eqb (l .state) 2 ≡ true) ↔ CleanLabel l
-  label-in h = (
-    λ t. (let e : l .state ≡ 2 = eqb-eq (l .state) 2 t in
-        record { known = omega arith; depth = λ k. absurd (omega arith); slot = λ k. absurd (omega arith) }),
-    λ w. eqb-of (l .state) 2 (omega (arith, w .known)),
-  )
-
-  pub label-depth : l .state ≤ 1 → (l .depth ≡ 0 → ⊥) → (false ≡ true) ↔ CleanLabel l
-  label-depth h n = is-not (λ w. n (w .depth (omega arith)))
-
-  pub label-slot : l .state ≤ 1 → l .depth ≡ 0 → (eqb (l .slot .0) 0 ≡ true) ↔ CleanLabel l
-  label-slot h d = (
-    λ t. record { known = omega arith; depth = λ k. d; slot = λ k. eqb-eq (l .slot .0) 0 t },
-    λ w. eqb-of (l .slot .0) 0 (w .slot (omega arith)),
   )
 
 -- A slot whose fields are all zero is the free slot.

@@ -1,6 +1,5 @@
-// Is a slot, or a label, one that a sound table can have?
+// Is a slot one that a sound table can have?
 use super::head_fits;
-use table::Label;
 use table::Rule;
 use table::Table;
 ghost use mathlib.Core.Path.{_≡_};
@@ -13,7 +12,7 @@ ghost use lib.Seq.{slice};
 ghost use Rattle.theory.specs.Lists.{every, Sorted};
 ghost use Rattle.theory.specs.Limits.{document};
 ghost use Rattle.table.specs.Rules.{numbers, noAtom};
-ghost use Rattle.table.specs.Clean.{CleanRule, CleanLabel, WellFormed};
+ghost use Rattle.table.specs.Clean.{CleanRule, WellFormed};
 
 // Is every entry from a place on as in the empty table? All are 0 exactly if their sum is, and adding them up without a
 // test of each is faster.
@@ -95,17 +94,4 @@ pub fn well_formed(rule: Rule) -> bool
         return false;
     }
     ascends(rule, p, n)
-}
-
-// Is the label's state one of the three, and does a label that is not in keep no depth and no slot?
-pub fn clean_label(label: Label) -> bool
-    ensures { λ r. ⌜ (r ≡ true) ↔ CleanLabel label ⌝ }
-{
-    if label.state > 1 {
-        return label.state == 2;
-    }
-    if label.depth != 0 {
-        return false;
-    }
-    label.slot.0 == 0
 }
