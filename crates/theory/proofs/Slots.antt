@@ -19,7 +19,8 @@ use Rattle.theory.specs.Labels.{blocked, needs, negative, place-over, po
 use Rattle.theory.specs.Slots.{idle, Keeps, kept-from, label-by, label-from, occurs?, place-kept, slot-spoiler}
 use Rattle.theory.specs.Slots.{SlotDepth, spoiler-at, supports}
 use Rattle.theory.specs.Sound.{SoundSlots}
-use Rattle.theory.proofs.Lists.{and-l, and-of, and-r, clash, eqb-eq, eqb-not, eqb-of, false-not, lt-ltb, ltb-lt, not-true, test, unless}
+use Rattle.theory.proofs.Lists.{and-l, and-of, and-r, clash, eqb-eq, eqb-not, eqb-of, false-not, lt-ltb, ltb-lt}
+use Rattle.theory.proofs.Lists.{not-true, test, unless}
 use Rattle.theory.proofs.Rules.{held-unique, occurs-at, occurs-of}
 use Rattle.theory.proofs.Pages.{active-held, all-length}
 use Rattle.theory.proofs.Derivations.{last}

@@ -10,7 +10,8 @@ use Rattle.theory.specs.Lists.{any}
 use Rattle.theory.specs.Rules.{Rule, Program, Held, Pages, all, active, entries, any-rule}
 use Rattle.theory.specs.Models.{AtomSet}
 use Rattle.theory.specs.Derivations.{Depth}
-use Rattle.theory.specs.Labels.{Supporting, positive, negative, Spoiler, spoiler, place-over, Label, absent, out, in-at}
+use Rattle.theory.specs.Labels.{Supporting, spoiler, place-over, Label, absent, out, in-at}
+use Rattle.theory.specs.Labels.{positive, negative, Spoiler}
 
 -- The depth that slot s keeps: that of the atom whose supporting rule it holds, else 0.
 pub data SlotDepth (B : Pages) (M : AtomSet) (s : ℕ) : ℕ → Type 0 where
