@@ -1,47 +1,77 @@
 -- Laws of what is due. Assumes nothing.
-use Prim.Native.Nat.{ℕ, zero, suc, _+_, _<_}
+use Prim.Native.Nat.{ℕ, zero, suc, _+_, _<_, min}
 use native.Mathlib.Omega.{arith}
+use native.Mathlib.Numerals.{add-one}
 use mathlib.Core.Path.{_≡_, refl, sym, _∙_, ap, ap₂}
 use mathlib.Core.Bool.{Bool, true, false, not, _&&_, _||_, cond}
 use mathlib.Core.List.{List}
-use mathlib.Core.Logic.{⊎-elim}
-use mathlib.Core.Option.{Option, none, some, Option·none-ne-some}
+use mathlib.Core.Option.{Option, some}
 use lib.Dec.{eqb}
 use lib.ListN.{length, set, length-set, length-map, length-take}
 use Rattle.theory.specs.Rules.{passes}
 use Rattle.theory.specs.Rules as theory
 use Rattle.theory.specs.Models.{AtomSet, valid}
-use Rattle.theory.specs.Labels.{Spoiler, positive, negative, spoiler, place-over}
+use Rattle.theory.specs.Labels.{spoiler, place-over}
 use Rattle.theory.specs.Slots.{place-kept}
 use Rattle.theory.specs.Certificate.{level, gives?, depth-due}
-use Rattle.theory.proofs.Lists.{clash, eqb-eq, eqb-of, test}
-use Rattle.theory.proofs.Labels.{no-spoiler-valid, valid-no-spoiler}
+use Rattle.theory.specs.Limits.{document}
+use Rattle.theory.proofs.Lists.{clash, eqb-eq, eqb-not, eqb-of, unless}
+use Rattle.theory.proofs.Slots.{place-valid}
+use Rattle.table.specs.declared.Atom.{Atom}
 use Rattle.table.specs.declared.Rule.{Rule}
+use Rattle.table.specs.declared.Spoiler.{Spoiler}
+use Rattle.table.specs.declared.Spoiler.the-variants.{Positive, Negative}
 use Rattle.table.specs.Sets.{member}
-use Rattle.table.specs.Rules.{ruleOf, activeIn}
+use Rattle.table.specs.Rules.{ruleOf, activeIn, spoilerOf}
 use Rattle.table.proofs.Members.{mark-in, mark-other}
 use Rattle.table.proofs.Programs.{active-none, active-some}
 use Rattle.dues.specs.declared.Due.{Due}
 use Rattle.dues.specs.Due.{valid-level, Given, DueIn, DepthDue, gives-at}
 
--- The place is 0 exactly if nothing spoils the rule, so exactly if it is valid.
-no-place : (r : theory.Rule) (o : Option Spoiler) → place-over r o ≡ 0 → o ≡ none
-no-place r none e = refl
-no-place r (some s) e = go (s .side) e
-  where
-    go : (d : _) → elim d [ positive ↦ suc (s .place) | negative ↦ suc (length (r .positives) + s .place) ] ≡ 0
-        → some s ≡ none
-    go positive q = absurd (omega arith)
-    go negative q = absurd (omega arith)
+-- A rule with a place is not valid.
+placed-invalid : (M : AtomSet) (r : theory.Rule) → (place-over r (spoiler M r) ≡ 0 → ⊥) → valid M r ≡ false
+placed-invalid M r n = unless _ (λ t. n (place-valid M r .1 t))
 
-pub unplaced-valid : (M : AtomSet) (r : theory.Rule) → place-over r (spoiler M r) ≡ 0 → valid M r ≡ true
-unplaced-valid M r e = no-spoiler-valid M r (no-place r (spoiler M r) e)
+-- The depth due to a slot with a valid rule of this head and level, where x is the head's depth.
+module _ (d : ℕ → ℕ) (head level x : ℕ) (deep : x ≡ d head) (before : List Bool) where
+  pub deep-other : (x ≡ level → ⊥) → DepthDue d head level before before 0
+  deep-other n =
+      let e : gives-at d head level ≡ false = eqb-not level (d head) (λ z. n (deep ∙ sym z)) in
+      record {
+        depth = sym (ap (λ b. cond (b && not (member before head)) (d head) zero) e);
+        given = sym (ap (λ b. cond (b && not (member before head)) (set before head true) before) e);
+      }
 
-pub placed-invalid : (M : AtomSet) (r : theory.Rule) → (place-over r (spoiler M r) ≡ 0 → ⊥) → valid M r ≡ false
-placed-invalid M r n = ⊎-elim
-    (λ (t : valid M r ≡ true). absurd (n (ap (place-over r) (valid-no-spoiler M r t))))
-    (λ (t : valid M r ≡ false). t)
-    (test (valid M r))
+  module _ (same : x ≡ level) where
+    gives-it : gives-at d head level ≡ true
+    gives-it = eqb-of level (d head) (sym same ∙ deep)
+
+    pub deep-again : member before head ≡ true → DepthDue d head level before before 0
+    deep-again t = record {
+      depth = sym (ap₂ (λ b c. cond (b && not c) (d head) zero) gives-it t);
+      given = sym (ap₂ (λ b c. cond (b && not c) (set before head true) before) gives-it t);
+    }
+
+    pub deep-first : member before head ≡ false → (after : List Bool) → after ≡ set before head true
+        → DepthDue d head level before after x
+    deep-first t after e = record {
+      depth = deep ∙ sym (ap₂ (λ b c. cond (b && not c) (d head) zero) gives-it t);
+      given = e ∙ sym (ap₂ (λ b c. cond (b && not c) (set before head true) before) gives-it t);
+    }
+
+-- The place of a spoiler in the positive list.
+pub place-positive : (r : Rule) (f : Spoiler) (i : ℕ) (a : Atom) → f ≡ Positive i a
+    → i + 1 ≡ place-over (ruleOf r) (spoilerOf f)
+place-positive r f i a e = add-one i ∙ sym (ap (λ g. place-over (ruleOf r) (spoilerOf g)) e)
+
+-- The place of a spoiler in the negative list, after the positive list, which ends at p.
+pub place-negative : (r : Rule) → length (r .entries) ≡ document .entries → (f : Spoiler) (i : ℕ) (a : Atom)
+    → f ≡ Negative i a → (p : ℕ) → p ≡ min (r .positives) (document .entries)
+    → p + i + 1 ≡ place-over (ruleOf r) (spoilerOf f)
+place-negative r long f i a g p e =
+    let n : length (ruleOf r .positives) ≡ p = simp (length-map, length-take) (omega arith) in
+    let m : p + i + 1 ≡ suc (length (ruleOf r .positives) + i) = omega arith in
+    m ∙ sym (ap (λ h. place-over (ruleOf r) (spoilerOf h)) g)
 
 -- Nothing comes in where the slot gives nothing.
 given-none : (M : AtomSet) (d : ℕ → ℕ) (o : Option theory.Rule) (before : List Bool)
@@ -92,7 +122,7 @@ module _ (M : AtomSet) (d : ℕ → ℕ) (r : Rule) (before : List Bool) where
     module _ (at : ℕ) (placed : at ≡ place-over q (spoiler M q)) (z : at ≡ 0) (n : ℕ) (deep : n ≡ level d q)
         (after : List Bool) (k : ℕ) (D : DepthDue d (r .head .0) n before after k) where
       good : valid M q ≡ true
-      good = unplaced-valid M q (sym placed ∙ z)
+      good = place-valid M q .0 (sym placed ∙ z)
 
       abbrev g : Bool
       g = gives-at d (r .head .0) n
