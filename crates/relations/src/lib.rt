@@ -17,7 +17,7 @@ ghost use Rattle.table.specs.Sets.{Flags};
 ghost use Rattle.relations.specs.Marks.{mark-if};
 
 // Does the slot hold a rule with this head?
-fn has_head(rule: Rule, a: Atom) -> bool
+pub fn has_head(rule: Rule, a: Atom) -> bool
     ensures { λ r. ⌜ r ≡ passes (λ q. eqb (q .head) (a .0)) (slotOf rule) ⌝ }
 {
     if rule.state == 0 {
@@ -41,7 +41,7 @@ pub fn justifying(table: &[u16; Table::WORDS], a: Atom) -> [bool; Table::SLOTS]
 }
 
 // Does the slot hold a rule with this entry?
-fn has_entry(rule: Rule, a: Atom) -> bool
+pub fn has_entry(rule: Rule, a: Atom) -> bool
     ensures { λ r. ⌜ r ≡ passes (λ q. any (eqb (a .0)) (entries q)) (slotOf rule) ⌝ }
 {
     if rule.state == 0 {
