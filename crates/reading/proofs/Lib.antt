@@ -2,3 +2,4 @@
 pub mod Seeking
 pub mod OneAtom
 pub mod Assembled
+pub mod SoundArrays
