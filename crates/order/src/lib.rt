@@ -437,7 +437,15 @@ pub fn order(table: &[u16; Table::WORDS], numbers: &mut [u16; Table::ATOMS]) {
     let mut s: usize = 0;
     while s < Table::SLOTS {
         w = from_slot(
-            w, s, table, &last, &before, &mut reach, numbers, &mut trail, &mut open,
+            w,
+            s,
+            table,
+            &last,
+            &before,
+            &mut reach,
+            numbers,
+            &mut trail,
+            &mut open,
         );
         s += 1;
     }

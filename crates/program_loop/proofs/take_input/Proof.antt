@@ -41,12 +41,14 @@ take-read-requires c κs =
     let l = test .before .before .before .before .before .loop in
     let s = test .before .before .before .before .before .before .before .before in (
       l .inv .3,
-      ((
-        omega (arith, s .pre .1 .0 .0, l .inv .0),
-        omega (arith, ltb-true (l .read) (limit (l .input)) (test .if2 .taken)),
-        omega (arith, ltb-true least (l .got) (test .before .before .if1 .taken)),
+      (
+        (
+          omega (arith, s .pre .1 .0 .0, l .inv .0),
+          omega (arith, ltb-true (l .read) (limit (l .input)) (test .if2 .taken)),
+          omega (arith, ltb-true least (l .got) (test .before .before .if1 .taken)),
+        ),
+        (l .inv .2 .space, omega (arith, l .inv .2 .most), test .before .before .before .before .loop-test .taken),
       ),
-      (l .inv .2 .space, omega (arith, l .inv .2 .most), test .before .before .before .before .loop-test .taken)),
     )
 
 loop-less : tie.Need-loop-less Inv-loop μ-loop

@@ -39,8 +39,7 @@ returns c =
     let answer = c .before .before in
     let task = answer .before .before .before .before .before .before in
     let s = task .before .before .before .before in
-    let a = answer .answer in
-    (
+    let a = answer .answer in (
       subst
           (λ (t : Task). Takes t (s .args .sheet)
           (take (s .args .end - s .args .from) (drop (s .args .from) (s .args .input .now)))
@@ -51,8 +50,7 @@ returns c =
 
 returns-2 : tie.Need-returns-2
 returns-2 c =
-    let s = c .before .before .before .before in
-    (
+    let s = c .before .before .before .before in (
       subst
           (λ (t : Task). Takes t (s .args .sheet)
           (take (s .args .end - s .args .from) (drop (s .args .from) (s .args .input .now)))

@@ -24,8 +24,7 @@ returns c =
     let taken = c .before .before .take-piece in
     let read = c .before .before .before .before .before .before .before .before .before in
     let s = read .before .before .before .before .before .before .before .before in
-    let r = read .read-on in
-    (
+    let r = read .read-on in (
       record {
         reads = r .ensures;
         takes =

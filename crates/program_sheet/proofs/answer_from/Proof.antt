@@ -16,7 +16,9 @@ slice-aggregate-take-input : tie.Need-slice-aggregate-take-input
 slice-aggregate-take-input c = search needs
 
 take-input-requires : tie.Need-take-input-requires
-take-input-requires c κs = search needs
+take-input-requires c κs =
+    let s = c .before .before .before .before .before .before .before .before in
+    (s .pre .0, search needs)
 
 -- The buffer that was lent for replies, and how much was shown.
 size : (c : tie.After-take-input) → length (c .take-input .last .1 .1 .1 .0) ≡ SPACE
@@ -30,11 +32,11 @@ bound c =
     let s = c .before .before .before .before .before .before .before .before .before in
     omega (
       arith,
-      answers-most (t .ensures .takes),
+      answers-most (t .ensures .0 .takes),
       length-take (t .last .1 .1 .1 .1 .0) (t .last .1 .1 .0),
-      t .ensures .few,
+      t .ensures .0 .few,
       t .kept .1 .1 .0,
-      s .pre,
+      s .pre .1,
     )
 
 slice-aggregate-reply-last : tie.Need-slice-aggregate-reply-last
@@ -43,7 +45,7 @@ slice-aggregate-reply-last c = search needs
 reply-last-requires : tie.Need-reply-last-requires
 reply-last-requires c κs =
     let lines = c .before .before .before .before .before .before in
-    (size lines, bound lines)
+    (lines .take-input .ensures .1, (size lines, bound lines))
 
 same-length : tie.Need-same-length
 same-length c = search needs
@@ -52,17 +54,19 @@ returns : tie.Need-returns
 returns c =
     let reply = c .before in
     let lines = reply .before .before .before .before .before .before .before in
-    let s = lines .before .before .before .before .before .before .before .before .before in
-    record {
-      size = lines .take-input .kept .1 .1 .0 ∙ s .pre;
-      sheet = _;
-      shown-before = _;
-      lost-before = _;
-      before = _;
-      after = _;
-      lines = lines .take-input .ensures;
-      last = reply .reply-last .ensures;
-    }
+    let s = lines .before .before .before .before .before .before .before .before .before in (
+      record {
+        size = lines .take-input .kept .1 .1 .0 ∙ s .pre .1;
+        sheet = _;
+        shown-before = _;
+        lost-before = _;
+        before = _;
+        after = _;
+        lines = lines .take-input .ensures .0;
+        last = reply .reply-last .ensures .0;
+      },
+      reply .reply-last .ensures .1,
+    )
 
 pub answer-from-spec : {M : Type 1} → statement M
 answer-from-spec =

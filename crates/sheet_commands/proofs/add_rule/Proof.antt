@@ -61,8 +61,7 @@ returns c =
     let ends =
     subst (λ (k : ℕ). AddEnds (a .table)
     (ruleFrom (a .head) (take (p .positives) (p .entries)) (take k (drop (p .positives) (p .entries))))
-    (done .add-to-sound .result .answer) (done .add-to-sound .result .table)) n (done .add-to-sound .ensures) in
-    (
+    (done .add-to-sound .result .answer) (done .add-to-sound .result .table)) n (done .add-to-sound .ensures) in (
       (λ line e. record { printed = _; prints = prints.add _ _ _ _ _ e ends; wrote = tell .tell-add .ensures }),
       add-still _ _ _ _ (start-of done .pre .0) (done .add-to-sound .ensures),
     )

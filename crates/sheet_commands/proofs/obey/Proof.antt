@@ -47,8 +47,7 @@ returns : tie.Need-returns
 returns c =
     let done = c .before .before in
     let command = done .before .before .before in
-    let s = command .before .before .before .before in
-    (
+    let s = command .before .before .before .before in (
       (λ line e. done .add-rule .ensures .0 line (e ∙ ap (told (s .args .parsed)) (command .command .given .1))),
       done .add-rule .ensures .1,
     )
@@ -60,8 +59,7 @@ returns-2 : tie.Need-returns-2
 returns-2 c =
     let done = c .before .before in
     let command = done .before .before .before in
-    let s = command .before .before .before .before in
-    (
+    let s = command .before .before .before .before in (
       (λ line e. done .remove-slot .ensures .0 line (e ∙ ap (told (s .args .parsed)) (command .command2 .given .1))),
       done .remove-slot .ensures .1,
     )
@@ -73,8 +71,7 @@ returns-3 : tie.Need-returns-3
 returns-3 c =
     let done = c .before .before in
     let command = done .before .before .before in
-    let s = command .before .before .before .before in
-    (
+    let s = command .before .before .before .before in (
       (λ line e. done .replace-rule .ensures .0 line (e ∙ ap (told (s .args .parsed)) (command .command3 .given .1))),
       done .replace-rule .ensures .1,
     )
@@ -86,8 +83,7 @@ returns-4 : tie.Need-returns-4
 returns-4 c =
     let done = c .before .before in
     let command = done .before .before .before in
-    let s = command .before .before .before .before in
-    (
+    let s = command .before .before .before .before in (
       (λ line e. done .explain .ensures line (e ∙ ap (told (s .args .parsed)) (command .command4 .given .1))),
       s .pre .0,
     )
@@ -99,8 +95,7 @@ returns-5 : tie.Need-returns-5
 returns-5 c =
     let done = c .before .before in
     let told-step = done .before .before in
-    let s = told-step .before .before .before .before in
-    (
+    let s = told-step .before .before .before .before in (
       (λ line e. done .list-labels .ensures line (e ∙ ap (told (s .args .parsed)) (told-step .enum-told .given .1))),
       s .pre .0,
     )

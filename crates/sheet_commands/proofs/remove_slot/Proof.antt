@@ -22,8 +22,7 @@ returns : tie.Need-returns
 unfolding bytes
 returns c =
     let tell = c .before .before in
-    let remove = tell .before .before .before .before in
-    (
+    let remove = tell .before .before .before .before in (
       (λ line e. record {
         printed = _;
         prints = prints.remove _ _ _ e (remove .remove-from-sound .ensures);

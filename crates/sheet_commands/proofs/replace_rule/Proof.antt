@@ -66,8 +66,7 @@ returns c =
     let ends =
     subst (λ (k : ℕ). ReplaceEnds (a .table) (a .slot)
     (ruleFrom (a .head) (take (p .positives) (p .entries)) (take k (drop (p .positives) (p .entries))))
-    (done .replace-in-sound .result .answer) (done .replace-in-sound .result .table)) n (done .replace-in-sound .ensures) in
-    (
+    (done .replace-in-sound .result .answer) (done .replace-in-sound .result .table)) n (done .replace-in-sound .ensures) in (
       (λ line e. record { printed = _; prints = prints.replace _ _ _ _ _ _ e ends; wrote = tell .tell-change .ensures }),
       change-still _ _ _ _ _ (start-of done .pre .0) (done .replace-in-sound .ensures),
     )

@@ -44,8 +44,7 @@ loop-again c =
     let done = c .before .before .feed-command in
     let room = c .before .before .before .before .before in
     let more = room .before .before in
-    let l = more .before .before .loop in
-    (
+    let l = more .before .before .loop in (
       fed-next (l .fed) (l .inv .0) (done .ensures .0) (done .ensures .1 .0 .0 (more .if1 .taken))
           (done .ensures .1 .0 .1) (has _ _ (room .before .has-room .ensures) (room .if2 .taken)),
       done .ensures .1 .1,
@@ -57,8 +56,7 @@ same-length c =
 
 returns : tie.Need-returns Inv-loop μ-loop
 returns c =
-    let l = c .before .before .before .before .loop in
-    (
+    let l = c .before .before .before .before .loop in (
       l .inv .0 .feeds,
       (fed-full (l .fed) (l .inv .0) (lacks _ _ (c .before .has-room .ensures) (c .if2 .left)), l .inv .1),
     )

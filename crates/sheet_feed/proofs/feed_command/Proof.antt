@@ -24,16 +24,17 @@ returns c =
     let scan = c .before .before .before .before .before .scan in
     let none = c .enum-told .given .1 in (
       feeds-scanned (scan .result) Accepted (scan .ensures .0),
-      ((λ l. nothing-found (scan .result .found) none (scan .ensures .1 .some l), refl),
-      c .before .before .before .before .before .before .before .before .before .before .before .pre .0),
+      (
+        (λ l. nothing-found (scan .result .found) none (scan .ensures .1 .some l), refl),
+        c .before .before .before .before .before .before .before .before .before .before .before .pre .0,
+      ),
     )
 
 obey-requires : tie.Need-obey-requires
 obey-requires c κs =
     let known = c .before .before .before .before in
     let scan = known .before .before .before .before .before .scan in
-    let here = at-command _ _ (scan .result) _ (known .found .given .1) (scan .ensures .0 .found) in
-    (
+    let here = at-command _ _ (scan .result) _ (known .found .given .1) (scan .ensures .0 .found) in (
       known .before .before .before .before .before .before .before .before .before .before .before .pre .0,
       (here .within, omega (arith, here .room, scan .ensures .0 .same-length)),
     )

@@ -31,8 +31,7 @@ returns c =
     let s = read .before .before .before .before in
     let sheet = s .args .sheet in
     let some = begun-of-some (sheet .begun) (sheet-sized sheet _ (s .good .0)) in
-    let j = judge .judge in
-    (
+    let j = judge .judge in (
       replies-told sheet (s .pre .1) some (read .read-begun .ensures) _ (j .result) (j .ensures) (judged .judged .given .1),
       s .pre .0,
     )
@@ -49,8 +48,7 @@ returns-2 c =
     let s = read .before .before .before .before in
     let sheet = s .args .sheet in
     let some = begun-of-some (sheet .begun) (sheet-sized sheet _ (s .good .0)) in
-    let j = judge .judge in
-    (
+    let j = judge .judge in (
       replies-obeyed sheet (s .pre .1) some (read .read-begun .ensures) _ _ (j .result) (j .ensures)
           (judged .judged2 .given .1) (obey .obey .ensures .0),
       obey .obey .ensures .1,
