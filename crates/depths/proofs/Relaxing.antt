@@ -11,37 +11,31 @@ use mathlib.Core.Logic.{_⊎_, inl, inr}
 use mathlib.Core.List.{List, [], _∷_, List·Memᴰ·head, List·Memᴰ·tail}
 use mathlib.Core.Option.{Option, none, some}
 use borrow.Author.Count.{below-more}
-use lib.ListN.{length, getD, set, replicate, length-set, length-replicate}
+use lib.ListN.{length, getD, set, replicate, length-set, length-replicate, List·getD-map}
 use lib.Seq.{getD-set-same, getD-set-other}
 use Rattle.theory.specs.Lists.{_∈_, every}
-use Rattle.theory.specs.Rules.{Rule, Program, Held, Bounded}
+use Rattle.theory.specs.Rules.{active-on, Rule, Program, Held, Bounded}
 use Rattle.theory.specs.Models.{AtomSet, valid, Admissible}
 use Rattle.theory.specs.Derivations.{by, Depth, Derivation, Derivations}
 use Rattle.theory.specs.Certificate.{level}
 use Rattle.theory.proofs.Lists.{clash, every-at, every-of, le-or-lt}
 use Rattle.theory.proofs.Rules.{held-unique}
+use Rattle.theory.proofs.Pages.{active-at}
 use Rattle.theory.proofs.Derivations.{entry, last}
 use Rattle.theory.proofs.Depths.{depth-count, derived-in, greatest-le, in-depth}
 use Rattle.theory.proofs.Certificate.{derivations-of}
 use Rattle.theory.proofs.Questions.{held-below}
 use Rattle.table.specs.declared.Rule as table
-use Rattle.table.specs.Rules.{activeOf, activeIn, pastRule}
+use Rattle.table.specs.Rules.{activeOf, activeIn, bookOf, pageOf, pastRule}
+use Rattle.table.specs.Clean.{freeRule}
 use Rattle.table.specs.Sets.{number}
 use Rattle.table.specs.Turns.{slotAt}
 use Rattle.table.proofs.Members.{all-alike}
 use Rattle.table.proofs.SlotsInTurn.{slot-at-each}
 use Rattle.table.proofs.Programs.{active-place, active-length}
 use Rattle.depths.specs.Numbers.{DepthsOf, within}
-use Rattle.depths.specs.Passes.{Lowers, Lowered}
+use Rattle.depths.specs.Passes.{Found, Lowers, Lowered}
 use Rattle.depths.proofs.Slots.{slot-head, within-at, within-of}
-
--- After k rounds: each number kept is the height of a derivation, and no derivation of at most k levels is lower.
-pub record Found (P : Program) (M : AtomSet) (n k : ℕ) (d : List ℕ) : Type 0 where
-  pub few : k ≤ n
-  pub long : length d ≡ n
-  pub low : (a : ℕ) → number d a ≤ n
-  pub derived : (a : ℕ) → 0 < number d a → Derivation P M a (number d a)
-  pub full : (a h : ℕ) → Derivation P M a h → h ≤ k → (0 < number d a) × (number d a ≤ h)
 
 -- Within the next round, which comes to the slots `at 0`, `at 1`, .. and has come to i of them: t says whether it has
 -- lowered a number. It does only if fewer than n rounds came before.
@@ -58,6 +52,11 @@ pub record Pass (P : Program) (M : AtomSet) (at : ℕ → ℕ) (n k i : ℕ) (d 
 abbrev pub Outer : Program → AtomSet → ℕ → ℕ → List ℕ → Bool → Type 0
 Outer P M n k d true = Found P M n k d
 Outer P M n k d false = DepthsOf P M (number d)
+
+-- The law for a rule read from a slot of the table.
+pub read-at : (rules : List table.Rule) (s : ℕ) (rule : table.Rule) → rule ≡ getD rules s pastRule
+    → getD (activeOf rules) s none ≡ activeIn rule
+read-at rules s rule read = active-place rules s ∙ ap activeIn (sym read)
 
 pub rounds-start : (P : Program) (M : AtomSet) (n : ℕ) → Outer P M n 0 (replicate n 0) true
 rounds-start P M n = record {
@@ -325,11 +324,11 @@ module _ (P : Program) (M : AtomSet) (n : ℕ) (B : Bounded P n) (A : Admissible
       ];
     }
 
--- The next slot, in the words of the code: it is slot s of the table, from which the rule was read.
+-- The next slot, in the words of the code: it is slot s of the table, which holds the rule read, or none.
 module _ (rules : List table.Rule) (M : AtomSet) (n : ℕ) (B : Bounded (activeOf rules) n)
     (A : Admissible (activeOf rules) M) (at : ℕ → ℕ) (k i : ℕ) (d : List ℕ) (t : Bool)
     (W : Pass (activeOf rules) M at n k i d t) (s : ℕ) (come : s ≡ at i)
-    (rule : table.Rule) (read : rule ≡ getD rules s pastRule) where
+    (rule : table.Rule) (read : getD (activeOf rules) s none ≡ activeIn rule) where
   abbrev o : Option Rule
   o = activeIn rule
 
@@ -337,8 +336,7 @@ module _ (rules : List table.Rule) (M : AtomSet) (n : ℕ) (B : Bounded (activeO
   h = rule .head .0
 
   here : getD (activeOf rules) (at i) none ≡ o
-  here =
-      ap (λ (z : ℕ). getD (activeOf rules) z none) (sym come) ∙ active-place rules s ∙ ap activeIn (sym read)
+  here = ap (λ (z : ℕ). getD (activeOf rules) z none) (sym come) ∙ read
 
   pub pass-next : (l : List ℕ) (flag : Bool) → Lowered M n o h d l flag → (u : Bool) → u ≡ (flag || t)
       → Pass (activeOf rules) M at n k (i + 1) l u
@@ -350,6 +348,17 @@ module _ (rules : List table.Rule) (M : AtomSet) (n : ℕ) (B : Bounded (activeO
       let w = R .kept refl in
       let heads = slot-head rule in
       rw (e, w .1) (pass-over (activeOf rules) M n B A at k i d t W o h here heads (w .0))
+
+-- What rounds have found stays so where any slot is visited in between: its rule is that read, or it holds none.
+pub visit :
+    (rules : List table.Rule) (M : AtomSet) (n : ℕ) → Bounded (activeOf rules) n → Admissible (activeOf rules) M
+    → (k : ℕ) (d : List ℕ) → Found (activeOf rules) M n k d
+    → (s : ℕ) (rule : table.Rule) → rule ≡ getD rules s freeRule
+    → (l : List ℕ) (flag : Bool) → Lowered M n (activeIn rule) (rule .head .0) d l flag → Found (activeOf rules) M n k l
+visit rules M n B A k d F s rule read l flag R =
+    pass-next rules M n B A (λ z. s) k 0 d false (pass-start (activeOf rules) M (λ z. s) n k d true refl F) s refl rule
+    (active-at (bookOf rules) s ∙ ap active-on (List·getD-map pageOf rules s freeRule) ∙ ap activeIn (sym read)) l flag R
+    _ refl .found
 
 -- No more rounds are made than there are atoms.
 pub rounds-few :

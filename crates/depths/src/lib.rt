@@ -3,11 +3,13 @@ use rule::positive_end;
 use rule::valid;
 use table::Atom;
 use table::Rule;
+use table::Slot;
 use table::Table;
 use table::sets::larger;
 use table::sets::number_of;
 use table::sets::set_number;
 use table::slots::rule_at;
+use table::slots::rule_in;
 use table::turns::slot_at;
 ghost use mathlib.Core.Path.{_≡_};
 ghost use mathlib.Core.Bool.{true};
@@ -22,10 +24,13 @@ ghost use Rattle.table.specs.Sets.{member, number};
 ghost use Rattle.table.specs.Rules.{activeOf, activeIn, ruleOf};
 ghost use Rattle.table.specs.Words.{rulesOf};
 ghost use Rattle.depths.specs.Numbers.{DepthsOf, within};
-ghost use Rattle.depths.specs.Passes.{Lowered};
+ghost use Rattle.depths.specs.Passes.{Found, Lowered};
 
 // No depth is above ATOMS: an in atom has a derivation of at most as many levels as there are in atoms.
 const PAST_DEPTHS: u16 = Table::ATOMS as u16 + 1;
+
+// As many numbers as a hint of an order has: how many slots, then these slots.
+pub const ORDER: usize = Table::SLOTS + 1;
 
 // Has every positive entry of the rule a depth (not 0), and one below the limit?
 pub fn below(rule: Rule, depths: &[u16; Table::ATOMS], limit: u16) -> bool
@@ -101,14 +106,46 @@ fn lower(rule: Rule, model: &[bool; Table::ATOMS], found: &mut [u16; Table::ATOM
     true
 }
 
+// The slots that the hint names lower the numbers of their heads, in its order: any slots in any order will do.
+fn lower_first(
+    table: &[u16; Table::WORDS],
+    model: &[bool; Table::ATOMS],
+    order: &[u16; ORDER],
+    found: &mut [u16; Table::ATOMS],
+)
+    requires { ⌜ Bounded (activeOf (rulesOf (now table))) (document .atoms)
+        × Admissible (activeOf (rulesOf (now table))) (member (now model))
+        × Found (activeOf (rulesOf (now table))) (member (now model)) (document .atoms) 0 (now found) ⌝ }
+    ensures { λ _. ⌜ Found (activeOf (rulesOf (now (table .entry)))) (member (now (model .entry))) (document .atoms) 0
+        (now (found .exit)) ⌝ }
+{
+    let hint = &order[..];
+    let mut i: usize = 0;
+    while i < Table::SLOTS {
+        i += 1;
+        let n = i as u16;
+        if n > hint[0] {
+            return;
+        }
+        let rule = rule_in(table, Slot(hint[i]));
+        lower(rule, model, found);
+    }
+}
+
 // The depth of each in atom, 0 for every other: rounds over the slots, upwards and downwards in turn, up to the first
-// that lowers none.
-pub fn depths(table: &[u16; Table::WORDS], model: &[bool; Table::ATOMS]) -> [u16; Table::ATOMS]
+// that lowers none. The slots that a hint names come first, in its order: where the slots are those that added the in
+// atoms, in the order in which they did, few rounds are left.
+pub fn depths(
+    table: &[u16; Table::WORDS],
+    model: &[bool; Table::ATOMS],
+    order: &[u16; ORDER],
+) -> [u16; Table::ATOMS]
     requires { ⌜ Bounded (activeOf (rulesOf (now table))) (document .atoms)
         × Admissible (activeOf (rulesOf (now table))) (member (now model)) ⌝ }
     ensures { λ r. ⌜ DepthsOf (activeOf (rulesOf (now (table .entry)))) (member (now (model .entry))) (number r) ⌝ }
 {
     let mut found: [u16; Table::ATOMS] = [0; Table::ATOMS];
+    lower_first(table, model, order, &mut found);
     let mut round: usize = 0;
     let mut lowered = true;
     while lowered {

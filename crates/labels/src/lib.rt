@@ -50,7 +50,8 @@ pub fn relabel(table: &mut [u16; Table::WORDS]) -> bool
     let of = s.of;
     let search = in_atoms(table, &of);
     let found = search.found;
-    let deep = depths(table, &found);
+    let order = search.order;
+    let deep = depths(table, &found, &order);
     keep_dues(table, &found, &deep);
     true
 }

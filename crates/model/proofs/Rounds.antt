@@ -196,8 +196,10 @@ module _ (rules : List Rule) (ℓ : ℕ → ℕ) (S : Stratified (bookOf rules) 
     }
 
     -- after the highest all is found and told
-    pub between-end : top ≤ k → Searched (bookOf rules) (record { found = after; rounds = set rounds k n })
-    between-end l =
+    pub between-end :
+        (hint : List ℕ) → top ≤ k
+        → Searched (bookOf rules) (record { found = after; rounds = set rounds k n; order = hint })
+    between-end hint l =
         let e : k ≡ top = omega (arith, Y .high) in
         let L = strata-given rules ℓ S in
         record {

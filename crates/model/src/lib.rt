@@ -17,10 +17,12 @@ ghost use Rattle.model.specs.Model.{Stratified, Searched};
 ghost use Rattle.model.specs.Rounds.{sought, waits, Ready, Filling, HighestOf};
 
 // What is found: the in atoms, and how many rounds were made in each stratum (layer), from the lowest on; 0 past the
-// highest.
+// highest. `order` is a hint, of which nothing is promised: how many slots added their heads, then these slots, in the
+// order in which they did.
 pub struct Search {
     pub found: [bool; Table::ATOMS],
     pub rounds: [u16; Search::STRATA],
+    pub order: [u16; Search::STRATA],
 }
 
 impl Search {
@@ -65,12 +67,34 @@ fn holds_valid(rule: Rule, flags: &[bool; Table::ATOMS]) -> bool
     valid(rule, flags)
 }
 
+// A number is put into the hint, if there is room.
+fn put(order: &mut [u16; Search::STRATA], place: u16, v: u16) {
+    let i = place as usize;
+    let s = &mut order[..];
+    if i < s.len() {
+        s[i] = v;
+    }
+}
+
+// The slot comes last in the hint.
+fn note(order: &mut [u16; Search::STRATA], slot: usize) {
+    if slot >= Table::SLOTS {
+        return;
+    }
+    let v = slot as u16;
+    let s = &order[..];
+    let n = std::num::wrapping_add_u16(s[0], 1);
+    put(order, n, v);
+    put(order, 0, n);
+}
+
 // The rounds of stratum k, up to the first that adds none. Answers how many were made.
 fn fill_stratum(
     table: &[u16; Table::WORDS],
     strata: &[u16; Table::ATOMS],
     k: u16,
     found: &mut [bool; Table::ATOMS],
+    order: &mut [u16; Search::STRATA],
 ) -> u16
     requires { ⌜ Ready (bookOf (rulesOf (now table))) (number (now strata)) k (now found) ⌝ }
     ensures { λ r. ⌜ Filling (activeOf (rulesOf (now (table .entry)))) (number (now (strata .entry))) k
@@ -95,6 +119,7 @@ fn fill_stratum(
                 continue;
             }
             mark(found, rule.head);
+            note(order, slot);
             adds = true;
         }
         end = last;
@@ -128,14 +153,16 @@ pub fn in_atoms(table: &[u16; Table::WORDS], strata: &[u16; Table::ATOMS]) -> Se
     let top = highest(strata);
     let mut found: [bool; Table::ATOMS] = [false; Table::ATOMS];
     let mut rounds: [u16; Search::STRATA] = [0; Search::STRATA];
+    let mut order: [u16; Search::STRATA] = [0; Search::STRATA];
     let mut k: u16 = 0;
     loop {
-        let n = fill_stratum(table, strata, k, &mut found);
+        let n = fill_stratum(table, strata, k, &mut found, &mut order);
         rounds[k as usize] = n;
         if k >= top {
             return Search {
                 found: found,
                 rounds: rounds,
+                order: order,
             };
         }
         k += 1;

@@ -10,34 +10,39 @@ use Rattle.table.specs.Words.{rulesOf}
 use Rattle.table.specs.Turns.{slotAt}
 use Rattle.table.proofs.Words.{rules-length}
 use Rattle.table.proofs.SlotsInTurn.{slot-at-below}
-use Rattle.depths.proofs.Relaxing.{Pass, Outer, rounds-start, pass-start, pass-next, round-end}
+use Rattle.depths.proofs.Relaxing.{Pass, Outer, read-at, rounds-start, pass-start, pass-next, round-end}
 use Rattle.depths.proofs.Relaxing.{rounds-few, rounds-end}
 use borrow.Author.Needs.{needs}
 use Rattle.depths.proofs.depths.Statement.{statement}
 use Rattle.depths.proofs.depths.Tie as tie
 
 abbrev Inv-loop2 : tie.InvT-loop2
-Inv-loop2 table model found₀ round lowered₀ down i₀ found lowered i =
+Inv-loop2 table model order found₀ round lowered₀ down i₀ found lowered i =
     (i ≤ document .slots)
     × Pass (activeOf (rulesOf table)) (member model) (slotAt (document .slots) down) (document .atoms) round i found lowered
 
 abbrev μ-loop2 : tie.MeasureT-loop2
-μ-loop2 table model found₀ round lowered₀ down i₀ found lowered i = document .slots - i
+μ-loop2 table model order found₀ round lowered₀ down i₀ found lowered i = document .slots - i
 
 abbrev Inv-loop : tie.InvT-loop
-Inv-loop table model found₀ round₀ lowered₀ found round lowered =
+Inv-loop table model order found₀ round₀ lowered₀ found round lowered =
     Outer (activeOf (rulesOf table)) (member model) (document .atoms) round found lowered
 
 abbrev μ-loop : tie.MeasureT-loop
-μ-loop table model found₀ round₀ lowered₀ found round lowered = document .atoms + 1 - round
+μ-loop table model order found₀ round₀ lowered₀ found round lowered = document .atoms + 1 - round
 
 loop-holds : tie.Need-loop-holds Inv-loop2 μ-loop2 Inv-loop μ-loop
-loop-holds c = rounds-start _ _ _
+loop-holds c = c .lower-first .ensures
 
 loop2-holds : tie.Need-loop2-holds Inv-loop2 μ-loop2 Inv-loop μ-loop
 loop2-holds c =
     let at = c .before .loop in
     (omega arith, pass-start _ _ _ _ _ _ (at .lowered) (c .loop-test .taken) (at .inv))
+
+lower-first-requires : tie.Need-lower-first-requires Inv-loop2 μ-loop2 Inv-loop μ-loop
+lower-first-requires c κs =
+    let s = c .before in
+    (s .pre .0, s .pre .1, rounds-start _ _ _)
 
 slot-at-requires : tie.Need-slot-at-requires Inv-loop2 μ-loop2 Inv-loop μ-loop
 slot-at-requires c κs = tt
@@ -62,10 +67,11 @@ loop2-again : tie.Need-loop2-again Inv-loop2 μ-loop2 Inv-loop μ-loop
 loop2-again c =
     let w = c .before .before .before in
     let t = w .before .before in
-    let s = t .before .before .before in (
+    let s = t .before .before .before .before .before in
+    let read = c .before .before .rule-at .result in (
       omega arith,
       pass-next (rulesOf (s .args .table .now)) _ _ (s .pre .0) (s .pre .1) _ _ (t .loop2 .i) _ (t .loop2 .lowered)
-          (t .loop2 .inv .1) _ (w .slot-at .ensures) _ (c .before .before .rule-at .ensures) _ _ (c .lower .ensures) _ refl,
+          (t .loop2 .inv .1) _ (w .slot-at .ensures) read (read-at (rulesOf (s .args .table .now)) _ _ (c .before .before .rule-at .ensures)) _ _ (c .lower .ensures) _ refl,
     )
 
 add-round : tie.Need-add-round Inv-loop2 μ-loop2 Inv-loop μ-loop
@@ -82,7 +88,7 @@ loop-less c =
 
 loop-again : tie.Need-loop-again Inv-loop2 μ-loop2 Inv-loop μ-loop
 loop-again c =
-    let s = c .before .before .before .before in
+    let s = c .before .before .before .before .before .before in
     let at = c .before .loop2 in
     round-end (rulesOf (s .args .table .now)) _ _ (s .pre .0) (s .pre .1) _ (rules-length _) _ _ (at .i) _
     (c .loop2-test .left) _ (at .inv .1)
@@ -98,6 +104,7 @@ depths-spec =
     μ-loop2
     Inv-loop
     μ-loop
+    lower-first-requires
     loop-holds
     loop2-holds
     slot-at-requires

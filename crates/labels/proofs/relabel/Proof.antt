@@ -28,7 +28,7 @@ in-atoms-requires c κs =
 
 depths-requires : tie.Need-depths-requires
 depths-requires c κs =
-    let model = c .before .before .before in
+    let model = c .before .before .before .before .before in
     let s = model .before .before .before .before .before .before .before .before .before .before in
     (active-bounded (bookOf (rulesOf (s .args .table .now))) _ (s .pre), model .in-atoms .ensures .model)
 
@@ -38,7 +38,7 @@ keep-dues-requires c κs = search needs
 returns-2 : tie.Need-returns-2
 returns-2 c =
     let deep = c .before .before .before .before in
-    let model = deep .before .before .before .before in
+    let model = deep .before .before .before .before .before .before in
     let test = model .before .before .before .before in
     let told = test .before .before in
     told-kept _ (search needs) _ _

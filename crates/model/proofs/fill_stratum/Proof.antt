@@ -21,20 +21,20 @@ use Rattle.model.proofs.fill_stratum.Statement.{statement}
 use Rattle.model.proofs.fill_stratum.Tie as tie
 
 abbrev Inv-loop2 : tie.InvT-loop2
-Inv-loop2 table strata k found₀ rounds end adds₀ last₀ i₀ found adds last i =
+Inv-loop2 table strata k found₀ order₀ rounds end adds₀ last₀ i₀ found order adds last i =
     Left (number strata) k (rulesOf table) found₀ i found adds × Seen (number strata) k (rulesOf table) found end last i
     × (end ≤ document .slots)
 
 abbrev μ-loop2 : tie.MeasureT-loop2
-μ-loop2 table strata k found₀ rounds end adds₀ last₀ i₀ found adds last i = end - i
+μ-loop2 table strata k found₀ order₀ rounds end adds₀ last₀ i₀ found order adds last i = end - i
 
 abbrev Inv-loop : tie.InvT-loop
-Inv-loop table strata k found₀ rounds₀ end₀ found rounds end =
+Inv-loop table strata k found₀ order₀ rounds₀ end₀ found order rounds end =
     Going (activeOf (rulesOf table)) (number strata) k (member found₀) (member found) rounds
     × (length found ≡ length found₀) × NoneFrom (number strata) k (rulesOf table) found end × (end ≤ document .slots)
 
 abbrev μ-loop : tie.MeasureT-loop
-μ-loop table strata k found₀ rounds₀ end₀ found rounds end = suc (document .slots) - rounds
+μ-loop table strata k found₀ order₀ rounds₀ end₀ found order rounds end = suc (document .slots) - rounds
 
 -- from a visit to the start of its round
 abbrev round-of : (c : tie.At-loop2 Inv-loop2 μ-loop2 Inv-loop μ-loop) → tie.At-loop Inv-loop2 μ-loop2 Inv-loop μ-loop
@@ -96,26 +96,31 @@ loop2-again-2 c =
 mark-requires : tie.Need-mark-requires Inv-loop2 μ-loop2 Inv-loop μ-loop
 mark-requires c κs = tt
 
+note-requires : tie.Need-note-requires Inv-loop2 μ-loop2 Inv-loop μ-loop
+note-requires c κs = tt
+
 loop2-less-3 : tie.Need-loop2-less-3 Inv-loop2 μ-loop2 Inv-loop μ-loop
 loop2-less-3 c = search needs
 
 loop2-again-3 : tie.Need-loop2-again-3 Inv-loop2 μ-loop2 Inv-loop μ-loop
 loop2-again-3 c =
-    let good = c .before .before in
+    let put = c .before .before in
+    let good = put .before .before in
     let new = good .before .before .before in
     let here = new .before .before .before .rule-at in
+    let test = new .before .before .before .before .loop2-test .taken in
     let at = new .before .before .before .before .before in
     let s = round-of at .before in
     let rules = rulesOf (s .args .table .now) in
     let len = rules-length (s .args .table .now) in
     let size : length (at .loop2 .found) ≡ document .atoms =
     at .loop2 .inv .0 .size ∙ (round-of at .loop .inv .1 ∙ s .pre .size) in (
-      left-add _ _ rules _ (at .loop2 .i) _ _ (omega (arith, at .loop2 .inv .2)) (at .loop2 .inv .0) _ (here .ensures)
+      left-add _ _ rules _ (at .loop2 .i) _ _ (omega (arith, at .loop2 .inv .2, test)) (at .loop2 .inv .0) _ (here .ensures)
           (rw size (head-below rules (document .atoms) _ _ (here .ensures) (s .pre .stratified .bounded)))
           (waits-sought (number (s .args .strata .now)) (s .args .k) (member (at .loop2 .found)) (here .result .state)
           (here .result .head .0) (sym (new .before .waits .ensures) ∙ not-false _ (new .if1 .left)))
-          (sym (good .before .holds-valid .ensures) ∙ not-false _ (good .if2 .left)) _ (c .mark .ensures),
-      seen-mark _ _ rules _ _ _ _ _ _ (c .mark .ensures)
+          (sym (good .before .holds-valid .ensures) ∙ not-false _ (good .if2 .left)) _ (put .mark .ensures),
+      seen-mark _ _ rules _ _ _ _ _ _ (put .mark .ensures)
           (seen-here _ _ rules _ _ _ (at .loop2 .i) (at .loop2 .inv .1)),
       at .loop2 .inv .2,
     )
@@ -184,6 +189,7 @@ fill-stratum-spec =
     loop2-less-2
     loop2-again-2
     mark-requires
+    note-requires
     loop2-less-3
     loop2-again-3
     add-rounds

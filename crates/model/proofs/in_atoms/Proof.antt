@@ -15,11 +15,11 @@ use Rattle.model.proofs.in_atoms.Statement.{statement}
 use Rattle.model.proofs.in_atoms.Tie as tie
 
 abbrev Inv-loop : tie.InvT-loop
-Inv-loop table strata top found₀ rounds₀ k₀ found rounds k =
+Inv-loop table strata top found₀ rounds₀ order₀ k₀ found rounds order k =
     Between (bookOf (rulesOf table)) (number strata) top k found rounds
 
 abbrev μ-loop : tie.MeasureT-loop
-μ-loop table strata top found₀ rounds₀ k₀ found rounds k = top - k
+μ-loop table strata top found₀ rounds₀ order₀ k₀ found rounds order k = top - k
 
 highest-requires : tie.Need-highest-requires Inv-loop μ-loop
 highest-requires c κs = tt
@@ -30,14 +30,16 @@ loop-holds c =
     (suc (document .slots)) refl refl
 
 fill-stratum-requires : tie.Need-fill-stratum-requires Inv-loop μ-loop
-fill-stratum-requires c κs = c .before .loop .inv .ready
+fill-stratum-requires c κs = c .before .before .loop .inv .ready
 
 -- the highest layer has a place in the array of rounds
-room : (c : tie.After-fill-stratum Inv-loop μ-loop) → c .before .before .before .highest .result < suc (document .slots)
+room :
+    (c : tie.After-fill-stratum Inv-loop μ-loop)
+    → c .before .before .before .before .highest .result < suc (document .slots)
 room c =
-    let s = c .before .before .before .before in
+    let s = c .before .before .before .before .before in
     let len = rules-length (s .args .table .now) in
-    stratum-room (rulesOf (s .args .table .now)) _ (s .pre) _ (c .before .before .before .highest .ensures) len
+    stratum-room (rulesOf (s .args .table .now)) _ (s .pre) _ (c .before .before .before .before .highest .ensures) len
 
 cast-rounds : tie.Need-cast-rounds Inv-loop μ-loop
 cast-rounds c = search needs
@@ -50,11 +52,11 @@ array-write-rounds c = (let r = room c in search needs)
 
 returns : tie.Need-returns Inv-loop μ-loop
 returns c =
-    let s = c .before .before .before .before .before in
+    let s = c .before .before .before .before .before .before in
     let len = rules-length (s .args .table .now) in
-    let told = c .before .before .before .before .highest .ensures in
-    between-end (rulesOf (s .args .table .now)) _ (s .pre) _ told len _ _ _ _ _ (c .before .before .before .loop .inv)
-    (c .before .fill-stratum .ensures) (c .if1 .taken)
+    let told = c .before .before .before .before .before .highest .ensures in
+    between-end (rulesOf (s .args .table .now)) _ (s .pre) _ told len _ _ _ _ _ (c .before .before .before .before .loop .inv)
+    (c .before .fill-stratum .ensures) _ (c .if1 .taken)
 
 add-k : tie.Need-add-k Inv-loop μ-loop
 add-k c = search needs
@@ -64,10 +66,10 @@ loop-less c = search needs
 
 loop-again : tie.Need-loop-again Inv-loop μ-loop
 loop-again c =
-    let s = c .before .before .before .before .before in
+    let s = c .before .before .before .before .before .before in
     let len = rules-length (s .args .table .now) in
-    let told = c .before .before .before .before .highest .ensures in
-    between-next (rulesOf (s .args .table .now)) _ (s .pre) _ told len _ _ _ _ _ (c .before .before .before .loop .inv)
+    let told = c .before .before .before .before .before .highest .ensures in
+    between-next (rulesOf (s .args .table .now)) _ (s .pre) _ told len _ _ _ _ _ (c .before .before .before .before .loop .inv)
     (c .before .fill-stratum .ensures) (omega (arith, c .if1 .left))
 
 pub in-atoms-spec : {M : Type 1} → statement M
