@@ -23,18 +23,22 @@ Empty xs from j = (i : ℕ) → from ≤ i → i < j → getD xs i noAtom ≡ no
 
 -- The sum of the entries read so far is 0 exactly if they are as in the empty table.
 module _ (xs : List Atom) (from j sum : ℕ) (told : (sum ≡ 0) ↔ Empty xs from j) where
-  pub sum-more : from ≤ j → (sum + getD xs j noAtom .0 ≡ 0) ↔ Empty xs from (j + 1)
-  sum-more l = (
+  pub sum-more :
+      (x : ℕ) → (j < from → x ≡ 0) → (from ≤ j → x ≡ getD xs j noAtom .0) → (sum + x ≡ 0) ↔ Empty xs from (j + 1)
+  sum-more x low high = (
     λ z i k m. ⊎-elim
         (λ (n : j ≤ i). (
         let q : i ≡ j = omega arith in
-        let e : getD xs j noAtom .0 ≡ 0 = omega arith in
+        let e : getD xs j noAtom .0 ≡ 0 = omega (arith, high (omega arith)) in
         rw q (ap (λ n. record { 0 = n }) e)))
         (λ (n : i < j). told .0 (omega arith) i k n)
         (le-or-lt j i),
     λ h.
-        let e : getD xs j noAtom .0 ≡ 0 = ap (λ a. a .0) (h j l (omega arith)) in
         let z : sum ≡ 0 = told .1 (λ i k m. h i k (omega arith)) in
+        let y : x ≡ 0 = ⊎-elim
+        (λ (l : from ≤ j). high l ∙ ap (λ a. a .0) (h j l (omega arith)))
+        low
+        (le-or-lt from j) in
         omega arith,
   )
 

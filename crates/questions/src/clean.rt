@@ -1,5 +1,6 @@
 // Is a slot one that a sound table can have?
 use super::head_fits;
+use table::Atom;
 use table::Rule;
 use table::Table;
 ghost use mathlib.Core.Path.{_≡_};
@@ -14,16 +15,26 @@ ghost use Rattle.theory.specs.Limits.{document};
 ghost use Rattle.table.specs.Rules.{numbers, noAtom};
 ghost use Rattle.table.specs.Clean.{CleanRule, WellFormed};
 
-// Is every entry from a place on as in the empty table? All are 0 exactly if their sum is, and adding them up without a
-// test of each is faster.
+// What the entry at place j adds to the sum of those from a place on: nothing if it stands before.
+fn counted(a: Atom, j: usize, from: usize) -> u32
+    ensures { λ r. ⌜ (r ≤ 65535) × (j < from → r ≡ 0) × (from ≤ j → r ≡ a .0) ⌝ }
+{
+    if j < from {
+        return 0;
+    }
+    a.0 as u32
+}
+
+// Is every entry from a place on as in the empty table? All are 0 exactly if their sum is. Adding them up without a test
+// of each is faster, and so is a walk over all entries, whose end is known.
 fn empty_from(rule: Rule, from: usize) -> bool
     ensures { λ r. ⌜ (r ≡ true) ↔ ((i : ℕ) → from ≤ i → getD (rule .entries) i noAtom ≡ noAtom) ⌝ }
 {
     let mut sum: u32 = 0;
-    let mut j = from;
+    let mut j: usize = 0;
     while j < Table::ENTRIES {
         let a = rule.entries[j];
-        sum += a.0 as u32;
+        sum += counted(a, j, from);
         j += 1;
     }
     sum == 0

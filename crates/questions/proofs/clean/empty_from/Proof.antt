@@ -13,8 +13,7 @@ use Rattle.questions.proofs.clean.empty_from.Statement.{statement}
 use Rattle.questions.proofs.clean.empty_from.Tie as tie
 
 abbrev Inv-loop : tie.InvT-loop
-Inv-loop from rule sum₀ j₀ sum j =
-    (from ≤ j) × (sum ≤ 65535 * (j - from)) × ((sum ≡ 0) ↔ Empty (rule .entries) from j)
+Inv-loop from rule sum₀ j₀ sum j = (sum ≤ 65535 * j) × ((sum ≡ 0) ↔ Empty (rule .entries) from j)
 
 abbrev μ-loop : tie.MeasureT-loop
 μ-loop from rule sum₀ j₀ sum j = document .entries - j
@@ -24,7 +23,7 @@ long : (s : tie.Start Inv-loop μ-loop) → length (s .args .t1 .entries) ≡ do
 long s = simp length-map at (s .good .0 .1 .1 .1 .1 .1 .1 .0 .1 .0 .1)
 
 loop-holds : tie.Need-loop-holds Inv-loop μ-loop
-loop-holds c = (omega arith, omega arith, (λ z i l k. absurd (omega arith), λ h. refl))
+loop-holds c = (omega arith, (λ z i l k. absurd (omega arith), λ h. refl))
 
 mul-a : tie.Need-mul-a Inv-loop μ-loop
 mul-a c = search needs
@@ -32,11 +31,11 @@ mul-a c = search needs
 element-copy-out-a : tie.Need-element-copy-out-a Inv-loop μ-loop
 element-copy-out-a c = search needs
 
-cast-sum : tie.Need-cast-sum Inv-loop μ-loop
-cast-sum c = search needs
+counted-requires : tie.Need-counted-requires Inv-loop μ-loop
+counted-requires c κs = search needs
 
 add-sum : tie.Need-add-sum Inv-loop μ-loop
-add-sum c = omega (arith, c .struct-known .given)
+add-sum c = omega (arith, c .counted .ensures .0)
 
 add-j : tie.Need-add-j Inv-loop μ-loop
 add-j c = search needs
@@ -46,18 +45,18 @@ loop-less c = search needs
 
 loop-again : tie.Need-loop-again Inv-loop μ-loop
 loop-again c =
-    let l = c .before .before .before in (
-      omega arith,
-      omega (arith, c .struct-known .given),
-      sum-more (l .before .args .t1 .entries) (l .before .args .from) (l .loop .j) (l .loop .sum) (l .loop .inv .2)
-          (l .loop .inv .0),
+    let l = c .before .before .before in
+    let w = c .counted .ensures in (
+      omega (arith, w .0),
+      sum-more (l .before .args .t1 .entries) (l .before .args .from) (l .loop .j) (l .loop .sum) (l .loop .inv .1)
+          (c .counted .result) (w .1) (w .2),
     )
 
 returns : tie.Need-returns Inv-loop μ-loop
 returns c =
     let l = c .before in
     let n = long (l .before) in
-    sum-all (l .before .args .t1 .entries) (l .before .args .from) (l .loop .j) (l .loop .sum) (l .loop .inv .2)
+    sum-all (l .before .args .t1 .entries) (l .before .args .from) (l .loop .j) (l .loop .sum) (l .loop .inv .1)
     (omega arith)
 
 pub empty-from-spec : {M : Type 1} → statement M
@@ -69,7 +68,7 @@ empty-from-spec =
     loop-holds
     mul-a
     element-copy-out-a
-    cast-sum
+    counted-requires
     add-sum
     add-j
     loop-less
