@@ -1,6 +1,5 @@
 // Is a slot one that a sound table can have?
 use super::head_fits;
-use table::Atom;
 use table::Rule;
 use table::Table;
 ghost use mathlib.Core.Path.{_≡_};
@@ -14,30 +13,32 @@ ghost use Rattle.theory.specs.Lists.{every, Sorted};
 ghost use Rattle.theory.specs.Limits.{document};
 ghost use Rattle.table.specs.Rules.{numbers, noAtom};
 ghost use Rattle.table.specs.Clean.{CleanRule, WellFormed};
+ghost use Rattle.questions.specs.Sums.{sum-to};
 
-// What the entry at place j adds to the sum of those from a place on: nothing if it stands before.
-fn counted(a: Atom, j: usize, from: usize) -> u32
-    ensures { λ r. ⌜ (r ≤ 65535) × (j < from → r ≡ 0) × (from ≤ j → r ≡ a .0) ⌝ }
-{
-    if j < from {
-        return 0;
-    }
-    a.0 as u32
-}
-
-// Is every entry from a place on as in the empty table? All are 0 exactly if their sum is. Adding them up without a test
-// of each is faster, and so is a walk over all entries, whose end is known.
-fn empty_from(rule: Rule, from: usize) -> bool
-    ensures { λ r. ⌜ (r ≡ true) ↔ ((i : ℕ) → from ≤ i → getD (rule .entries) i noAtom ≡ noAtom) ⌝ }
+// The sum of the first entries.
+fn sum_to(rule: Rule, to: usize) -> u32
+    requires { ⌜ to ≤ document .entries ⌝ }
+    ensures { λ r. ⌜ r ≡ sum-to (rule .entries) to ⌝ }
 {
     let mut sum: u32 = 0;
     let mut j: usize = 0;
-    while j < Table::ENTRIES {
+    while j < to {
         let a = rule.entries[j];
-        sum += counted(a, j, from);
+        sum += a.0 as u32;
         j += 1;
     }
-    sum == 0
+    sum
+}
+
+// Is every entry from a place on as in the empty table? All are 0 exactly if they add nothing to the sum of those
+// before. The sum of all is taken at once, which is faster than a test of each.
+fn empty_from(rule: Rule, from: usize) -> bool
+    ensures { λ r. ⌜ (r ≡ true) ↔ ((i : ℕ) → from ≤ i → getD (rule .entries) i noAtom ≡ noAtom) ⌝ }
+{
+    if from >= Table::ENTRIES {
+        return true;
+    }
+    sum_to(rule, from) == sum_to(rule, Table::ENTRIES)
 }
 
 // Does all of the slot that holds nothing stand as in the empty table?
