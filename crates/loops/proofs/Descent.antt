@@ -4,18 +4,19 @@ use native.Mathlib.Omega.{arith}
 use mathlib.Core.Path.{_≡_, refl, sym, _∙_, ap, subst}
 use mathlib.Core.Logic.{_↔_, ⊎-elim}
 use mathlib.Core.Bool.{true, false}
-use mathlib.Core.List.{List, List·Memᴰ·head, List·Memᴰ·tail}
+use mathlib.Core.List.{List, [], List·Memᴰ·head, List·Memᴰ·tail, List·Memᴰ·not-nil}
 use mathlib.Core.Option.{none, some, Option·none-ne-some, Option·some-injective}
 use lib.Dec.{leb}
-use lib.ListN.{length, getD, List·getD-eq-default}
+use lib.ListN.{length, take, drop, getD, List·getD-eq-default}
+use Rattle.theory.specs.Lists.{_∈_}
 use Rattle.theory.specs.Rules.{Program, Bounded, Held}
 use Rattle.theory.specs.Rules as theory
 use Rattle.theory.specs.Dependencies.{NegativeCycle}
 use Rattle.theory.proofs.Lists.{is-not, le-or-lt, leb-le, le-leb}
 use Rattle.theory.proofs.Strata.{Strata, strata-acyclic}
 use Rattle.table.specs.declared.Rule.{Rule}
-use Rattle.table.specs.Rules.{slotOf, ruleOf, programOf, pastRule}
-use Rattle.table.proofs.Programs.{program-at, program-length, slot-free, slot-held}
+use Rattle.table.specs.Rules.{numbers, slotOf, ruleOf, programOf, pastRule}
+use Rattle.table.proofs.Programs.{program-at, program-length, slot-free, slot-held, slot-rule}
 use Rattle.strata.specs.Needed.{needed, EntriesBelow}
 use Rattle.strata.proofs.Numbers.{needed-enough, needed-reached, Reached}
 use Rattle.strata.proofs.Walks.{Entry, plain, denied}
@@ -92,3 +93,14 @@ module _ (rows : List Rule) where
           (le-or-lt (length (programOf rows)) s),
       λ w. refl,
     )
+
+-- A rule whose code counts no negative entry has none, so that it descends by the numbers 0.
+pub positive-descends : (r : Rule) → r .negatives ≡ 0 → DescendsAt (λ a. 0) (slotOf r)
+positive-descends r e q h = record {
+  up = λ x m. omega arith;
+  over = λ x m. absurd (List·Memᴰ·not-nil (subst (λ (xs : List ℕ). x ∈ xs) (none-left q h) m));
+}
+  where
+    none-left : (q : theory.Rule) → slotOf r ≡ some q → q .negatives ≡ []
+    none-left q h = ap (λ (p : theory.Rule). p .negatives) (sym (slot-rule r q h))
+        ∙ ap (λ n. numbers (take n (drop (r .positives) (r .entries)))) e

@@ -1,7 +1,8 @@
 -- Laws of slots and labels that stand as in the empty table, by what is tested of them. Assumes nothing.
-use Prim.Native.Nat.{ℕ, _+_, _≤_, _<_}
+use Prim.Native.Nat.{ℕ, zero, suc, _+_, _≤_, _<_}
+use native.Mathlib.Numerals.{add-one}
 use native.Mathlib.Omega.{arith}
-use mathlib.Core.Path.{_≡_, sym, _∙_, ap}
+use mathlib.Core.Path.{_≡_, refl, sym, _∙_, ap}
 use mathlib.Core.Logic.{_↔_, ⊎-elim}
 use mathlib.Core.Bool.{Bool, true, false, not}
 use mathlib.Core.List.{List}
@@ -16,36 +17,63 @@ use Rattle.table.specs.declared.Rule.{Rule}
 use Rattle.table.specs.Rules.{noAtom}
 use Rattle.table.specs.Clean.{freeRule, CleanRule}
 use Rattle.table.proofs.Entries.{past}
+use Rattle.questions.specs.Sums.{sum-to}
 
--- Entries from a place on that are as in the empty table, as far as they have been read.
-abbrev pub Empty : List Atom → ℕ → ℕ → Type 0
-Empty xs from j = (i : ℕ) → from ≤ i → i < j → getD xs i noAtom ≡ noAtom
+-- Entries from a place on that are as in the empty table, as far as m.
+abbrev Empty : List Atom → ℕ → ℕ → Type 0
+Empty xs from m = (i : ℕ) → from ≤ i → i < m → getD xs i noAtom ≡ noAtom
 
--- The sum of the entries read so far is 0 exactly if they are as in the empty table.
-module _ (xs : List Atom) (from j sum : ℕ) (told : (sum ≡ 0) ↔ Empty xs from j) where
-  pub sum-more : from ≤ j → (sum + getD xs j noAtom .0 ≡ 0) ↔ Empty xs from (j + 1)
-  sum-more l = (
-    λ z i k m. ⊎-elim
-        (λ (n : j ≤ i). (
-        let q : i ≡ j = omega arith in
-        let e : getD xs j noAtom .0 ≡ 0 = omega arith in
-        rw q (ap (λ n. record { 0 = n }) e)))
-        (λ (n : i < j). told .0 (omega arith) i k n)
-        (le-or-lt j i),
-    λ h.
-        let e : getD xs j noAtom .0 ≡ 0 = ap (λ a. a .0) (h j l (omega arith)) in
-        let z : sum ≡ 0 = told .1 (λ i k m. h i k (omega arith)) in
-        omega arith,
-  )
+-- One entry more.
+pub sum-next : (xs : List Atom) (j : ℕ) → sum-to xs j + getD xs j noAtom .0 ≡ sum-to xs (j + 1)
+unfolding sum-to
+sum-next xs j = sym (ap (sum-to xs) (add-one j))
 
-  pub sum-all : length xs ≤ j → (eqb sum 0 ≡ true) ↔ ((i : ℕ) → from ≤ i → getD xs i noAtom ≡ noAtom)
-  sum-all k = (
-    λ t i l. ⊎-elim
-        (λ (m : j ≤ i). sym (past xs i noAtom (omega arith)))
-        (λ (m : i < j). told .0 (eqb-eq sum 0 t) i l m)
-        (le-or-lt j i),
-    λ h. eqb-of sum 0 (told .1 (λ i l m. h i l)),
-  )
+-- Entries are as in the empty table exactly if they add nothing to the sum.
+module _ (xs : List Atom) (from : ℕ) where
+  sums : (m : ℕ) → from ≤ m
+      → (sum-to xs from ≤ sum-to xs m)
+      × (sum-to xs from ≡ sum-to xs m → Empty xs from m)
+      × (Empty xs from m → sum-to xs from ≡ sum-to xs m)
+  unfolding sum-to
+  sums zero l = (
+    let e : from ≡ 0 = omega arith in
+    let s : sum-to xs from ≡ 0 = ap (sum-to xs) e in
+    (omega arith, (λ z i k n. absurd (omega arith)), λ h. s))
+  sums (suc m) l = ⊎-elim
+      (λ (k : suc m ≤ from). (
+      let e : from ≡ suc m = omega arith in
+      let s : sum-to xs from ≡ sum-to xs (suc m) = ap (sum-to xs) e in
+      (omega (arith, s), (λ z i u v. absurd (omega arith)), λ h. s)))
+      (λ (k : from < suc m). (
+      let w = sums m (omega arith) in (
+        omega (arith, w .0),
+        λ z i u v. ⊎-elim
+            (λ (n : m ≤ i). (
+            let q : i ≡ m = omega arith in
+            let e : getD xs m noAtom .0 ≡ 0 = omega (arith, w .0) in
+            rw q (ap (λ n. record { 0 = n }) e)))
+            (λ (n : i < m). w .1 (omega (arith, w .0)) i u n)
+            (le-or-lt m i),
+        λ h.
+            let e : getD xs m noAtom .0 ≡ 0 = ap (λ a. a .0) (h m (omega arith) (omega arith)) in
+            omega (arith, w .2 (λ i u v. h i u (omega arith))),
+      )))
+      (le-or-lt (suc m) from)
+
+  pub none-after : length xs ≤ from → (true ≡ true) ↔ ((i : ℕ) → from ≤ i → getD xs i noAtom ≡ noAtom)
+  none-after k = (λ t i l. sym (past xs i noAtom (omega arith)), λ h. refl)
+
+  pub nothing-added :
+      (m : ℕ) → from ≤ m → length xs ≤ m → (x y : ℕ) → x ≡ sum-to xs from → y ≡ sum-to xs m
+      → (eqb x y ≡ true) ↔ ((i : ℕ) → from ≤ i → getD xs i noAtom ≡ noAtom)
+  nothing-added m l k x y e f =
+      let w = sums m l in (
+        λ t i u. ⊎-elim
+            (λ (n : m ≤ i). sym (past xs i noAtom (omega arith)))
+            (λ (n : i < m). w .1 (sym e ∙ eqb-eq x y t ∙ f) i u n)
+            (le-or-lt m i),
+        λ h. eqb-of x y (e ∙ w .2 (λ i u v. h i u) ∙ sym f),
+      )
 
 -- A slot whose fields are all zero is the free slot.
 rule-is :

@@ -13,20 +13,32 @@ ghost use Rattle.theory.specs.Lists.{every, Sorted};
 ghost use Rattle.theory.specs.Limits.{document};
 ghost use Rattle.table.specs.Rules.{numbers, noAtom};
 ghost use Rattle.table.specs.Clean.{CleanRule, WellFormed};
+ghost use Rattle.questions.specs.Sums.{sum-to};
 
-// Is every entry from a place on as in the empty table? All are 0 exactly if their sum is, and adding them up without a
-// test of each is faster.
-fn empty_from(rule: Rule, from: usize) -> bool
-    ensures { λ r. ⌜ (r ≡ true) ↔ ((i : ℕ) → from ≤ i → getD (rule .entries) i noAtom ≡ noAtom) ⌝ }
+// The sum of the first entries.
+fn sum_to(rule: Rule, to: usize) -> u32
+    requires { ⌜ to ≤ document .entries ⌝ }
+    ensures { λ r. ⌜ r ≡ sum-to (rule .entries) to ⌝ }
 {
     let mut sum: u32 = 0;
-    let mut j = from;
-    while j < Table::ENTRIES {
+    let mut j: usize = 0;
+    while j < to {
         let a = rule.entries[j];
         sum += a.0 as u32;
         j += 1;
     }
-    sum == 0
+    sum
+}
+
+// Is every entry from a place on as in the empty table? All are 0 exactly if they add nothing to the sum of those
+// before. The sum of all is taken at once, which is faster than a test of each.
+fn empty_from(rule: Rule, from: usize) -> bool
+    ensures { λ r. ⌜ (r ≡ true) ↔ ((i : ℕ) → from ≤ i → getD (rule .entries) i noAtom ≡ noAtom) ⌝ }
+{
+    if from >= Table::ENTRIES {
+        return true;
+    }
+    sum_to(rule, from) == sum_to(rule, Table::ENTRIES)
 }
 
 // Does all of the slot that holds nothing stand as in the empty table?

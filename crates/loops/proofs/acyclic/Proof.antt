@@ -8,20 +8,20 @@ use borrow.Author.Needs.{needs}
 use Rattle.loops.proofs.acyclic.Statement.{statement}
 use Rattle.loops.proofs.acyclic.Tie as tie
 
-descends-requires : tie.Need-descends-requires
-descends-requires c κs = search needs
+without-negation-requires : tie.Need-without-negation-requires
+without-negation-requires c κs = search needs
 
 returns : tie.Need-returns
-returns c = (λ t. descending-acyclic _ _ (c .before .descends .ensures .0 (c .if1 .taken)), λ f. refl)
+returns c = (λ t. descending-acyclic _ _ (c .before .without-negation .ensures (c .if1 .taken)), λ f. refl)
 
 order-requires : tie.Need-order-requires
 order-requires c κs = search needs
 
-descends-requires-2 : tie.Need-descends-requires-2
-descends-requires-2 c κs = search needs
+descends-requires : tie.Need-descends-requires
+descends-requires c κs = search needs
 
 returns-2 : tie.Need-returns-2
-returns-2 c = (λ t. descending-acyclic _ _ (c .before .descends2 .ensures .0 (c .if2 .taken)), λ f. refl)
+returns-2 c = (λ t. descending-acyclic _ _ (c .before .descends .ensures .0 (c .if2 .taken)), λ f. refl)
 
 strata-requires : tie.Need-strata-requires
 strata-requires c κs = search needs
@@ -37,10 +37,10 @@ pub acyclic-spec : {M : Type 1} → statement M
 acyclic-spec =
     tie.close
     (tie.spec
-    descends-requires
+    without-negation-requires
     returns
     order-requires
-    descends-requires-2
+    descends-requires
     returns-2
     strata-requires
     returns-3)
