@@ -1,0 +1,2 @@
+-- Laws behind the proofs. Nothing here needs to be believed.
+pub mod Writing
