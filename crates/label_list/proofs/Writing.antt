@@ -52,7 +52,7 @@ pub up-written :
 up-written f i m r x y z A B = subst (λ zs. Appends zs 0 r x z) (sym (up-next f i)) (appends-both A B)
 
 -- Two that agree below n give the same list.
-up-same : (f g : ℕ → List ℕ) (n : ℕ) → ((a : ℕ) → a < n → f a ≡ g a) → upTo f n ≡ upTo g n
+pub up-same : (f g : ℕ → List ℕ) (n : ℕ) → ((a : ℕ) → a < n → f a ≡ g a) → upTo f n ≡ upTo g n
 unfolding upTo
 up-same f g zero h = refl
 up-same f g (suc n) h = ap₂ (λ xs ys. xs ++ ys) (up-same f g n (λ a l. h a (omega arith))) (h n (omega arith))
