@@ -1,0 +1,3 @@
+-- Laws behind the functions' proofs. Nothing here needs to be believed: all of it is checked.
+pub mod Kept
+pub mod Numbers

@@ -1,0 +1,1 @@
+// A table made from its rules at once.
