@@ -83,7 +83,6 @@ pub fn atom_asked(table: &[u16; Table::WORDS], atom: u32) -> AskedAtom
 
 // Asks 15, then 10. Each call on an atom starts with it.
 pub fn ask_atom(table: &[u16; Table::WORDS], atom: u32) -> AskedAtom
-    requires { ⌜ Sound (tableOf (now table)) ⌝ }
     ensures { λ r. ⌜ AskAtomEnds (tableOf (now (table .entry))) atom r ⌝ }
 {
     if !sound(table) {
@@ -110,7 +109,6 @@ pub fn slot_asked(table: &[u16; Table::WORDS], slot: u32) -> AskedSlot
 
 // Asks 15, 8, 9. Each call on a slot starts with it.
 pub fn ask_slot(table: &[u16; Table::WORDS], slot: u32) -> AskedSlot
-    requires { ⌜ Sound (tableOf (now table)) ⌝ }
     ensures { λ r. ⌜ AskSlotEnds (tableOf (now (table .entry))) slot r ⌝ }
 {
     if !sound(table) {

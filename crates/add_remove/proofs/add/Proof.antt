@@ -7,7 +7,7 @@ use Rattle.add_remove.proofs.add.Statement.{statement}
 use Rattle.add_remove.proofs.add.Tie as tie
 
 sound-requires : tie.Need-sound-requires
-sound-requires c κs = ?
+sound-requires c κs = tt
 
 refuse-requires : tie.Need-refuse-requires
 refuse-requires c κs = tt

@@ -134,8 +134,8 @@ relabel-requires c κs =
     let free = lowest-at _ _ (low .lowest-free .ensures) _ (lowest-of put .lowest .given .1) in
     let made = made-of (holds-of low) in
     let s = begun put in
-    (bounded-changed (s .args .t1) (s .pre) (named s) (pass (made .before)) (other low) _ (free .0) (free .1)
-    (made .make-rule .result) (made .make-rule .ensures) _ (put .put-rule .ensures), ?)
+    bounded-changed (s .args .t1) (s .pre) (named s) (pass (made .before)) (other low) _ (free .0) (free .1)
+    (made .make-rule .result) (made .make-rule .ensures) _ (put .put-rule .ensures)
 
 refuse-requires-4 : tie.Need-refuse-requires-4
 refuse-requires-4 c κs = tt

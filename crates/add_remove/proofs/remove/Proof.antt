@@ -6,7 +6,7 @@ use Rattle.add_remove.proofs.remove.Statement.{statement}
 use Rattle.add_remove.proofs.remove.Tie as tie
 
 sound-requires : tie.Need-sound-requires
-sound-requires c κs = ?
+sound-requires c κs = tt
 
 returns : tie.Need-returns
 returns c = contract.unsound (refused _ (c .before .sound .ensures) (c .if1 .taken))

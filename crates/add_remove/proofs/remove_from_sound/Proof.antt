@@ -38,7 +38,7 @@ relabel-requires : tie.Need-relabel-requires
 relabel-requires c κs =
     let put = c .before in
     let s = start put in
-    (bounded-rest (s .args .t1) (s .args .slot) _ (passed put) _ (free-of put .free .ensures) _ (put .put-rule .ensures), ?)
+    bounded-rest (s .args .t1) (s .args .slot) _ (passed put) _ (free-of put .free .ensures) _ (put .put-rule .ensures)
 
 returns : tie.Need-returns
 returns c =

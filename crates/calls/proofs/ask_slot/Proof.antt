@@ -6,7 +6,7 @@ use Rattle.calls.proofs.ask_slot.Statement.{statement}
 use Rattle.calls.proofs.ask_slot.Tie as tie
 
 sound-requires : tie.Need-sound-requires
-sound-requires c κs = c .pre
+sound-requires c κs = tt
 
 returns : tie.Need-returns
 returns c = unsound (sound.refused _ (c .before .sound .ensures) (c .if1 .taken))
