@@ -2,3 +2,4 @@
 pub mod Making
 pub mod Kept
 pub mod Numbers
+pub mod Tables
