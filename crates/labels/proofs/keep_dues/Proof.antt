@@ -42,7 +42,7 @@ loop-again c =
     let t = read .before .before .before in (
       omega arith,
       walked-next _ _ _ (t .before .pre) (t .loop .i) _ _ (t .loop .inv .1) _ (read .rule-at .ensures)
-          (read .before .before .loop-test .taken) (c .keep .ensures .1) _ _ (due .due-in .ensures) _
+          (omega (arith, read .before .before .loop-test .taken)) (c .keep .ensures .1) _ _ (due .due-in .ensures) _
           (c .keep .ensures .0),
     )
 
