@@ -1,21 +1,41 @@
--- What the two tests behind `make` say of the table made. Assumes nothing.
+-- Slots that are well formed, and what the two tests behind `make` say of the table made. Assumes nothing.
 use Prim.Native.Nat.{ℕ}
-use mathlib.Core.Path.{_≡_, refl, sym, subst}
+use native.Mathlib.Omega.{arith}
+use native.Mathlib.Decide.{ℕ-discrete}
+use mathlib.Core.Path.{_≡_, refl, sym, _∙_, ap, subst}
 use mathlib.Core.Bool.{Bool, true, false, not}
 use mathlib.Core.Logic.{_↔_}
 use mathlib.Core.List.{List}
+use lib.ListN.{getD, set}
+use lib.Seq.{getD-set-same, getD-set-other}
 use Rattle.theory.specs.Rules.{Bounded}
 use Rattle.theory.specs.Dependencies.{NegativeCycle}
 use Rattle.theory.specs.Sound.{SoundSlots}
 use Rattle.theory.specs.Limits.{document}
 use Rattle.theory.proofs.Lists.{not-true, not-false, clash}
 use Rattle.table.specs.declared.Rule.{Rule}
-use Rattle.table.specs.Rules.{bookOf, programOf}
+use Rattle.table.specs.Rules.{bookOf, programOf, pastRule}
 use Rattle.table.specs.Words.{rulesOf, depthAt, spoilerAt}
+use Rattle.table.specs.Clean.{emptyTable, WellFormed}
+use Rattle.table.proofs.Empty.{empty-sound}
+use Rattle.table.proofs.Words.{rules-length}
 use Rattle.well_formed.specs.Slots.{Single}
 use Rattle.labels.specs.Labelling.{Relabelled}
-use Rattle.sound.proofs.Soundness.{sound-of, well-formed-bounded}
+use Rattle.sound.proofs.Soundness.{sound-of, sound-well-formed, well-formed-bounded}
 use Rattle.from_rules.specs.Making.{WellFormedSlots, Made, twice, cyclic, made}
+
+-- The slots of the empty table are well formed; so are they after a well-formed one is put.
+pub empty-well : WellFormedSlots (rulesOf (emptyTable .words))
+empty-well = sound-well-formed (emptyTable .words) empty-sound
+
+pub well-set :
+    (table : List ℕ) (s : ℕ) (r : Rule) → WellFormedSlots (rulesOf table) → WellFormed r
+    → WellFormedSlots (set (rulesOf table) s r)
+well-set table s r W w t l = elim (ℕ-discrete t s) [
+  | yes same ↦ subst WellFormed (sym (ap (λ (i : ℕ). getD (set (rulesOf table) s r) i pastRule) same
+      ∙ getD-set-same (rulesOf table) s r pastRule (omega (arith, rules-length table)))) w
+  | no other ↦ subst WellFormed (sym (getD-set-other (rulesOf table) s t r pastRule other)) (W t l)
+]
 
 -- The two tests, one after the other.
 module _ (before : List ℕ) (well : WellFormedSlots (rulesOf before)) (b : Bool)
