@@ -30,6 +30,9 @@ use Rattle.table.specs.declared.Table.{Table}
 use Rattle.table.specs.Labels.{labelAt}
 use Rattle.table.specs.Clean.{emptyTable}
 use Rattle.table.specs.Sound.{Sound}
+use Rattle.table.specs.Rules.{bookOf}
+use Rattle.table.specs.Words.{words}
+use Rattle.table.proofs.Words.{zero-rules}
 use Rattle.table.proofs.Empty.{empty-sound, free-book}
 use Rattle.file_blocks.specs.Questions.{file-questions, pagesOf}
 use Rattle.file_blocks.specs.Book.{loadAnswer, loadPages}
@@ -87,7 +90,7 @@ after-yes B c e = rw (e, after)
 
 -- The pages of the empty table are the empty book.
 pub empty-held : held emptyTable ≡ empty document
-empty-held = free-book (document .slots)
+empty-held = ap bookOf (zero-rules words) ∙ free-book (document .slots)
 
 -- The same of a load, which asks its questions of the bytes alone.
 

@@ -26,7 +26,7 @@ answer-requires c κs =
     let s = c .before .before .before .before .before .before .before .before .before in
     let n = s .args .end - s .args .from in
     let size = length-take n (drop (s .args .from) (s .args .input .now)) in
-    (s .pre .1 .0, omega (arith, size, s .pre .1 .1), s .pre .1 .2)
+    (s .pre .0, (s .pre .1 .1 .0, omega (arith, size, s .pre .1 .1 .1), s .pre .1 .1 .2))
 
 enum-told : tie.Need-enum-told
 enum-told c = search needs
@@ -40,20 +40,26 @@ returns c =
     let task = answer .before .before .before .before .before .before in
     let s = task .before .before .before .before in
     let a = answer .answer in
-    subst
-    (λ (t : Task). Takes t (s .args .sheet)
-    (take (s .args .end - s .args .from) (drop (s .args .from) (s .args .input .now)))
-    (s .args .shown .now) (a .last .1 .1 .1 .1 .0) (a .last .1 .1 .1 .1 .1 .0) (a .result))
-    (sym (task .task .given .1)) (a .ensures)
+    (
+      subst
+          (λ (t : Task). Takes t (s .args .sheet)
+          (take (s .args .end - s .args .from) (drop (s .args .from) (s .args .input .now)))
+          (s .args .shown .now) (a .last .1 .1 .1 .1 .0) (a .last .1 .1 .1 .1 .1 .0) (a .result))
+          (sym (task .task .given .1)) (a .ensures .0),
+      a .ensures .1,
+    )
 
 returns-2 : tie.Need-returns-2
 returns-2 c =
     let s = c .before .before .before .before in
-    subst
-    (λ (t : Task). Takes t (s .args .sheet)
-    (take (s .args .end - s .args .from) (drop (s .args .from) (s .args .input .now)))
-    (s .args .shown .now) (s .args .shown .now) (s .args .lost .now) (s .args .sheet))
-    (sym (c .enum-told .given .1)) (refl, refl, s .pre .1 .2)
+    (
+      subst
+          (λ (t : Task). Takes t (s .args .sheet)
+          (take (s .args .end - s .args .from) (drop (s .args .from) (s .args .input .now)))
+          (s .args .shown .now) (s .args .shown .now) (s .args .lost .now) (s .args .sheet))
+          (sym (c .enum-told .given .1)) (refl, refl, s .pre .1 .1 .2),
+      s .pre .0,
+    )
 
 pub take-piece-spec : {M : Type 1} → statement M
 take-piece-spec =

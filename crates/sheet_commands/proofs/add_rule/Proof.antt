@@ -6,12 +6,13 @@ use lib.ListN.{take, drop, length-take, length-map}
 use Rattle.table.specs.Questions.{ruleFrom}
 use Rattle.calls.specs.Contracts.{AddEnds}
 use Rattle.sheet_meaning.specs.Lines as prints
+use Rattle.sheet_commands.proofs.Still.{add-still}
 use borrow.Author.Needs.{needs}
 use Rattle.sheet_commands.proofs.add_rule.Statement.{statement}
 use Rattle.sheet_commands.proofs.add_rule.Tie as tie
 
 -- the call's start, seen from the change that it makes
-abbrev start-of : tie.After-add → tie.Start
+abbrev start-of : tie.After-add-to-sound → tie.Start
 start-of c = c .before .before .before .before .before .before .before .before
 
 slice-aggregate-both : tie.Need-slice-aggregate-both
@@ -20,29 +21,29 @@ slice-aggregate-both c = search needs
 add-end : tie.Need-add-end
 add-end c = search needs
 
-slice-aggregate-add : tie.Need-slice-aggregate-add
-slice-aggregate-add c =
+slice-aggregate-add-to-sound : tie.Need-slice-aggregate-add-to-sound
+slice-aggregate-add-to-sound c =
     let s = c .before .before .before .before .before .before in
     let long = simp length-map at (s .good .1 .1 .0 .1 .1 .1 .1 .1 .1 .0 .1 .0 .1) in
-    omega (arith, s .pre .0, long, length-take (s .args .parsed .positives) (s .args .parsed .entries))
+    omega (arith, s .pre .1 .0, long, length-take (s .args .parsed .positives) (s .args .parsed .entries))
 
-mul-add : tie.Need-mul-add
-mul-add c = search needs
+mul-add-to-sound : tie.Need-mul-add-to-sound
+mul-add-to-sound c = search needs
 
-sub-add : tie.Need-sub-add
-sub-add c = search needs
+sub-add-to-sound : tie.Need-sub-add-to-sound
+sub-add-to-sound c = search needs
 
-part-add-start : tie.Need-part-add-start
-part-add-start c = search needs
+part-add-to-sound-start : tie.Need-part-add-to-sound-start
+part-add-to-sound-start c = search needs
 
-part-add-end : tie.Need-part-add-end
-part-add-end c =
+part-add-to-sound-end : tie.Need-part-add-to-sound-end
+part-add-to-sound-end c =
     let s = c .before .before .before .before .before .before in
     let long = simp length-map at (s .good .1 .1 .0 .1 .1 .1 .1 .1 .1 .0 .1 .0 .1) in
-    omega (arith, s .pre .0, long)
+    omega (arith, s .pre .1 .0, long)
 
-add-requires : tie.Need-add-requires
-add-requires c κs = search needs
+add-to-sound-requires : tie.Need-add-to-sound-requires
+add-to-sound-requires c κs = search needs
 
 tell-add-requires : tie.Need-tell-add-requires
 tell-add-requires c κs = search needs
@@ -60,8 +61,11 @@ returns c =
     let ends =
     subst (λ (k : ℕ). AddEnds (a .table)
     (ruleFrom (a .head) (take (p .positives) (p .entries)) (take k (drop (p .positives) (p .entries))))
-    (done .add .result .answer) (done .add .result .table)) n (done .add .ensures) in
-    λ line e. record { printed = _; prints = prints.add _ _ _ _ _ e ends; wrote = tell .tell-add .ensures }
+    (done .add-to-sound .result .answer) (done .add-to-sound .result .table)) n (done .add-to-sound .ensures) in
+    (
+      (λ line e. record { printed = _; prints = prints.add _ _ _ _ _ e ends; wrote = tell .tell-add .ensures }),
+      add-still _ _ _ _ (start-of done .pre .0) (done .add-to-sound .ensures),
+    )
 
 pub add-rule-spec : {M : Type 1} → statement M
 add-rule-spec =
@@ -69,12 +73,12 @@ add-rule-spec =
     (tie.spec
     slice-aggregate-both
     add-end
-    slice-aggregate-add
-    mul-add
-    sub-add
-    part-add-start
-    part-add-end
-    add-requires
+    slice-aggregate-add-to-sound
+    mul-add-to-sound
+    sub-add-to-sound
+    part-add-to-sound-start
+    part-add-to-sound-end
+    add-to-sound-requires
     tell-add-requires
     same-length
     returns)

@@ -6,11 +6,11 @@ use borrow.Author.Needs.{needs}
 use Rattle.sheet_commands.proofs.explain.Statement.{statement}
 use Rattle.sheet_commands.proofs.explain.Tie as tie
 
-slice-aggregate-reason : tie.Need-slice-aggregate-reason
-slice-aggregate-reason c = search needs
+slice-aggregate-reason-of-sound : tie.Need-slice-aggregate-reason-of-sound
+slice-aggregate-reason-of-sound c = search needs
 
-reason-requires : tie.Need-reason-requires
-reason-requires c κs = search needs
+reason-of-sound-requires : tie.Need-reason-of-sound-requires
+reason-of-sound-requires c κs = search needs
 
 slice-aggregate-tell-reason : tie.Need-slice-aggregate-tell-reason
 slice-aggregate-tell-reason c = search needs
@@ -18,8 +18,8 @@ slice-aggregate-tell-reason c = search needs
 tell-reason-requires : tie.Need-tell-reason-requires
 tell-reason-requires c κs =
     let reason = c .before .before .before in
-    let s = reason .before .before .before in
-    (list-counts (omega arith) (reason .reason .ensures), s .pre)
+    let s = reason .before .before .before .before .before in
+    (list-counts (omega arith) (reason .reason-of-sound .ensures), s .pre .1)
 
 same-length : tie.Need-same-length
 same-length c = search needs
@@ -30,7 +30,7 @@ returns c =
     let reason = tell .before .before .before .before in
     λ line e. record {
       printed = _;
-      prints = prints.why _ _ _ e (reason .reason .ensures);
+      prints = prints.why _ _ _ e (reason .reason-of-sound .ensures);
       wrote = tell .tell-reason .ensures;
     }
 
@@ -38,8 +38,8 @@ pub explain-spec : {M : Type 1} → statement M
 explain-spec =
     tie.close
     (tie.spec
-    slice-aggregate-reason
-    reason-requires
+    slice-aggregate-reason-of-sound
+    reason-of-sound-requires
     slice-aggregate-tell-reason
     tell-reason-requires
     same-length

@@ -48,7 +48,10 @@ returns c =
     let done = c .before .before in
     let command = done .before .before .before in
     let s = command .before .before .before .before in
-    λ line e. done .add-rule .ensures line (e ∙ ap (told (s .args .parsed)) (command .command .given .1))
+    (
+      (λ line e. done .add-rule .ensures .0 line (e ∙ ap (told (s .args .parsed)) (command .command .given .1))),
+      done .add-rule .ensures .1,
+    )
 
 same-length-2 : tie.Need-same-length-2
 same-length-2 c = search needs
@@ -58,7 +61,10 @@ returns-2 c =
     let done = c .before .before in
     let command = done .before .before .before in
     let s = command .before .before .before .before in
-    λ line e. done .remove-slot .ensures line (e ∙ ap (told (s .args .parsed)) (command .command2 .given .1))
+    (
+      (λ line e. done .remove-slot .ensures .0 line (e ∙ ap (told (s .args .parsed)) (command .command2 .given .1))),
+      done .remove-slot .ensures .1,
+    )
 
 same-length-3 : tie.Need-same-length-3
 same-length-3 c = search needs
@@ -68,7 +74,10 @@ returns-3 c =
     let done = c .before .before in
     let command = done .before .before .before in
     let s = command .before .before .before .before in
-    λ line e. done .replace-rule .ensures line (e ∙ ap (told (s .args .parsed)) (command .command3 .given .1))
+    (
+      (λ line e. done .replace-rule .ensures .0 line (e ∙ ap (told (s .args .parsed)) (command .command3 .given .1))),
+      done .replace-rule .ensures .1,
+    )
 
 same-length-4 : tie.Need-same-length-4
 same-length-4 c = search needs
@@ -78,7 +87,10 @@ returns-4 c =
     let done = c .before .before in
     let command = done .before .before .before in
     let s = command .before .before .before .before in
-    λ line e. done .explain .ensures line (e ∙ ap (told (s .args .parsed)) (command .command4 .given .1))
+    (
+      (λ line e. done .explain .ensures line (e ∙ ap (told (s .args .parsed)) (command .command4 .given .1))),
+      s .pre .0,
+    )
 
 same-length-5 : tie.Need-same-length-5
 same-length-5 c = search needs
@@ -88,7 +100,10 @@ returns-5 c =
     let done = c .before .before in
     let told-step = done .before .before in
     let s = told-step .before .before .before .before in
-    λ line e. done .list-labels .ensures line (e ∙ ap (told (s .args .parsed)) (told-step .enum-told .given .1))
+    (
+      (λ line e. done .list-labels .ensures line (e ∙ ap (told (s .args .parsed)) (told-step .enum-told .given .1))),
+      s .pre .0,
+    )
 
 pub obey-spec : {M : Type 1} → statement M
 obey-spec =

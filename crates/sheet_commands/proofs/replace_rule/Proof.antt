@@ -7,12 +7,13 @@ use Rattle.fields.specs.Texts.{bytes}
 use Rattle.table.specs.Questions.{ruleFrom}
 use Rattle.calls.specs.Contracts.{ReplaceEnds}
 use Rattle.sheet_meaning.specs.Lines as prints
+use Rattle.sheet_commands.proofs.Still.{change-still}
 use borrow.Author.Needs.{needs}
 use Rattle.sheet_commands.proofs.replace_rule.Statement.{statement}
 use Rattle.sheet_commands.proofs.replace_rule.Tie as tie
 
 -- the call's start, seen from the change that it makes
-abbrev start-of : tie.After-replace → tie.Start
+abbrev start-of : tie.After-replace-in-sound → tie.Start
 start-of c = c .before .before .before .before .before .before .before .before
 
 slice-aggregate-both : tie.Need-slice-aggregate-both
@@ -21,29 +22,29 @@ slice-aggregate-both c = search needs
 add-end : tie.Need-add-end
 add-end c = search needs
 
-slice-aggregate-replace : tie.Need-slice-aggregate-replace
-slice-aggregate-replace c =
+slice-aggregate-replace-in-sound : tie.Need-slice-aggregate-replace-in-sound
+slice-aggregate-replace-in-sound c =
     let s = c .before .before .before .before .before .before in
     let long = simp length-map at (s .good .1 .1 .1 .0 .1 .1 .1 .1 .1 .1 .0 .1 .0 .1) in
-    omega (arith, s .pre .0, long, length-take (s .args .parsed .positives) (s .args .parsed .entries))
+    omega (arith, s .pre .1 .0, long, length-take (s .args .parsed .positives) (s .args .parsed .entries))
 
-mul-replace : tie.Need-mul-replace
-mul-replace c = search needs
+mul-replace-in-sound : tie.Need-mul-replace-in-sound
+mul-replace-in-sound c = search needs
 
-sub-replace : tie.Need-sub-replace
-sub-replace c = search needs
+sub-replace-in-sound : tie.Need-sub-replace-in-sound
+sub-replace-in-sound c = search needs
 
-part-replace-start : tie.Need-part-replace-start
-part-replace-start c = search needs
+part-replace-in-sound-start : tie.Need-part-replace-in-sound-start
+part-replace-in-sound-start c = search needs
 
-part-replace-end : tie.Need-part-replace-end
-part-replace-end c =
+part-replace-in-sound-end : tie.Need-part-replace-in-sound-end
+part-replace-in-sound-end c =
     let s = c .before .before .before .before .before .before in
     let long = simp length-map at (s .good .1 .1 .1 .0 .1 .1 .1 .1 .1 .1 .0 .1 .0 .1) in
-    omega (arith, s .pre .0, long)
+    omega (arith, s .pre .1 .0, long)
 
-replace-requires : tie.Need-replace-requires
-replace-requires c κs = search needs
+replace-in-sound-requires : tie.Need-replace-in-sound-requires
+replace-in-sound-requires c κs = search needs
 
 slice-aggregate-tell-change : tie.Need-slice-aggregate-tell-change
 slice-aggregate-tell-change c = search needs
@@ -65,8 +66,11 @@ returns c =
     let ends =
     subst (λ (k : ℕ). ReplaceEnds (a .table) (a .slot)
     (ruleFrom (a .head) (take (p .positives) (p .entries)) (take k (drop (p .positives) (p .entries))))
-    (done .replace .result .answer) (done .replace .result .table)) n (done .replace .ensures) in
-    λ line e. record { printed = _; prints = prints.replace _ _ _ _ _ _ e ends; wrote = tell .tell-change .ensures }
+    (done .replace-in-sound .result .answer) (done .replace-in-sound .result .table)) n (done .replace-in-sound .ensures) in
+    (
+      (λ line e. record { printed = _; prints = prints.replace _ _ _ _ _ _ e ends; wrote = tell .tell-change .ensures }),
+      change-still _ _ _ _ _ (start-of done .pre .0) (done .replace-in-sound .ensures),
+    )
 
 pub replace-rule-spec : {M : Type 1} → statement M
 replace-rule-spec =
@@ -74,12 +78,12 @@ replace-rule-spec =
     (tie.spec
     slice-aggregate-both
     add-end
-    slice-aggregate-replace
-    mul-replace
-    sub-replace
-    part-replace-start
-    part-replace-end
-    replace-requires
+    slice-aggregate-replace-in-sound
+    mul-replace-in-sound
+    sub-replace-in-sound
+    part-replace-in-sound-start
+    part-replace-in-sound-end
+    replace-in-sound-requires
     slice-aggregate-tell-change
     tell-change-requires
     same-length

@@ -24,7 +24,8 @@ returns c =
     let scan = c .before .before .before .before .before .scan in
     let none = c .enum-told .given .1 in (
       feeds-scanned (scan .result) Accepted (scan .ensures .0),
-      (λ l. nothing-found (scan .result .found) none (scan .ensures .1 .some l), refl),
+      ((λ l. nothing-found (scan .result .found) none (scan .ensures .1 .some l), refl),
+      c .before .before .before .before .before .before .before .before .before .before .before .pre .0),
     )
 
 obey-requires : tie.Need-obey-requires
@@ -32,7 +33,10 @@ obey-requires c κs =
     let known = c .before .before .before .before in
     let scan = known .before .before .before .before .before .scan in
     let here = at-command _ _ (scan .result) _ (known .found .given .1) (scan .ensures .0 .found) in
-    (here .within, omega (arith, here .room, scan .ensures .0 .same-length))
+    (
+      known .before .before .before .before .before .before .before .before .before .before .before .pre .0,
+      (here .within, omega (arith, here .room, scan .ensures .0 .same-length)),
+    )
 
 add-past : tie.Need-add-past
 add-past c =
@@ -54,9 +58,9 @@ returns-2 c =
     let obey = c .before .before .before .before .before in
     let known = obey .before .before .before .before .before in
     let scan = known .before .before .before .before .before .scan in (
-      feeds-obeyed (scan .result) Accepted (scan .ensures .0) (known .found .given .1) (obey .obey .ensures)
+      feeds-obeyed (scan .result) Accepted (scan .ensures .0) (known .found .given .1) (obey .obey .ensures .0)
           (c .next-line .ensures),
-      (λ l. omega (arith, scan .ensures .0 .begun), refl),
+      ((λ l. omega (arith, scan .ensures .0 .begun), refl), obey .obey .ensures .1),
     )
 
 pub feed-command-spec : {M : Type 1} → statement M

@@ -15,12 +15,12 @@ returns c =
     let test = c .before in
     let a = test .before .before .before .args in
     let none = lacks (a .at) (length (a .out .now)) (test .before .has-room .ensures) (not-true _ (test .if1 .taken)) in
-    replies-short (λ l. omega (arith, l, none))
+    (replies-short (λ l. omega (arith, l, none)), test .before .before .before .pre)
 
 reply-line-requires : tie.Need-reply-line-requires
 reply-line-requires c κs =
     let test = c .before in
-    has _ _ (test .before .has-room .ensures) (not-false _ (test .if1 .left))
+    (test .before .before .before .pre, has _ _ (test .before .has-room .ensures) (not-false _ (test .if1 .left)))
 
 same-length : tie.Need-same-length
 same-length c = search needs

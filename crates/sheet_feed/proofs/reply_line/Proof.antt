@@ -32,7 +32,10 @@ returns c =
     let sheet = s .args .sheet in
     let some = begun-of-some (sheet .begun) (sheet-sized sheet _ (s .good .0)) in
     let j = judge .judge in
-    replies-told sheet (s .pre) some (read .read-begun .ensures) _ (j .result) (j .ensures) (judged .judged .given .1)
+    (
+      replies-told sheet (s .pre .1) some (read .read-begun .ensures) _ (j .result) (j .ensures) (judged .judged .given .1),
+      s .pre .0,
+    )
 
 same-length-2 : tie.Need-same-length-2
 same-length-2 c = search needs
@@ -47,9 +50,11 @@ returns-2 c =
     let sheet = s .args .sheet in
     let some = begun-of-some (sheet .begun) (sheet-sized sheet _ (s .good .0)) in
     let j = judge .judge in
-    replies-obeyed sheet (s .pre) some (read .read-begun .ensures) _ _ (j .result) (j .ensures)
-    (judged .judged2 .given .1)
-    (obey .obey .ensures)
+    (
+      replies-obeyed sheet (s .pre .1) some (read .read-begun .ensures) _ _ (j .result) (j .ensures)
+          (judged .judged2 .given .1) (obey .obey .ensures .0),
+      obey .obey .ensures .1,
+    )
 
 pub reply-line-spec : {M : Type 1} → statement M
 reply-line-spec =
