@@ -8,11 +8,11 @@ use mathlib.Core.List.{List, [], _∷_}
 use mathlib.Core.Option.{Option, none, some}
 use lib.ListN.{length, set, replicate, length-set, length-replicate}
 use lib.Seq.{getD-set-same, getD-set-other}
-use Rattle.theory.specs.Models.{AtomSet}
 use Rattle.theory.specs.Questions.{asks, first-no, is-some}
 use Rattle.theory.specs.Limits.{document}
 use Rattle.theory.proofs.Lists.{unless, and-l, and-r, and-of, le-or-lt}
 use Rattle.theory.proofs.Labels.{label-in}
+use Rattle.theory.proofs.Slots.{labelled}
 use Rattle.theory.proofs.Questions.{first-no-yes}
 use Rattle.table.specs.declared.Slot.{Slot}
 use Rattle.table.specs.declared.Table.{Table}
@@ -20,7 +20,6 @@ use Rattle.table.specs.declared.arrays.LabelArrays.{LabelArrays}
 use Rattle.table.specs.Sets.{member, Flags}
 use Rattle.table.specs.Arrays.{ArraysOf}
 use Rattle.table.specs.Sound.{Sound}
-use Rattle.table.proofs.LabelArrays.{flags-are}
 use Rattle.table.proofs.Members.{all-alike}
 use Rattle.refusals.specs.declared.Refusal.{Refusal}
 use Rattle.calls.specs.declared.LabelAnswer.{LabelAnswer}
@@ -113,18 +112,19 @@ module _ (t : Table) (S : Sound t) (n : ℕ) (e : files-of (held t) ≡ some n) 
   C = checklist-of (held t) n e
 
   -- a mark's atom is kept as in exactly if the mark stands
-  kept-mark : (k : LabelArrays) → ArraysOf (t .labels) k → (a : ℕ) → is-mark n a ≡ true → member (k .flags) a ≡ marked (held t) a
+  kept-mark :
+      (k : LabelArrays) → ArraysOf (t .words) k → (a : ℕ) → is-mark n a ≡ true → member (k .flags) a ≡ marked (held t) a
   kept-mark k K a m =
       let low : a < document .atoms = omega (arith, mark-below n a m, C .high) in
-      ap (λ (M : AtomSet). M a) (flags-are (t .labels) k K)
-      ∙ label-in (held t) (S .labels .model) (S .labels .admissible) a _ (S .labels .labels a low)
-      ∙ mark-in (held t) n C (S .labels .model) (S .labels .admissible) a m
+      K .flags a low
+      ∙ label-in (held t) (S .kept .model) (S .kept .admissible) a _ (labelled (held t) _ _ (S .kept) a)
+      ∙ mark-in (held t) n C (S .kept .model) (S .kept .admissible) a m
 
   -- 15 is answered yes
   passes : first-no (asks 15 (is-some (files-of (held t))) ∷ []) ≡ none
   passes = first-no-yes (asks 15 _) [] (ap is-some e) ∙ (unfold first-no in refl)
 
-  module _ (k : LabelArrays) (K : ArraysOf (t .labels) k) (flags : List Bool) (L : Lacking (k .flags) n flags) where
+  module _ (k : LabelArrays) (K : ArraysOf (t .words) k) (flags : List Bool) (L : Lacking (k .flags) n flags) where
     on-list-lacks : (i : ℕ) → on-list (some n) i ≡ true → lacking-in (k .flags) i ≡ lacks (held t) i
     on-list-lacks i l =
         let b = on-list-between n i l in
@@ -145,6 +145,6 @@ module _ (t : Table) (S : Sound t) (n : ℕ) (e : files-of (held t) ≡ some n) 
         {before after : List ℕ} {answer : ListAnswer}
         → Written (below (member flags) (length flags)) before answer after → MissingEnds t before answer after
     missing-ends (short l) =
-        contract.short (S .labels .model) _ S passes (S .labels .admissible) (flags-list flags _ lacking-flags) l
+        contract.short (S .kept .model) _ S passes (S .kept .admissible) (flags-list flags _ lacking-flags) l
     missing-ends (fits l) =
-        contract.accepted (S .labels .model) _ S passes (S .labels .admissible) (flags-list flags _ lacking-flags) l
+        contract.accepted (S .kept .model) _ S passes (S .kept .admissible) (flags-list flags _ lacking-flags) l

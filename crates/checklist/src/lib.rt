@@ -1,6 +1,6 @@
 // What a deposit checklist is asked: is it complete, and which files are missing? A library above the table: it reads
-// the slots, and the labels that a sound table keeps, and asks by the call label. Its list is written as those of the
-// calls are. Arguments are bare numbers; no call asks anything of its caller.
+// the slots and what they keep, and asks by the call label. Its list is written as those of the calls are. Arguments are
+// bare numbers; no call asks anything of its caller.
 use calls::LabelAnswer;
 use calls::ListAnswer;
 use checklist_frame::MOST_FILES;
@@ -19,14 +19,15 @@ ghost use mathlib.Core.Path.{_≡_};
 ghost use mathlib.Core.Bool.{true};
 ghost use mathlib.Core.Logic.{_↔_};
 ghost use Prim.Native.Nat.{_≤_};
+ghost use Rattle.table.specs.Words.{tableOf};
 ghost use Rattle.table.specs.Sound.{Sound};
 ghost use Rattle.checklist_frame.specs.Frame.{most-files};
 ghost use Rattle.checklist_meaning.specs.Contracts.{MissingEnds, CompleteEnds};
 ghost use Rattle.checklist.specs.Parts.{Lacking};
 
 // Is the table sound? Every call that answers no refusal 15 says so; this one asks about an atom that passes 10.
-pub fn is_sound(table: Table) -> bool
-    ensures { λ r. ⌜ (r ≡ true) ↔ Sound table ⌝ }
+pub fn is_sound(table: &[u16; Table::WORDS]) -> bool
+    ensures { λ r. ⌜ (r ≡ true) ↔ Sound (tableOf (now (table .entry))) ⌝ }
 {
     let told = label(table, 0);
     match told {
@@ -55,30 +56,27 @@ fn lacking(flags: &[bool; Table::ATOMS], n: usize) -> [bool; MOST_FILES + 1]
 
 // The files that are unsent or have a skip standing, written ascending from the start of the buffer; their count is
 // answered, and later entries stay. Asks 15, 11.
-pub fn missing(table: Table, buffer: &mut [u32]) -> ListAnswer
-    ensures { λ r. ⌜ MissingEnds table (now (buffer .entry)) r (now (buffer .exit)) ⌝ }
+pub fn missing(table: &[u16; Table::WORDS], buffer: &mut [u32]) -> ListAnswer
+    ensures { λ r. ⌜ MissingEnds (tableOf (now (table .entry))) (now (buffer .entry)) r (now (buffer .exit)) ⌝ }
 {
     if !is_sound(table) {
         return ListAnswer::Refused(Refusal::TableUnsound);
     }
-    let rules = table.rules;
-    let files = file_count(rules);
+    let files = file_count(table);
     if files == 0 {
         return ListAnswer::Refused(Refusal::TableUnsound); // sound, and no checklist
     }
-    let labels = table.labels;
-    let kept = arrays_of(labels);
+    let kept = arrays_of(table);
     let flags = kept.flags;
     let lacks = lacking(&flags, files);
     write_marked(&lacks, buffer)
 }
 
 // Is the last file's good in? Asks 15.
-pub fn complete(table: Table) -> CompleteAnswer
-    ensures { λ r. ⌜ CompleteEnds table r ⌝ }
+pub fn complete(table: &[u16; Table::WORDS]) -> CompleteAnswer
+    ensures { λ r. ⌜ CompleteEnds (tableOf (now (table .entry))) r ⌝ }
 {
-    let rules = table.rules;
-    let n = file_count(rules);
+    let n = file_count(table);
     if n == 0 {
         return CompleteAnswer::Refused(Refusal::TableUnsound);
     }

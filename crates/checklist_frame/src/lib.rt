@@ -3,6 +3,7 @@
 use table::Atom;
 use table::Rule;
 use table::Table;
+use table::slots::rule_at;
 ghost use mathlib.Core.Path.{_≡_};
 ghost use mathlib.Core.Bool.{true};
 ghost use mathlib.Core.Logic.{_↔_};
@@ -11,6 +12,7 @@ ghost use lib.ListN.{take};
 ghost use mathlib.Core.Option.{some};
 ghost use Rattle.theory.specs.Rules.{entries};
 ghost use Rattle.table.specs.Rules.{numbers, pageOf, activeIn, bookOf, activeOf};
+ghost use Rattle.table.specs.Words.{rulesOf};
 ghost use Rattle.checklist_frame.specs.Frame.{most-files, good, fact, frame, on-list, is-mark, files-of};
 ghost use Rattle.checklist_frame.specs.Parts.{mark-atom, FreeOrMark, FrameRun, MarksBehind, count-of};
 
@@ -140,16 +142,16 @@ fn free_or_mark(rule: Rule, n: u16) -> bool
 }
 
 // Of how many files, at most 60, the frame stands in slots 0, 1, 2, .. one after another, unmuted.
-fn frame_run(rules: [Rule; Table::SLOTS]) -> usize
-    ensures { λ r. ⌜ FrameRun (activeOf rules) r ⌝ }
+fn frame_run(table: &[u16; Table::WORDS]) -> usize
+    ensures { λ r. ⌜ FrameRun (activeOf (rulesOf (now (table .entry)))) r ⌝ }
 {
-    let start = rules[0];
+    let start = rule_at(table, 0);
     if !holds_fact(start, Atom(0)) {
         return 0;
     }
     let mut n: usize = 0;
     while n < MOST_FILES {
-        let rule = rules[n + 1];
+        let rule = rule_at(table, n + 1);
         if !holds_file(rule, n as u16 + 1) {
             return n;
         }
@@ -159,13 +161,13 @@ fn frame_run(rules: [Rule; Table::SLOTS]) -> usize
 }
 
 // Does every slot behind the frame of n files hold nothing, or the fact of a mark, unmuted?
-fn marks_behind(rules: [Rule; Table::SLOTS], n: usize) -> bool
+fn marks_behind(table: &[u16; Table::WORDS], n: usize) -> bool
     requires { ⌜ n ≤ most-files ⌝ }
-    ensures { λ r. ⌜ MarksBehind (bookOf rules) n r ⌝ }
+    ensures { λ r. ⌜ MarksBehind (bookOf (rulesOf (now (table .entry)))) n r ⌝ }
 {
     let mut s: usize = n + 1;
     while s < Table::SLOTS {
-        let rule = rules[s];
+        let rule = rule_at(table, s);
         if !free_or_mark(rule, n as u16) {
             return false;
         }
@@ -175,14 +177,14 @@ fn marks_behind(rules: [Rule; Table::SLOTS], n: usize) -> bool
 }
 
 // How many files the checklist has that the rules are; 0 where they are none.
-pub fn file_count(rules: [Rule; Table::SLOTS]) -> usize
-    ensures { λ r. ⌜ r ≡ count-of (files-of (bookOf rules)) ⌝ }
+pub fn file_count(table: &[u16; Table::WORDS]) -> usize
+    ensures { λ r. ⌜ r ≡ count-of (files-of (bookOf (rulesOf (now (table .entry))))) ⌝ }
 {
-    let n = frame_run(rules);
+    let n = frame_run(table);
     if n == 0 {
         return 0;
     }
-    if !marks_behind(rules, n) {
+    if !marks_behind(table, n) {
         return 0;
     }
     n

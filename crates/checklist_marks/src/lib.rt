@@ -1,8 +1,8 @@
 // The calls on a file of a deposit checklist: file sent, file skipped, skip withdrawn. A library above the table: what
-// it asks and changes it does by the calls label, add and remove. Arguments are bare numbers; no call asks anything of
-// its caller.
+// it asks and changes it does by the calls label and add, and by what remove does to a sound table. Arguments are bare
+// numbers; no call asks anything of its caller.
 use add_remove::add;
-use add_remove::remove;
+use add_remove::remove_from_sound;
 use calls::AddAnswer;
 use calls::ChangeAnswer;
 use calls::Changed;
@@ -18,6 +18,7 @@ use refusals::refusal_number;
 use table::Atom;
 use table::Table;
 ghost use mathlib.Core.Path.{_≡_};
+ghost use Rattle.table.specs.Words.{tableOf};
 ghost use Rattle.calls.specs.declared.ChangeAnswer.the-variants.{Refused};
 ghost use Rattle.checklist_meaning.specs.Questions.{file-sent, file-skipped, skip-withdrawn};
 ghost use Rattle.checklist_meaning.specs.Contracts.{FileEnds};
@@ -42,11 +43,10 @@ fn refuse(table: Table, why: Refusal) -> Changed
 
 // Asks whether the rules are a checklist's (15), and 20. Where 20 is the refusal, the table is asked first whether it
 // is sound (15); where the file passes, the call that follows asks it.
-fn ask_file(table: Table, file: u32, mark: Mark) -> AskedFile
-    ensures { λ r. ⌜ FileAsked table file mark r ⌝ }
+fn ask_file(table: &[u16; Table::WORDS], file: u32, mark: Mark) -> AskedFile
+    ensures { λ r. ⌜ FileAsked (tableOf (now (table .entry))) file mark r ⌝ }
 {
-    let rules = table.rules;
-    let n = file_count(rules);
+    let n = file_count(table);
     if n == 0 {
         return AskedFile::Refused(Refusal::TableUnsound);
     }
@@ -86,16 +86,17 @@ fn add_mark(table: Table, asked: AskedFile) -> Changed
     }
 }
 
-// Removes the fact of the mark that passed. It stands in the slot that supports its atom.
+// Removes the fact of the mark that passed. It stands in the slot that supports its atom. A table of which a label was
+// told is sound.
 fn remove_mark(table: Table, asked: AskedFile) -> Changed
     ensures { λ r. ⌜ MarkRemoved table asked (r .answer) (r .table) ⌝ }
 {
     match asked {
         AskedFile::Refused(why) => refuse(table, why),
         AskedFile::Passed(atom) => {
-            let told = label(table, atom.0 as u32);
+            let told = label(&table.words, atom.0 as u32);
             match told {
-                LabelAnswer::In(d, s) => remove(table, s.0 as u32),
+                LabelAnswer::In(d, s) => remove_from_sound(table, s.0 as u32),
                 LabelAnswer::Refused(why) => refuse(table, why),
                 LabelAnswer::Absent => refuse(table, Refusal::MarkUnchanged),
                 LabelAnswer::Out => refuse(table, Refusal::MarkUnchanged),
@@ -108,7 +109,7 @@ fn remove_mark(table: Table, asked: AskedFile) -> Changed
 pub fn file_sent(table: Table, file: u32) -> Changed
     ensures { λ r. ⌜ FileEnds table (file-sent file) (r .answer) (r .table) ⌝ }
 {
-    let sent = ask_file(table, file, Mark::Sent);
+    let sent = ask_file(&table.words, file, Mark::Sent);
     add_mark(table, sent)
 }
 
@@ -116,7 +117,7 @@ pub fn file_sent(table: Table, file: u32) -> Changed
 pub fn file_skipped(table: Table, file: u32) -> Changed
     ensures { λ r. ⌜ FileEnds table (file-skipped file) (r .answer) (r .table) ⌝ }
 {
-    let skip = ask_file(table, file, Mark::Skipped);
+    let skip = ask_file(&table.words, file, Mark::Skipped);
     add_mark(table, skip)
 }
 
@@ -124,6 +125,6 @@ pub fn file_skipped(table: Table, file: u32) -> Changed
 pub fn skip_withdrawn(table: Table, file: u32) -> Changed
     ensures { λ r. ⌜ FileEnds table (skip-withdrawn file) (r .answer) (r .table) ⌝ }
 {
-    let standing = ask_file(table, file, Mark::Skipped);
+    let standing = ask_file(&table.words, file, Mark::Skipped);
     remove_mark(table, standing)
 }

@@ -1,8 +1,8 @@
--- Laws of the frame put rule by rule into free pages: what stands after some of them, and that each rule passes an
--- addition's questions when those before it stand. Assumes nothing.
+-- Laws of the frame put rule by rule into free pages: what stands after some of them, and that each rule passes
+-- questions 1 to 4. Assumes nothing.
 use Prim.Native.Nat.{ℕ, zero, suc, _+_, _-_, _≤_, _<_}
 use native.Mathlib.Omega.{arith}
-use mathlib.Core.Path.{_≡_, refl, sym, _∙_, ap, subst}
+use mathlib.Core.Path.{_≡_, refl, sym, _∙_, ap}
 use mathlib.Core.Logic.{⊎-elim}
 use mathlib.Core.Bool.{true, false}
 use mathlib.Core.List.{List, [], _∷_, _++_, map, map-append, List·Memᴰ·not-nil}
@@ -10,26 +10,25 @@ use mathlib.Core.Option.{Option, none, some, Option·none-ne-some}
 use lib.Dec.{leb, ltb}
 use lib.ListN.{length, length-append, length-map, length-replicate, getD, set, replicate, List·getD-append}
 use lib.Seq.{append-snoc, getD-append-add, getD-at, set-at}
-use Rattle.theory.specs.Lists.{_∈_, every}
-use Rattle.theory.specs.Rules.{Rule, Page, Pages, all, rule-on, new-page, Held, Ascending, entries, any-rule, same}
+use Rattle.theory.specs.Lists.{every}
+use Rattle.theory.specs.Rules.{Rule, Page, Pages, all, rule-on, new-page, Held, Ascending, entries}
 use Rattle.theory.specs.Rules.{kept}
 use Rattle.theory.specs.Limits.{document}
-use Rattle.theory.specs.Questions.{first-no, add-questions, is-some, lowest-free, put-in, with-added, stratified}
+use Rattle.theory.specs.Questions.{first-no, rule-questions}
 use Rattle.theory.specs.Book.{empty}
-use Rattle.theory.proofs.Lists.{and-of, unless, false-not, lt-ltb, le-leb, le-or-lt}
-use Rattle.theory.proofs.Pages.{all-at, all-length, all-set, held-page}
-use Rattle.theory.proofs.Rules.{any-rule-at, held-unique}
-use Rattle.theory.proofs.Questions.{first-no-yes, lowest-free-of}
+use Rattle.theory.proofs.Lists.{and-of, unless, lt-ltb, le-leb, le-or-lt}
+use Rattle.theory.proofs.Pages.{all-at, held-page}
+use Rattle.theory.proofs.Rules.{held-unique}
+use Rattle.theory.proofs.Questions.{first-no-yes}
 use Rattle.theory.proofs.Sorting.{ascending-distinct}
-use Rattle.theory.proofs.Sameness.{same-iff, ascending-kept}
-use Rattle.theory.proofs.Cycles.{stratified-iff}
+use Rattle.theory.proofs.Sameness.{ascending-kept}
 use Rattle.table.proofs.Members.{all-alike}
 use Rattle.checklist_frame.specs.Frame.{Checklist, most-files, sent, skipped, good, frame, files, is-mark, marked}
 use Rattle.checklist_frame.specs.Frame.{unmuted-on}
 use Rattle.checklist_frame.proofs.Unmuted.{unmuted-of}
 use Rattle.checklist_frame.proofs.Frames.{in-one, frame-head}
 use Rattle.checklist_meaning.specs.Book.{opened}
-use Rattle.checklist_meaning.proofs.Marks.{marked-at, descending-acyclic, checklist-stratified, mark-behind}
+use Rattle.checklist_meaning.proofs.Marks.{marked-at, mark-behind}
 
 -- What the pages hold after the first i rules of the frame.
 abbrev pub stage : ℕ → Pages
@@ -84,18 +83,9 @@ unfolding front slots-to
 stage-split zero = refl
 stage-split (suc n) = refl
 
-pub stage-length : (i : ℕ) → i ≤ document .slots → length (stage i) ≡ document .slots
-stage-length i l =
-    ap length (stage-split i) ∙ (omega (
-      arith,
-      length-append (front i) (replicate (document .slots - i) none),
-      front-length i,
-      length-replicate {A = Option Page} (document .slots - i) none,
-    ))
-
 -- The frame's rule of slot i is kept as it is.
 
-frame-ascending : (i : ℕ) → Ascending (frame i)
+pub frame-ascending : (i : ℕ) → Ascending (frame i)
 frame-ascending zero = record { positives = tt; negatives = tt }
 frame-ascending (suc i) = record {
   positives = (λ y m. omega (arith, in-one y _ m), (λ y m. absurd (List·Memᴰ·not-nil m), tt));
@@ -105,7 +95,7 @@ frame-ascending (suc i) = record {
 pub frame-kept : (i : ℕ) → kept (frame i) ≡ frame i
 frame-kept i = ascending-kept (frame i) (frame-ascending i)
 
--- Slots below i hold their rules of the frame, unmuted, any other is free; so the lowest free one is slot i.
+-- Slots below i hold their rules of the frame, unmuted, any other is free.
 
 stage-page : (i s : ℕ) → s < i → getD (stage i) s none ≡ some (new-page (frame s))
 stage-page i s l =
@@ -134,11 +124,6 @@ stage-rule i s r h = ⊎-elim
     (λ (l : s < i). (l, held-unique (all (stage i)) s r (frame s) h (stage-held i s l)))
     (le-or-lt i s)
 
-pub stage-lowest : (i : ℕ) → i < document .slots → lowest-free (all (stage i)) ≡ some i
-stage-lowest i l =
-    lowest-free-of (all (stage i)) i (omega (arith, all-length (stage i), stage-length i (omega arith)))
-    (none-held i i (omega arith)) (λ t k. (frame t, stage-held i t k))
-
 -- With the frame's rule of slot i, one rule more stands.
 
 pub stage-set : (i : ℕ) → i < document .slots → set (stage i) i (some (new-page (frame i))) ≡ stage (suc i)
@@ -152,11 +137,6 @@ stage-set i l =
     ∙ sym (append-snoc (front i) (some (new-page (frame i))) free)
     ∙ ap (λ (B : Pages). B ++ free) (sym (front-more i))
     ∙ sym (stage-split (suc i))
-
-pub stage-added : (i : ℕ) → i < document .slots → with-added (all (stage i)) (frame i) ≡ all (stage (suc i))
-stage-added i l =
-    ap (λ (o : Option ℕ). put-in (all (stage i)) o (kept (frame i))) (stage-lowest i l)
-    ∙ sym (all-set (stage i) i (some (new-page (frame i)))) ∙ ap all (stage-set i l)
 
 -- A checklist just opened is one, and no mark stands in it.
 module _ (n : ℕ) (low : 1 ≤ n) (high : n ≤ most-files) where
@@ -181,24 +161,6 @@ module _ (n : ℕ) (low : 1 ≤ n) (high : n ≤ most-files) where
         stage-rule (suc n) (w .0) _ (w .1) .0,
       )))
 
--- No loop goes through a negation: slot 0 alone holds a fact, and with more rules it is a checklist.
-stage-stratified : (i : ℕ) → i ≤ most-files → stratified (all (stage (suc i))) ≡ true
-stage-stratified zero l = stratified-iff (all (stage 1)) .1 (descending-acyclic (all (stage 1)) (λ s r h x m. (
-    let w = stage-rule 1 s r h in
-    let z : s ≡ 0 = omega (arith, w .0) in
-    absurd (List·Memᴰ·not-nil (subst (λ (q : Rule). x ∈ entries q) (w .1 ∙ ap frame z) m)))))
-stage-stratified (suc i) l =
-    checklist-stratified (stage (suc (suc i))) (suc i) (opened-checklist (suc i) (omega arith) l)
-
--- Another rule of the frame has another head.
-stage-new : (i : ℕ) → any-rule (same (frame i)) (all (stage i)) ≡ false
-stage-new i = unless _ (λ t. (
-    let w = any-rule-at (same (frame i)) (all (stage i)) t in
-    let k = stage-rule i (w .0) (w .1) (w .2) in
-    let e = sym (frame-head i) ∙ same-iff (frame i) (w .1) .0 (w .3) .heads ∙ ap (λ (r : Rule). r .head) (k .1)
-    ∙ frame-head (w .0) in
-    omega (arith, e, k .0)))
-
 -- The entries of the frame's rules are few, and below the limit.
 
 frame-few : (i : ℕ) → leb (length (frame i .positives) + length (frame i .negatives)) (document .entries) ≡ true
@@ -213,17 +175,12 @@ frame-bounded (suc i) l =
     (and-of _ _ (lt-ltb (sent (suc i)) (document .atoms) (omega arith))
     (and-of _ _ (lt-ltb (skipped (suc i)) (document .atoms) (omega arith)) refl))
 
--- So each rule of the frame passes an addition's questions when those before it stand: its atoms are below the limit,
--- its head is new, the lowest free slot is its own, and no entry lies above its head.
-pub frame-asked : (i : ℕ) → i ≤ most-files → first-no (add-questions document (all (stage i)) (frame i)) ≡ none
-frame-asked i l =
+-- So each rule of the frame passes questions 1 to 4: its atoms are below the limit, and its lists ascend.
+pub frame-passes : (i : ℕ) → i ≤ most-files → first-no (rule-questions document (frame i)) ≡ none
+frame-passes i l =
     let a = frame-ascending i in
-    let k : i < document .slots = omega arith in
     first-no-yes _ _ (lt-ltb (frame i .head) (document .atoms) (omega (arith, frame-head i)))
     ∙ first-no-yes _ _ (frame-few i)
     ∙ first-no-yes _ _ (frame-bounded i l)
     ∙ first-no-yes _ _ (and-of _ _ (ascending-distinct _ (a .positives)) (ascending-distinct _ (a .negatives)))
-    ∙ first-no-yes _ _ (false-not _ (stage-new i))
-    ∙ first-no-yes _ _ (ap is-some (stage-lowest i k))
-    ∙ first-no-yes _ _ (ap stratified (stage-added i k) ∙ stage-stratified i l)
     ∙ (unfold first-no in refl)

@@ -1,87 +1,151 @@
--- The frame added rule by rule by the call add: none is refused, so the table holds the frame. Assumes nothing.
-use Prim.Native.Nat.{ℕ, suc, _+_, _≤_, _<_}
+-- The frame's rules put into the slots of the empty table: no two are equal and no loop goes through a negation, so that
+-- the table made of them holds the frame. Assumes nothing.
+use Prim.Native.Nat.{ℕ, zero, suc, _+_, _-_, _*_, _≤_, _<_}
 use native.Mathlib.Omega.{arith}
-use mathlib.Core.Path.{_≡_, sym, _∙_, ap, ap₂, subst}
-use mathlib.Core.Bool.{true, false}
-use mathlib.Core.List.{[]}
-use mathlib.Core.Option.{some, Option·none-ne-some, Option·some-injective}
-use lib.ListN.{set}
-use Rattle.theory.specs.Rules.{Rule, Pages, all, new-page}
+use native.Mathlib.Decide.{ℕ-discrete}
+use mathlib.Core.Path.{_≡_, refl, sym, _∙_, ap, ap₂, subst}
+use mathlib.Core.Bool.{Bool, true, false}
+use mathlib.Core.List.{List, [], _∷_}
+use mathlib.Core.Option.{none, some, Option·some-injective}
+use lib.ListN.{getD, set, replicate}
+use Rattle.theory.specs.Rules.{Ascending, Pages, Held, all, new-page, rule-on}
+use Rattle.theory.specs.Rules as theory
+use Rattle.theory.specs.Dependencies.{NegativeCycle}
+use Rattle.theory.specs.Questions.{first-no, rule-questions}
 use Rattle.theory.specs.Limits.{document}
-use Rattle.theory.specs.Questions.{first-no, add-questions, lowest-free}
 use Rattle.theory.proofs.Questions.{first-no-yes, first-no-here}
+use Rattle.table.specs.declared.Atom.{Atom}
+use Rattle.table.specs.declared.Rule.{Rule}
 use Rattle.table.specs.declared.Table.{Table}
-use Rattle.table.specs.Clean.{emptyTable}
-use Rattle.table.specs.Sound.{Sound}
-use Rattle.table.proofs.Empty.{empty-sound, free-book}
-use Rattle.calls.specs.declared.AddAnswer.{AddAnswer}
-use Rattle.calls.specs.declared.ChangeAnswer.the-variants as change
+use Rattle.table.specs.Rules.{bookOf, noAtom, pageOf, programOf, slotOf}
+use Rattle.table.specs.Words.{rulesOf, tableOf, words}
+use Rattle.table.specs.Clean.{CleanRule, WellFormed, emptyTable}
+use Rattle.table.proofs.Empty.{free-book}
+use Rattle.table.proofs.Members.{all-alike}
+use Rattle.table.proofs.Programs.{book-set}
+use Rattle.table.proofs.Words.{zero-rules}
+use Rattle.well_formed.specs.Slots.{Single}
+use Rattle.from_rules.specs.Making.{Made, WellFormedSlots, twice, cyclic, made}
+use Rattle.from_rules.proofs.Making.{empty-well, well-set}
 use Rattle.refusals.specs.declared.Refusal.the-variants.{WrongFileCount}
-use Rattle.calls.specs.Contracts.{held, Sized, AddEnds, unsound, refused, accepted}
-use Rattle.checklist_frame.specs.Frame.{most-files, fact, frame, on-list}
+use Rattle.calls.specs.declared.ChangeAnswer.the-variants as change
+use Rattle.checklist_frame.specs.Frame.{most-files, frame, on-list}
+use Rattle.checklist_frame.proofs.Frames.{frame-head}
 use Rattle.checklist_frame.proofs.Slots.{file-rule, frame-file}
+use Rattle.checklist_meaning.specs.Book.{opened}
 use Rattle.checklist_meaning.specs.Contracts.{OpenEnds}
 use Rattle.checklist_meaning.specs.Contracts as contract
-use Rattle.checklist_meaning.proofs.Opened.{stage, stage-lowest, stage-set, frame-asked}
-use Rattle.checklist_open.specs.Parts.{FrameAdded, Framed}
+use Rattle.checklist_meaning.proofs.Marks.{checklist-acyclic}
+use Rattle.checklist_meaning.proofs.Opened.{frame-ascending, frame-kept, frame-passes, opened-checklist, stage}
+use Rattle.checklist_meaning.proofs.Opened.{stage-rule, stage-set}
+use Rattle.checklist_open.specs.Parts.{FrameSlot, Framed}
 
--- The frame's next rule is added.
-pub stage-next :
-    (t u : Table) (i : ℕ) (x : AddAnswer) → i ≤ most-files → Sound t → held t ≡ stage i → AddEnds t (frame i) x u
-    → Framed i u
-stage-next t u i x l S h (unsound n) = absurd (n S)
-stage-next t u i x l S h (refused f T e) =
-    absurd (Option·none-ne-some _
-    (sym (frame-asked i l) ∙ ap (λ (B : Pages). first-no (add-questions document (all B) (frame i))) (sym h) ∙ e))
-stage-next t u i x l S h (accepted s w T e low Z now W) =
-    let k : i < document .slots = omega arith in
-    let first = sym low ∙ ap (λ (B : Pages). lowest-free (all B)) h ∙ stage-lowest i k in
-    let d : s .0 ≡ i = Option·some-injective _ _ first in
+-- A clean slot whose page is that of the frame's rule.
+frame-slot :
+    (i : ℕ) (r : Rule) → i ≤ most-files → pageOf r ≡ some (new-page (frame i)) → CleanRule r → FrameSlot i r
+frame-slot i r l page clean =
+    let one : (q : theory.Rule) → slotOf r ≡ some q → frame i ≡ q =
+    λ q h. sym (frame-kept i) ∙ Option·some-injective _ q (sym (ap rule-on page) ∙ h) in
     record {
-      sized = Z;
-      holds = now ∙ ap₂ (λ (B : Pages) (j : ℕ). set B j (some (new-page (frame i)))) h d ∙ stage-set i k;
-      sound = W;
+      page = page;
+      well = record {
+        clean = clean;
+        passes = λ q h. subst (λ (z : theory.Rule). first-no (rule-questions document z) ≡ none) (one q h)
+            (frame-passes i l);
+        ascending = λ q h. subst Ascending (one q h) (frame-ascending i);
+      };
     }
 
--- A sound table that holds the first i rules; before the first it is the empty table, after all the one framed.
-pub record Staged (i : ℕ) (t : Table) : Type 0 where
-  pub sound : Sound t
-  pub holds : held t ≡ stage i
-  pub sized : 1 ≤ i → Sized t
+-- A page of a rule that is the frame's.
+frame-page :
+    (i : ℕ) (q : theory.Rule) → q ≡ frame i → some (record { rule = q; muted = false }) ≡ some (new-page (frame i))
+frame-page i q e =
+    ap (λ (r : theory.Rule). some (record { rule = r; muted = false })) (e ∙ sym (frame-kept i))
 
-pub staged-empty : (t : Table) → t ≡ emptyTable → Staged 0 t
-staged-empty t e = subst (Staged 0) (sym e) (record {
-  sound = empty-sound;
-  holds = free-book (document .slots);
-  sized = λ l. absurd (omega arith);
+-- The start, and the rule of a file.
+pub start-slot :
+    (i : ℕ) → i ≡ 0
+    → FrameSlot i (record { state = 1; head = noAtom; positives = 0; negatives = 0; entries = replicate 8 noAtom })
+start-slot i e = frame-slot i _ (omega arith) (frame-page i _ (ap frame (sym e))) (record {
+  known = omega arith;
+  free = λ z. absurd (omega arith);
+  fits = omega arith;
+  filler = λ j l. all-alike 8 j noAtom;
+})
+
+pub file-slot :
+    (i : ℕ) → (i ≡ 0 → ⊥) → i ≤ most-files
+    → FrameSlot i (record {
+      state = 1;
+      head = record { 0 = 3 * i };
+      positives = 2;
+      negatives = 1;
+      entries = record { 0 = 3 * i - 3 } ∷ record { 0 = 3 * i - 2 } ∷ record { 0 = 3 * i - 1 } ∷ replicate 5 noAtom;
+    })
+file-slot i n l = frame-slot i _ l (frame-page i (file-rule i) (sym (frame-file i (omega arith)))) (record {
+  known = omega arith;
+  free = λ z. absurd (omega arith);
+  fits = omega arith;
+  filler = past;
+})
+  where
+    past :
+        (j : ℕ) → 3 ≤ j
+        → getD (record { 0 = 3 * i - 3 } ∷ record { 0 = 3 * i - 2 } ∷ record { 0 = 3 * i - 1 } ∷ replicate 5 noAtom) j
+        noAtom
+        ≡ noAtom
+    past zero k = absurd (omega arith)
+    past (suc zero) k = absurd (omega arith)
+    past (suc (suc zero)) k = absurd (omega arith)
+    past (suc (suc (suc j))) k = all-alike 5 j noAtom
+
+-- Numbers whose slots hold the first i rules of the frame.
+pub record Staged (i : ℕ) (table : List ℕ) : Type 0 where
+  pub holds : bookOf (rulesOf table) ≡ stage i
+  pub well : WellFormedSlots (rulesOf table)
+
+pub staged-empty : (t : Table) → t ≡ emptyTable → Staged 0 (t .words)
+staged-empty t e = subst (λ (u : Table). Staged 0 (u .words)) (sym e) (record {
+  holds = ap bookOf (zero-rules words) ∙ free-book (document .slots);
+  well = empty-well;
 })
 
 pub staged-next :
-    (t u : Table) (i : ℕ) → i ≤ most-files → Staged i t → FrameAdded t i u → Staged (i + 1) u
-staged-next t u i l S A =
-    let F = stage-next t u i (A .answer) l (S .sound) (S .holds) (A .ends) in
+    (before after : List ℕ) (i : ℕ) (r : Rule) → i ≤ most-files → Staged i before → FrameSlot i r
+    → rulesOf after ≡ set (rulesOf before) i r → Staged (i + 1) after
+staged-next before after i r l S F put =
     let e : suc i ≡ i + 1 = omega arith in
-    subst (λ (k : ℕ). Staged k u) e (record { sound = F .sound; holds = F .holds; sized = λ k. F .sized })
+    subst (λ (k : ℕ). Staged k after) e (record {
+      holds =
+          ap bookOf put ∙ book-set (rulesOf before) i r
+          ∙ ap₂ (λ (B : Pages) o. set B i o) (S .holds) (F .page)
+          ∙ stage-set i (omega arith);
+      well = subst WellFormedSlots (sym put) (well-set before i r (S .well) (F .well));
+    })
 
-pub staged-all : (n : ℕ) (t : Table) (i : ℕ) → i ≤ n + 1 → n < i → Staged i t → Framed n t
-staged-all n t i l k S =
-    let e : i ≡ suc n = omega arith in
-    record { sized = S .sized (omega arith); holds = S .holds ∙ ap stage e; sound = S .sound }
+-- The frame's rules have different heads, and every entry lies below its rule's head.
+module _ (n : ℕ) (low : 1 ≤ n) (high : n ≤ most-files) where
+  opened-once : Single (all (opened document n))
+  opened-once s t r h g =
+      let e = sym (frame-head s) ∙ ap (λ (q : theory.Rule). q .head)
+      (sym (stage-rule (suc n) s r h .1) ∙ stage-rule (suc n) t r g .1) ∙ frame-head t in
+      omega (arith, e)
 
--- What was added is the frame's rule: in slot 0 its start, in any other slot its file's.
+  opened-acyclic : NegativeCycle (all (opened document n)) → ⊥
+  opened-acyclic = checklist-acyclic (opened document n) n (opened-checklist n low high)
 
-pub start-added :
-    (t u : Table) (i : ℕ) (x : AddAnswer) → i ≡ 0 → AddEnds t (fact 0) x u → FrameAdded t i u
-start-added t u i x e E =
-    record { answer = x; ends = subst (λ (k : ℕ). AddEnds t (frame k) x u) (sym e) E }
+  pub staged-made :
+      (before after : List ℕ) (i : ℕ) (b : Bool) → i ≤ n + 1 → n < i → Staged i before → Made before after b
+      → Framed n (tableOf after)
+  staged-made before after i b l k S M = go M
+    where
+      frames : bookOf (rulesOf before) ≡ opened document n
+      frames = (let e : i ≡ suc n = omega arith in S .holds ∙ ap stage e)
 
-pub file-added :
-    (t u : Table) (i : ℕ) (x : AddAnswer) → (i ≡ 0 → ⊥) → AddEnds t (file-rule i) x u → FrameAdded t i u
-file-added t u i x n E =
-    record {
-      answer = x;
-      ends = subst (λ (r : Rule). AddEnds t r x u) (sym (frame-file i (omega arith))) E;
-    }
+      go : {w : List ℕ} {c : Bool} → Made before w c → Framed n (tableOf w)
+      go (twice f) = absurd (f (subst (λ (B : Pages). Single (all B)) (sym frames) opened-once))
+      go (cyclic U c) = absurd (opened-acyclic (subst (λ (B : Pages). NegativeCycle (all B)) frames c))
+      go (made w U f long e W) = record { sized = record { long = long }; holds = ap bookOf e ∙ frames; sound = W }
 
 -- Opening: 21 for no files and for more than the most; else the table framed.
 

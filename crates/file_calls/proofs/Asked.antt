@@ -5,7 +5,6 @@ use mathlib.Core.Path.{_≡_, refl, sym, _∙_, ap, subst}
 use mathlib.Core.Bool.{true, false, _&&_}
 use mathlib.Core.List.{List, map}
 use lib.Dec.{ltb}
-use lib.ListN.{length}
 use Rattle.theory.specs.Lists.{every}
 use Rattle.theory.specs.Rules.{all, Held, Pages, Program, Rule, same}
 use Rattle.theory.specs.Dependencies.{NegativeCycle}
@@ -17,9 +16,11 @@ use Rattle.theory.proofs.Cycles.{cycle-found, stratified-iff}
 use Rattle.table.specs.declared.Table.{Table}
 use Rattle.table.specs.declared.Rule as slot
 use Rattle.table.specs.Rules.{bookOf, programOf}
+use Rattle.table.specs.Words.{rulesOf}
 use Rattle.table.specs.Clean.{emptyTable}
 use Rattle.questions.proofs.Refusals.{both-no, both-no-2}
 use Rattle.well_formed.specs.Slots.{Single}
+use Rattle.sound.proofs.Soundness.{well-formed-single}
 use Rattle.file_blocks.specs.Places.{Place, ruleIn}
 use Rattle.file_blocks.specs.Questions.{blocks, blockCount, placesOf, whole, summed, numbered, filled}
 use Rattle.file_blocks.specs.Questions.{distinctRules, recordsRight, pagesOf}
@@ -31,8 +32,8 @@ use Rattle.calls.specs.declared.ChangeAnswer.the-variants.{Accepted, Refused}
 use Rattle.refusals.specs.declared.Refusal.the-variants.{WrongLength, WrongChecksum, WrongBlock, WrongRecord}
 use Rattle.calls.specs.Contracts as contract
 use Rattle.calls.specs.Contracts.{LoadEnds}
-use Rattle.file_calls.specs.Rules.{WellFormedSlots, RulesLoad, twice, cyclic, loads}
-use Rattle.file_calls.proofs.Tables.{rules-single}
+use Rattle.from_rules.specs.Making.{WellFormedSlots}
+use Rattle.file_calls.specs.Rules.{RulesLoad, twice, cyclic, loads}
 use Rattle.file_calls.proofs.Recorded.{split, join, same-rules, once}
 
 module _ (bs : List ℕ) where
@@ -75,8 +76,10 @@ module _ (bs : List ℕ) where
 
           module _ (a : allRight 0 ps ≡ true) where
             -- the table of the rules read
-            module _ (slots : List slot.Rule) (well : WellFormedSlots slots) (long : length slots ≡ document .slots)
-                (read : bookOf slots ≡ pages) where
+            module _ (table : List ℕ) (well : WellFormedSlots (rulesOf table)) (read : bookOf (rulesOf table) ≡ pages) where
+              abbrev slots : List slot.Rule
+              slots = rulesOf table
+
               same-program : programOf slots ≡ all pages
               same-program = ap all read
 
@@ -85,7 +88,7 @@ module _ (bs : List ℕ) where
                   ap distinctRules (same-rules ps (places-eight (blocks bs)) a)
                   ∙ distinct-rules (all pages)
                   (subst (λ (P : Program). (s t : ℕ) (q r : Rule) → Held P s q → Held P t r → same q r ≡ true → s ≡ t)
-                  same-program (rules-single slots well long U))
+                  same-program (well-formed-single table well U))
 
               pub rules-end : (x : ChangeAnswer) (u : Table) → RulesLoad slots x u → LoadEnds bs x u
               rules-end x u (twice n) =

@@ -36,13 +36,13 @@ module _ (t : Table) (S : Sound t) (before : List ℕ) (h : HeldSlots) (H : Held
     (many : n ≡ blocksFor (h .count)) where
   long : length (fileOf (held t)) ≡ BLOCK * n
   long =
-      file-length (held t) (S .labels .passes)
+      file-length (held t) (S .rules .passes)
       ∙ ap (λ (k : ℕ). BLOCK * k) (ap blocksFor (sym (H .count)) ∙ sym many)
 
   pub save-short : length before < BLOCK * n → SaveEnds t before (Refused (BufferTooShort (BLOCK * n))) before
   save-short l =
       subst (λ (k : ℕ). SaveEnds t before (Refused (BufferTooShort k)) before) long
-      (contract.short (S .labels .model) (fileOf (held t)) S no-question (S .labels .admissible) refl
+      (contract.short (S .kept .model) (fileOf (held t)) S no-question (S .kept .admissible) refl
       (omega (arith, long)))
 
   pub save-written :
@@ -54,5 +54,5 @@ module _ (t : Table) (S : Sound t) (before : List ℕ) (h : HeldSlots) (H : Held
       ap (λ (k : ℕ). fileOf (held t) ++ drop k before) (sym here) ∙ sym (W .buffer) in
       subst (λ (k : ℕ). SaveEnds t before (Count k) after) long
       (subst (λ (bs : List ℕ). SaveEnds t before (Count (length (fileOf (held t)))) bs) stands
-      (contract.accepted (S .labels .model) (fileOf (held t)) S no-question (S .labels .admissible) refl
+      (contract.accepted (S .kept .model) (fileOf (held t)) S no-question (S .kept .admissible) refl
       (omega (arith, W .room))))

@@ -46,14 +46,14 @@ saved-file {t} {before} (contract.accepted M xs S q A i l) n e =
     take-at xs (drop (length xs) before) n same ∙ i
 
 -- Loading the file of a sound table gives that table, every field. The idea: the file passes 16 to 19 and its pages are
--- the table's (`file-accepted`, `file-pages`), and a sound table of given pages is one, since its labels are those that
--- the rules define (`load-determined`).
+-- the table's (`file-accepted`, `file-pages`), and a sound table of given pages is one, since its slots keep what
+-- the rules ask for (`load-determined`).
 pub load-file :
     (t : Table) → Sized t → Sound t → (x : ChangeAnswer) (u : Table) → LoadEnds (fileOf (held t)) x u
     → (x ≡ Accepted) × (u ≡ t)
 load-file t Z S x u E =
     load-determined (fileOf (held t)) x Accepted u t E
-    (contract.accepted t (file-accepted (held t) _ (S .labels)) Z (sym (file-pages (held t) _ (S .labels))) S)
+    (contract.accepted t (file-accepted (held t) (S .rules)) Z (sym (file-pages (held t) (S .rules))) S)
 
 -- So does loading the bytes that saving wrote, as many as it answered.
 pub load-saved :
@@ -77,14 +77,14 @@ pub loaded-saves :
 loaded-saves bs b u L before after n E = saved-file E n refl ∙ loaded-file b L refl
 
 -- A file is accepted exactly if it is the file of some sound table. The idea: the rules of an accepted file have no loop
--- through a negation, so there are labels for them, and the table of both is sound (`built`).
+-- through a negation, so they have a sound table (`built`).
 pub accepted-file :
     (bs : List ℕ) → AreBytes bs
     → (first-no (file-questions document bs) ≡ none) ↔ ((t : Table) × Sized t × Sound t × (bs ≡ fileOf (held t)))
 accepted-file bs b = (
   λ q. (built bs q, built-sized bs q, built-sound bs q, sym (ap fileOf (built-held bs q) ∙ pages-file bs b q)),
   λ w. subst (λ (cs : List ℕ). first-no (file-questions document cs) ≡ none) (sym (w .3))
-      (file-accepted (held (w .0)) _ (w .2 .labels)),
+      (file-accepted (held (w .0)) (w .2 .rules)),
 )
 
 -- A saved file with any one byte changed is refused by 17, and the empty table is handed back. The idea: a byte of the
@@ -95,4 +95,4 @@ pub changed-byte :
     → (x ≡ Refused WrongChecksum) × (u ≡ emptyTable)
 changed-byte t S i b l k n x u E =
     load-determined (set (fileOf (held t)) i b) x (Refused WrongChecksum) u emptyTable E
-    (contract.refused WrongChecksum (one-byte-17 (held t) _ (S .labels) i b l k n))
+    (contract.refused WrongChecksum (one-byte-17 (held t) (S .rules) i b l k n))

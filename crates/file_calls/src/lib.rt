@@ -9,74 +9,59 @@ use file_questions::whole;
 use file_records::held_slots;
 use file_saving::blocks_for;
 use file_saving::write_file;
-use labels::labels_of;
+use from_rules::make;
 use refusals::Refusal;
 use sound::sound;
-use table::Rule;
 use table::Table;
-use well_formed::no_two_equal;
 ghost use mathlib.Core.Path.{_≡_};
+ghost use Rattle.table.specs.Words.{rulesOf, tableOf};
 ghost use Rattle.table.specs.Clean.{emptyTable};
 ghost use Rattle.calls.specs.declared.ChangeAnswer.the-variants.{Refused};
-ghost use Rattle.calls.specs.Contracts.{Sized, SaveEnds, LoadEnds};
-ghost use Rattle.file_calls.specs.Rules.{WellFormedSlots, RulesLoad};
+ghost use Rattle.calls.specs.Contracts.{SaveEnds, LoadEnds};
+ghost use Rattle.from_rules.specs.Making.{WellFormedSlots};
+ghost use Rattle.file_calls.specs.Rules.{RulesLoad};
 
 // Writes the file of the table from the start of the buffer and answers its length, or refuses by the first question
 // answered no, and writes nothing.
-pub fn save(table: Table, buffer: &mut [u8]) -> ListAnswer
-    ensures { λ r. ⌜ SaveEnds table (now (buffer .entry)) r (now (buffer .exit)) ⌝ }
+pub fn save(table: &[u16; Table::WORDS], buffer: &mut [u8]) -> ListAnswer
+    ensures { λ r. ⌜ SaveEnds (tableOf (now (table .entry))) (now (buffer .entry)) r (now (buffer .exit)) ⌝ }
 {
     if !sound(table) {
         return ListAnswer::Refused(Refusal::TableUnsound);
     }
-    let rules = table.rules;
-    let held = held_slots(rules);
+    let held = held_slots(table);
     let n = blocks_for(held.count);
     let needed = BLOCK * n;
     if buffer.len() < needed {
         return ListAnswer::Refused(Refusal::BufferTooShort(needed));
     }
-    write_file(buffer, rules, held, n);
+    write_file(buffer, table, held, n);
     ListAnswer::Count(needed)
-}
-
-// An answer, and a table handed back with it.
-fn hand_back(answer: ChangeAnswer, table: Table) -> Changed
-    ensures { λ r. ⌜ (r ≡ record { answer = answer; table = table }) × Sized table ⌝ }
-{
-    Changed {
-        answer: answer,
-        table: table,
-    }
 }
 
 // A refusal hands back the empty table.
 fn refuse(why: Refusal) -> Changed
     ensures { λ r. ⌜ r ≡ record { answer = Refused why; table = emptyTable } ⌝ }
 {
-    let nothing = Table::empty();
-    hand_back(ChangeAnswer::Refused(why), nothing)
+    Changed {
+        answer: ChangeAnswer::Refused(why),
+        table: Table::empty(),
+    }
 }
 
 // The table of the rules that were read, with their marks, if they pass questions 5 and 7; else the empty one.
-fn load_rules(rules: [Rule; Table::SLOTS]) -> Changed
-    requires { ⌜ WellFormedSlots rules ⌝ }
-    ensures { λ r. ⌜ RulesLoad rules (r .answer) (r .table) ⌝ }
+fn load_rules(read: Table) -> Changed
+    requires { ⌜ WellFormedSlots (rulesOf (read .words)) ⌝ }
+    ensures { λ r. ⌜ RulesLoad (rulesOf (read .words)) (r .answer) (r .table) ⌝ }
 {
-    if !no_two_equal(rules) {
-        return refuse(Refusal::WrongRecord);
+    let mut words = read.words;
+    if make(&mut words) {
+        return Changed {
+            answer: ChangeAnswer::Accepted,
+            table: Table { words: words },
+        };
     }
-    let nothing = Table::empty();
-    let found = labels_of(rules);
-    let labels = found.labels;
-    let table = Table {
-        rules: rules,
-        labels: labels,
-    };
-    if !found.acyclic {
-        return hand_back(ChangeAnswer::Refused(Refusal::WrongRecord), nothing);
-    }
-    hand_back(ChangeAnswer::Accepted, table)
+    refuse(Refusal::WrongRecord)
 }
 
 // The table that the file records, or the empty one and a refusal by the first question answered no.
@@ -100,6 +85,6 @@ pub fn load(bytes: &[u8]) -> Changed
     if !read.right {
         return refuse(Refusal::WrongRecord);
     }
-    let rules = read.rules;
-    load_rules(rules)
+    let table = read.table;
+    load_rules(table)
 }

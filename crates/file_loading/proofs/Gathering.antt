@@ -22,11 +22,13 @@ use Rattle.table.specs.declared.Atom.{Atom}
 use Rattle.table.specs.declared.Rule.{Rule}
 use Rattle.table.specs.declared.Table.{Table}
 use Rattle.table.specs.Rules.{bookOf, noAtom, numbers, pageOf, pastRule, ruleOf, slotOf, stateOf}
+use Rattle.table.specs.Words.{rulesOf, tableOf, words}
 use Rattle.table.specs.Clean.{freeRule, emptyTable, WellFormed}
 use Rattle.table.proofs.Members.{all-alike}
 use Rattle.table.proofs.Entries.{numbers-take, numbers-drop}
 use Rattle.table.proofs.Programs.{book-set, page-stated, slot-state}
 use Rattle.table.proofs.Empty.{free-clean, free-book}
+use Rattle.table.proofs.Words.{zero-rules}
 use Rattle.file_blocks.specs.Words.{wordAt}
 use Rattle.file_blocks.specs.Places.{pageIn, Place, placeAt, ruleIn}
 use Rattle.file_blocks.specs.Files.{BLOCK, HEADER, PLACE, PLACES}
@@ -212,14 +214,19 @@ going-start ps = record {
   long = length-replicate (document .slots) freeRule;
 }
 
-pub going-from : (ps : List Place) (t : Table) → t ≡ emptyTable → Going ps (t .rules) 0 0
-going-from ps t e = subst (λ (u : Table). Going ps (u .rules) 0 0) (sym e) (going-start ps)
+pub going-from : (ps : List Place) (t : Table) → t ≡ emptyTable → Going ps (rulesOf (t .words)) 0 0
+going-from ps t e =
+    subst (λ (rules : List Rule). Going ps rules 0 0)
+    (sym (ap (λ (u : Table). rulesOf (u .words)) e ∙ zero-rules words)) (going-start ps)
 
-module _ (ps : List Place) (rules : List Rule) (least k : ℕ) (G : Going ps rules least k) (p : Place)
+module _ (ps : List Place) (table : List ℕ) (least k : ℕ) (G : Going ps (rulesOf table) least k) (p : Place)
     (here : drop k ps ≡ p ∷ drop (k + 1) ps) where
-  pub going-bad : (Stands (p .slot) least (slotFrom p) → ⊥) → ReadFrom ps (record { right = false; rules = rules })
+  abbrev rules : List Rule
+  rules = rulesOf table
+
+  pub going-bad :
+      (Stands (p .slot) least (slotFrom p) → ⊥) → ReadFrom ps (record { right = false; table = tableOf table })
   going-bad n = record {
-    long = G .long;
     told = sym (G .asked ∙ ap (allRight least) here ∙ all-right-not least p (drop (k + 1) ps) n);
     pages = λ e. absurd (clash e refl);
     well = λ e. absurd (clash e refl);
@@ -249,21 +256,20 @@ module _ (ps : List Place) (rules : List Rule) (least k : ℕ) (G : Going ps rul
   }
 
 pub going-all :
-    (ps : List Place) (rules : List Rule) (least k : ℕ) → Going ps rules least k → length ps ≤ k
-    → ReadFrom ps (record { right = true; rules = rules })
+    (ps : List Place) (table : List ℕ) (least k : ℕ) → Going ps (rulesOf table) least k → length ps ≤ k
+    → ReadFrom ps (record { right = true; table = tableOf table })
 unfolding allRight ascends every recordedOn
-going-all ps rules least k G l =
+going-all ps table least k G l =
     let over : drop k ps ≡ [] = drop-of-length-le ps {i = k} l in
     record {
-      long = G .long;
       told = sym (G .asked ∙ ap (allRight least) over);
-      pages = λ e. sym (G .pages ∙ ap (recordedOn document (bookOf rules)) over);
+      pages = λ e. sym (G .pages ∙ ap (recordedOn document (bookOf (rulesOf table))) over);
       well = λ e. G .well;
     }
 
 -- One turn of the code's loop: the record that is read where it stands in the file.
-module _ (bs : List ℕ) (w : whole bs ≡ true) (t : numbered (blockCount bs) 0 (blocks bs) ≡ true) (rules : List Rule)
-    (least k : ℕ) (G : Going (placesOf (blocks bs)) rules least k) (low : k < length (placesOf (blocks bs)))
+module _ (bs : List ℕ) (w : whole bs ≡ true) (t : numbered (blockCount bs) 0 (blocks bs) ≡ true) (table : List ℕ)
+    (least k : ℕ) (G : Going (placesOf (blocks bs)) (rulesOf table) least k) (low : k < length (placesOf (blocks bs)))
     (at slot : ℕ) (rule : Rule) (there : at ≡ k / PLACES * BLOCK + HEADER + k % PLACES * PLACE) (number : slot ≡ wordAt bs at)
     (fields : rule ≡ slotFrom (placeAt (drop at bs))) where
   p : Place
@@ -292,12 +298,15 @@ module _ (bs : List ℕ) (w : whole bs ≡ true) (t : numbered (blockCount bs) 0
       (subst (λ (n : ℕ). Stands n least (slotFrom p)) (sym same-slot) S)
 
   pub read-bad :
-      (Stands slot least rule → ⊥) → ReadFrom (placesOf (blocks bs)) (record { right = false; rules = rules })
-  read-bad n = going-bad (placesOf (blocks bs)) rules least k G p here (λ S. n (back-stands S))
+      (Stands slot least rule → ⊥) → ReadFrom (placesOf (blocks bs)) (record { right = false; table = tableOf table })
+  read-bad n = going-bad (placesOf (blocks bs)) table least k G p here (λ S. n (back-stands S))
 
   pub read-next :
-      Stands slot least rule → Going (placesOf (blocks bs)) (set rules slot rule) (slot + 1) (k + 1)
-  read-next S =
-      subst (λ (r : Rule). Going (placesOf (blocks bs)) (set rules slot r) (slot + 1) (k + 1)) (sym same-rule)
+      Stands slot least rule → (after : List ℕ) → rulesOf after ≡ set (rulesOf table) slot rule
+      → Going (placesOf (blocks bs)) (rulesOf after) (slot + 1) (k + 1)
+  read-next S after put =
+      let rules = rulesOf table in
+      subst (λ (rs : List Rule). Going (placesOf (blocks bs)) rs (slot + 1) (k + 1))
+      (sym (put ∙ ap (set rules slot) same-rule))
       (subst (λ (n : ℕ). Going (placesOf (blocks bs)) (set rules n (slotFrom p)) (n + 1) (k + 1)) (sym same-slot)
-      (going-next (placesOf (blocks bs)) rules least k G p here low (same-stands S)))
+      (going-next (placesOf (blocks bs)) table least k G p here low (same-stands S)))

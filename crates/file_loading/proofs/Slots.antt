@@ -65,21 +65,22 @@ state-marked count l = sym (ap stateOf (le-leb 128 count l))
 
 -- The slot read at an offset of some bytes is that of the place that they begin with there.
 pub fields-at :
-    (bs : List ℕ) (at head state : ℕ) (entries : List Atom) → head ≡ wordAt bs (at + 2)
-    → state ≡ stateOf (leb 128 (getD bs (at + 4) 0)) → entries ≡ map atom (wordsIn 8 (drop (at + 6) bs))
+    (bs : List ℕ) (at head state positives negatives : ℕ) (entries : List Atom) → head ≡ wordAt bs (at + 2)
+    → state ≡ stateOf (leb 128 (getD bs (at + 4) 0)) → positives ≡ getD bs (at + 4) 0 % 128
+    → negatives ≡ getD bs (at + 5) 0 → entries ≡ map atom (wordsIn 8 (drop (at + 6) bs))
     → _≡_ {A = Rule}
     (record {
       state = state;
       head = atom head;
-      positives = getD bs (at + 4) 0 % 128;
-      negatives = getD bs (at + 5) 0;
+      positives = positives;
+      negatives = negatives;
       entries = entries;
     })
     (slotFrom (placeAt (drop at bs)))
-fields-at bs at head state entries h s e = λ i. record {
+fields-at bs at head state positives negatives entries h s m n e = λ i. record {
   state = (s ∙ ap (λ (b : ℕ). stateOf (leb 128 b)) (sym (getD-drop at bs 4 0))) i;
   head = atom ((h ∙ sym (word-drop at 2 bs)) i);
-  positives = sym (getD-drop at bs 4 0) i % 128;
-  negatives = sym (getD-drop at bs 5 0) i;
+  positives = (m ∙ ap (λ (b : ℕ). b % 128) (sym (getD-drop at bs 4 0))) i;
+  negatives = (n ∙ sym (getD-drop at bs 5 0)) i;
   entries = (e ∙ ap (λ (cs : List ℕ). map atom (wordsIn 8 cs)) (sym (drop-drop 6 at bs))) i;
 }

@@ -5,12 +5,13 @@ use mathlib.Core.Path.{_≡_}
 use mathlib.Core.Bool.{Bool, true, _&&_}
 use mathlib.Core.List.{List, map}
 use lib.Dec.{ltb}
-use lib.ListN.{length, getD}
+use lib.ListN.{getD}
 use Rattle.theory.specs.Lists.{every}
 use Rattle.theory.specs.Limits.{document}
 use Rattle.table.specs.declared.Atom.{Atom}
 use Rattle.table.specs.declared.Rule.{Rule}
 use Rattle.table.specs.Rules.{stateOf, bookOf, pastRule}
+use Rattle.table.specs.Words.{rulesOf}
 use Rattle.table.specs.Clean.{WellFormed}
 use Rattle.file_blocks.specs.Places.{Place}
 use Rattle.file_blocks.specs.Questions.{ascends, right, pagesWith}
@@ -45,7 +46,6 @@ allRight least ps =
 
 -- The rules of these records with their marks, if all are right.
 pub record ReadFrom (ps : List Place) (r : Records) : Type 0 where
-  pub long : length (r .rules) ≡ document .slots
   pub told : r .right ≡ allRight 0 ps
-  pub pages : r .right ≡ true → bookOf (r .rules) ≡ pagesWith document ps
-  pub well : r .right ≡ true → (s : ℕ) → s < document .slots → WellFormed (getD (r .rules) s pastRule)
+  pub pages : r .right ≡ true → bookOf (rulesOf (r .table .words)) ≡ pagesWith document ps
+  pub well : r .right ≡ true → (s : ℕ) → s < document .slots → WellFormed (getD (rulesOf (r .table .words)) s pastRule)

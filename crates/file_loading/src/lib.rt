@@ -10,6 +10,7 @@ use table::Atom;
 use table::Rule;
 use table::Slot;
 use table::Table;
+use table::slots::put_rule;
 ghost use mathlib.Core.Path.{_≡_};
 ghost use mathlib.Core.Bool.{true};
 ghost use mathlib.Core.List.{map};
@@ -25,10 +26,11 @@ ghost use Rattle.file_blocks.specs.Questions.{blocks, blockCount, placesOf, who
 ghost use Rattle.table.specs.Rules.{stateOf};
 ghost use Rattle.file_loading.specs.Reading.{atom, slotFrom, Stands, ReadFrom};
 
-// The rules of the records with their marks, if the slots ascend and each record is one that a sound table can hold.
+// A table's numbers with the rules of the records and their marks, if the slots ascend and each record is one that a
+// sound table can hold. Its slots keep nothing.
 pub struct Records {
     pub right: bool,
-    pub rules: [Rule; Table::SLOTS],
+    pub table: Table,
 }
 
 // How many records a file has whose blocks are numbered: 22 in every block but the last.
@@ -72,6 +74,13 @@ fn state_of(count: u8) -> u16
     if count < MARK { 1 } else { 2 }
 }
 
+// A byte as a number of a slot.
+fn wide(byte: u8) -> u16
+    ensures { λ r. ⌜ r ≡ byte ⌝ }
+{
+    byte as u16
+}
+
 // The slot with the rule and the mark of the record that begins at an offset.
 fn rule_at(bytes: &[u8], at: usize) -> Rule
     requires { ⌜ at + format.PLACE ≤ length (now bytes) ⌝ }
@@ -79,13 +88,14 @@ fn rule_at(bytes: &[u8], at: usize) -> Rule
 {
     let head = word_at(bytes, at + 2);
     let count = bytes[at + 4];
-    let negatives = bytes[at + 5];
+    let positives = wide(count % MARK);
+    let negatives = wide(bytes[at + 5]);
     let state = state_of(count);
     let entries = entries_at(bytes, at);
     Rule {
         state: state,
         head: Atom(head),
-        positives: count % MARK,
+        positives: positives,
         negatives: negatives,
         entries: entries,
     }
@@ -113,7 +123,7 @@ pub fn read_records(bytes: &[u8]) -> Records
 {
     let count = record_count(bytes);
     let empty = Table::empty();
-    let mut rules = empty.rules;
+    let mut words = empty.words;
     let mut least: usize = 0;
     let mut k: usize = 0;
     while k < count {
@@ -123,16 +133,15 @@ pub fn read_records(bytes: &[u8]) -> Records
         if !stands(slot, least, rule) {
             return Records {
                 right: false,
-                rules: rules,
+                table: Table { words: words },
             };
         }
-        let s = slot.0 as usize;
-        rules[s] = rule;
-        least = s + 1;
+        put_rule(&mut words, slot, rule);
+        least = slot.0 as usize + 1;
         k += 1;
     }
     Records {
         right: true,
-        rules: rules,
+        table: Table { words: words },
     }
 }

@@ -168,12 +168,16 @@ module _ (rules : List Rule) (from : ℕ) where
   pub wrote-next-record :
       {before out after : List ℕ} {at : ℕ} (h : HeldSlots) (H : HeldIn (bookOf rules) h) (k : ℕ)
       → from + k < h .count → Wrote (recordsBytes rules from k) before at out (at + PLACE * k)
-      → (let s = getD (h .slots) (from + k) (slot 0) .0 in
-      Wrote (recordBytes s (getD rules s pastRule)) out (at + PLACE * k) after (at + PLACE * k + PLACE))
+      → (r : Rule) → (let s = getD (h .slots) (from + k) (slot 0) .0 in
+      (r ≡ getD rules s pastRule)
+      × Wrote (recordBytes s r) out (at + PLACE * k) after (at + PLACE * k + PLACE))
       → Wrote (recordsBytes rules from (k + 1)) before at after (at + PLACE * (k + 1))
   unfolding recordsBytes recordBytes
-  wrote-next-record {at = at} h H k l v w =
+  wrote-next-record {out = out} {after} {at} h H k l v r (read, write) =
       let R = records (bookOf rules) in
+      let s = getD (h .slots) (from + k) (slot 0) .0 in
+      let w = subst (λ (q : Rule). Wrote (recordBytes s q) out (at + PLACE * k) after (at + PLACE * k + PLACE)) read
+      write in
       let more = places-next R from k noPlace (omega (arith, H .count))
       ∙ ap (λ (p : Place). placesBytes (take k (drop from R)) ++ placeBytes p) (record-at rules h H (from + k) l) in
       rw more (wrote-then v (wrote-to (at + PLACE * (k + 1)) (omega arith) w))

@@ -6,12 +6,14 @@ use table::Atom;
 use table::Rule;
 use table::Slot;
 use table::Table;
+use table::slots::rule_at;
 ghost use mathlib.Core.Path.{_≡_};
 ghost use Prim.Native.Nat.{min, _+_, _*_, _≤_};
 ghost use lib.Dec.{leb};
 ghost use lib.ListN.{length};
 ghost use Rattle.theory.specs.Limits.{document};
 ghost use Rattle.table.specs.Rules.{numbers, bookOf};
+ghost use Rattle.table.specs.Words.{rulesOf};
 ghost use Rattle.table.specs.Clean.{CleanRule};
 ghost use Rattle.fields.specs.Written.{Wrote};
 ghost use Rattle.file_blocks.specs.Words.{words};
@@ -34,14 +36,14 @@ fn one_if_held(state: u16) -> usize
 }
 
 // The slots that hold rules. Each slot is noted behind the others; a free one is written over.
-pub fn held_slots(rules: [Rule; Table::SLOTS]) -> HeldSlots
-    ensures { λ r. ⌜ HeldIn (bookOf rules) r ⌝ }
+pub fn held_slots(table: &[u16; Table::WORDS]) -> HeldSlots
+    ensures { λ r. ⌜ HeldIn (bookOf (rulesOf (now (table .entry)))) r ⌝ }
 {
     let mut slots: [Slot; Table::SLOTS] = [Slot(0); Table::SLOTS];
     let mut count: usize = 0;
     let mut i: usize = 0;
     while i < Table::SLOTS {
-        let rule = rules[i];
+        let rule = rule_at(table, i);
         let number = i as u16;
         slots[count] = Slot(number);
         count += one_if_held(rule.state);
@@ -68,15 +70,12 @@ fn write_entries(out: &mut [u8], at: usize, entries: [Atom; Table::ENTRIES])
 }
 
 // The byte of the positive count: a muted rule has the mark in it.
-fn count_byte(state: u16, positives: u8) -> u8
+fn count_byte(state: u16, positives: u16) -> u8
     requires { ⌜ positives ≤ document .entries ⌝ }
     ensures { λ r. ⌜ r ≡ countByte (leb 2 state) positives ⌝ }
 {
-    if state < 2 {
-        positives
-    } else {
-        MARK + positives
-    }
+    let count = positives as u8;
+    if state < 2 { count } else { MARK + count }
 }
 
 // Writes the record of a rule in a slot: slot, head, counts with the mark, entries.
@@ -89,7 +88,7 @@ fn write_record(out: &mut [u8], at: usize, slot: Slot, rule: Rule)
     write_word(out, at, slot.0);
     write_word(out, at + 2, rule.head.0);
     out[at + 4] = count_byte(rule.state, rule.positives);
-    out[at + 5] = rule.negatives;
+    out[at + 5] = rule.negatives as u8;
     let entries = rule.entries;
     write_entries(out, at + 6, entries);
 }
@@ -98,22 +97,22 @@ fn write_record(out: &mut [u8], at: usize, slot: Slot, rule: Rule)
 pub fn write_records(
     out: &mut [u8],
     at: usize,
-    rules: [Rule; Table::SLOTS],
+    table: &[u16; Table::WORDS],
     held: HeldSlots,
     from: usize,
     count: usize,
 )
-    requires { ⌜ CleanSlots rules ⌝ }
-    requires { ⌜ HeldIn (bookOf rules) held ⌝ }
+    requires { ⌜ CleanSlots (rulesOf (now table)) ⌝ }
+    requires { ⌜ HeldIn (bookOf (rulesOf (now table))) held ⌝ }
     requires { ⌜ (from + count ≤ held .count) × (at + format.PLACE * count ≤ length (now out)) ⌝ }
-    ensures { λ _. ⌜ Wrote (recordsBytes rules from count)
+    ensures { λ _. ⌜ Wrote (recordsBytes (rulesOf (now (table .entry))) from count)
         (now (out .entry)) at (now (out .exit)) (at + format.PLACE * count) ⌝ }
 {
     let mut k: usize = 0;
     while k < count {
         let slot = held.slots[from + k];
         let s = slot.0 as usize;
-        let rule = rules[s];
+        let rule = rule_at(table, s);
         write_record(out, at + PLACE * k, slot, rule);
         k += 1;
     }

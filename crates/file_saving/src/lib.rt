@@ -8,13 +8,13 @@ use file_blocks::sums;
 use file_blocks::write_word;
 use file_records::HeldSlots;
 use file_records::write_records;
-use table::Rule;
 use table::Table;
 ghost use mathlib.Core.Path.{_≡_};
 ghost use Prim.Native.Nat.{min, _+_, _-_, _*_, _≤_, _<_};
 ghost use lib.ListN.{length, take, drop, replicate};
 ghost use Rattle.theory.specs.Limits.{document};
 ghost use Rattle.table.specs.Rules.{bookOf};
+ghost use Rattle.table.specs.Words.{rulesOf};
 ghost use Rattle.fields.specs.Written.{Wrote};
 ghost use Rattle.file_blocks.specs.Files as format;
 ghost use Rattle.file_records.specs.Held.{HeldIn, CleanSlots};
@@ -76,38 +76,43 @@ fn write_sums(out: &mut [u8], at: usize)
 // Writes the block of an index. What the buffer had is written over: unused places are zero.
 fn write_block(
     out: &mut [u8],
-    rules: [Rule; Table::SLOTS],
+    table: &[u16; Table::WORDS],
     held: HeldSlots,
     index: usize,
     blocks: usize,
 )
-    requires { ⌜ CleanSlots rules ⌝ }
-    requires { ⌜ HeldIn (bookOf rules) held ⌝ }
+    requires { ⌜ CleanSlots (rulesOf (now table)) ⌝ }
+    requires { ⌜ HeldIn (bookOf (rulesOf (now table))) held ⌝ }
     requires { ⌜ (blocks ≡ format.blocksFor (held .count)) × (index < blocks)
         × (format.BLOCK * blocks ≤ length (now out)) ⌝ }
-    ensures { λ _. ⌜ Wrote (blockBytes index blocks rules)
+    ensures { λ _. ⌜ Wrote (blockBytes index blocks (rulesOf (now (table .entry))))
         (now (out .entry)) (format.BLOCK * index) (now (out .exit)) (format.BLOCK * (index + 1)) ⌝ }
 {
     let at = BLOCK * index;
     let from = PLACES * index;
     let count = smaller(PLACES, held.count - from);
     write_header(out, at, index as u16, blocks as u16, count as u16);
-    write_records(out, at + HEADER, rules, held, from, count);
+    write_records(out, at + HEADER, table, held, from, count);
     write_zeros(out, at + HEADER + PLACE * count, at + BODY);
     write_sums(out, at);
 }
 
 // Writes the file of the rules and their marks from the start of the buffer, which has room for it.
-pub fn write_file(out: &mut [u8], rules: [Rule; Table::SLOTS], held: HeldSlots, blocks: usize)
-    requires { ⌜ CleanSlots rules ⌝ }
-    requires { ⌜ HeldIn (bookOf rules) held ⌝ }
+pub fn write_file(
+    out: &mut [u8],
+    table: &[u16; Table::WORDS],
+    held: HeldSlots,
+    blocks: usize,
+)
+    requires { ⌜ CleanSlots (rulesOf (now table)) ⌝ }
+    requires { ⌜ HeldIn (bookOf (rulesOf (now table))) held ⌝ }
     requires { ⌜ (blocks ≡ format.blocksFor (held .count)) × (format.BLOCK * blocks ≤ length (now out)) ⌝ }
-    ensures { λ _. ⌜ Wrote (format.fileOf (bookOf rules))
+    ensures { λ _. ⌜ Wrote (format.fileOf (bookOf (rulesOf (now (table .entry)))))
         (now (out .entry)) 0 (now (out .exit)) (format.BLOCK * blocks) ⌝ }
 {
     let mut i: usize = 0;
     while i < blocks {
-        write_block(out, rules, held, i, blocks);
+        write_block(out, table, held, i, blocks);
         i += 1;
     }
 }

@@ -1,21 +1,31 @@
 -- `checklist_frame::frame_run` finds how far the frame stands. Assumes nothing.
-use Prim.Native.Nat.{_-_, _≤_}
+use Prim.Native.Nat.{ℕ, _+_, _-_, _≤_}
 use native.Mathlib.Omega.{arith}
+use mathlib.Core.Path.{_≡_}
+use mathlib.Core.Option.{some}
 use borrow.Author.Needs.{needs}
 use Rattle.theory.proofs.Lists.{clash, not-true, not-false}
-use Rattle.table.specs.Rules.{activeOf}
+use Rattle.table.specs.declared.Rule.{Rule}
+use Rattle.table.specs.Rules.{activeIn, activeOf}
+use Rattle.table.specs.Words.{rulesOf}
+use Rattle.table.proofs.Words.{told-of}
+use Rattle.checklist_frame.specs.Frame.{frame}
 use Rattle.checklist_frame.proofs.Slots.{Stands, no-start, one-start, one-more, run-ends, run-full}
 use Rattle.checklist_frame.proofs.frame_run.Statement.{statement}
 use Rattle.checklist_frame.proofs.frame_run.Tie as tie
 
+-- The slot holds the frame's rule of file i.
+abbrev Holds : ℕ → Rule → Type 0
+Holds i r = activeIn r ≡ some (frame i)
+
 abbrev Inv-loop : tie.InvT-loop
-Inv-loop rules n₀ n = (n ≤ 60) × Stands (activeOf rules) n
+Inv-loop table n₀ n = (n ≤ 60) × Stands (activeOf (rulesOf table)) n
 
 abbrev μ-loop : tie.MeasureT-loop
-μ-loop rules n₀ n = 60 - n
+μ-loop table n₀ n = 60 - n
 
-array-copy-out-start : tie.Need-array-copy-out-start Inv-loop μ-loop
-array-copy-out-start c = search needs
+rule-at-requires : tie.Need-rule-at-requires Inv-loop μ-loop
+rule-at-requires c κs = omega arith
 
 holds-fact-requires : tie.Need-holds-fact-requires Inv-loop μ-loop
 holds-fact-requires c κs = search needs
@@ -23,23 +33,21 @@ holds-fact-requires c κs = search needs
 returns : tie.Need-returns Inv-loop μ-loop
 returns c =
     let start = c .before in
-    no-start (start .before .before .args .t1)
-    (λ e. clash (start .holds-fact .ensures .1 e) (not-true _ (c .if1 .taken)))
+    let told = told-of (Holds 0) (start .before .rule-at .ensures) (start .holds-fact .ensures) in
+    no-start (rulesOf (start .before .before .args .table .now))
+    (λ e. clash (told .1 e) (not-true _ (c .if1 .taken)))
 
 loop-holds : tie.Need-loop-holds Inv-loop μ-loop
 loop-holds c =
     let there = c .before in
-    let e = there .holds-fact .ensures .0 (not-false _ (c .if1 .left)) in
-    (omega arith, one-start (there .before .before .args .t1) e)
+    let told = told-of (Holds 0) (there .before .rule-at .ensures) (there .holds-fact .ensures) in
+    (omega arith, one-start (rulesOf (there .before .before .args .table .now)) (told .0 (not-false _ (c .if1 .left))))
 
-add-rule : tie.Need-add-rule Inv-loop μ-loop
-add-rule c = search needs
+add-rule-at : tie.Need-add-rule-at Inv-loop μ-loop
+add-rule-at c = search needs
 
-mul-rule : tie.Need-mul-rule Inv-loop μ-loop
-mul-rule c = search needs
-
-array-copy-out-rule : tie.Need-array-copy-out-rule Inv-loop μ-loop
-array-copy-out-rule c = search needs
+rule-at-requires-2 : tie.Need-rule-at-requires-2 Inv-loop μ-loop
+rule-at-requires-2 c κs = search needs
 
 cast-holds-file : tie.Need-cast-holds-file Inv-loop μ-loop
 cast-holds-file c = search needs
@@ -55,8 +63,9 @@ returns-2 c =
     let stop = c .before in
     let l = stop .before .before .before in
     let a = l .before .before .before .before .args in
-    run-ends (a .t1) (l .loop .n) (l .loop .inv .1) (omega (arith, stop .before .before .loop-test .taken))
-    (λ e. clash (stop .holds-file .ensures .1 e) (not-true _ (c .if2 .taken)))
+    let told = told-of (Holds (l .loop .n + 1)) (stop .before .rule-at2 .ensures) (stop .holds-file .ensures) in
+    run-ends (rulesOf (a .table .now)) (l .loop .n) (l .loop .inv .1) (omega (arith, stop .before .before .loop-test .taken))
+    (λ e. clash (told .1 e) (not-true _ (c .if2 .taken)))
 
 add-n : tie.Need-add-n Inv-loop μ-loop
 add-n c = search needs
@@ -68,16 +77,17 @@ loop-again : tie.Need-loop-again Inv-loop μ-loop
 loop-again c =
     let more = c .before in
     let l = more .before .before .before in
-    let a = l .before .before .before .before .args in (
+    let a = l .before .before .before .before .args in
+    let told = told-of (Holds (l .loop .n + 1)) (more .before .rule-at2 .ensures) (more .holds-file .ensures) in (
       omega (arith, more .before .before .loop-test .taken),
-      one-more (a .t1) (l .loop .n) (l .loop .inv .1) (more .holds-file .ensures .0 (not-false _ (c .if2 .left))),
+      one-more (rulesOf (a .table .now)) (l .loop .n) (l .loop .inv .1) (told .0 (not-false _ (c .if2 .left))),
     )
 
 returns-3 : tie.Need-returns-3 Inv-loop μ-loop
 returns-3 c =
     let l = c .before in
     let a = l .before .before .before .before .args in
-    run-full (a .t1) (l .loop .n) (l .loop .inv .1) (l .loop .inv .0)
+    run-full (rulesOf (a .table .now)) (l .loop .n) (l .loop .inv .1) (l .loop .inv .0)
     (omega (arith, c .loop-test .left))
 
 pub frame-run-spec : {M : Type 1} → statement M
@@ -86,13 +96,12 @@ frame-run-spec =
     (tie.spec
     Inv-loop
     μ-loop
-    array-copy-out-start
+    rule-at-requires
     holds-fact-requires
     returns
     loop-holds
-    add-rule
-    mul-rule
-    array-copy-out-rule
+    add-rule-at
+    rule-at-requires-2
     cast-holds-file
     add-holds-file
     holds-file-requires

@@ -21,6 +21,12 @@ returns c =
     open-refused (l .before .args .files) _ (sym (l .on-list .ensures) ∙ not-true _ (off .if1 .taken))
     (c .empty .ensures)
 
+cast-framed : tie.Need-cast-framed
+cast-framed c =
+    let l = c .before in
+    let b = on-list-between 60 (l .before .args .files) (sym (l .on-list .ensures) ∙ not-false _ (c .if1 .left)) in
+    record { fits = omega (arith, b .1) }
+
 framed-requires : tie.Need-framed-requires
 framed-requires c κs =
     let l = c .before in
@@ -34,4 +40,6 @@ returns-2 c =
     (c .framed .ensures)
 
 pub open-spec : {M : Type 1} → statement M
-open-spec = tie.close (tie.spec on-list-requires empty-requires returns framed-requires returns-2)
+open-spec =
+    tie.close
+    (tie.spec on-list-requires empty-requires returns cast-framed framed-requires returns-2)

@@ -114,8 +114,8 @@ returns-6 c =
     let right = not-false _ (c .before .before .if5 .left) in
     let told = read .read-records .ensures in
     rules-end (one .before .before .before .args .bytes .now) (whole-yes one) (summed-yes two) (numbered-yes three)
-    (filled-yes (read .before)) (sym (told .told) ∙ right) (read .read-records .result .rules) (told .well right)
-    (told .long) (told .pages right) _ _ (c .load-rules .ensures)
+    (filled-yes (read .before)) (sym (told .told) ∙ right) (read .read-records .result .table .words) (told .well right)
+    (told .pages right) _ _ (c .load-rules .ensures)
 
 pub load-spec : {M : Type 1} → statement M
 load-spec =

@@ -1,5 +1,5 @@
 -- `file_calls::refuse` meets its contract. Assumes nothing.
-use mathlib.Core.Path.{_∙_, ap}
+use mathlib.Core.Path.{ap}
 use Rattle.table.specs.declared.Table.{Table}
 use Rattle.calls.specs.declared.Changed.{Changed}
 use Rattle.calls.specs.declared.ChangeAnswer.the-variants.{Refused}
@@ -10,15 +10,11 @@ use Rattle.file_calls.proofs.refuse.Tie as tie
 empty-requires : tie.Need-empty-requires
 empty-requires c κs = search needs
 
-hand-back-requires : tie.Need-hand-back-requires
-hand-back-requires c κs = search needs
-
 returns : tie.Need-returns
 returns c =
-    let s = c .before .before in
-    c .hand-back .ensures .0
-    ∙ ap (λ (t : Table). let r : Changed = record { answer = Refused (s .args .why); table = t } in r)
-    (c .before .empty .ensures)
+    let s = c .before in
+    ap (λ (t : Table). let r : Changed = record { answer = Refused (s .args .why); table = t } in r)
+    (c .empty .ensures)
 
 pub refuse-spec : {M : Type 1} → statement M
-refuse-spec = tie.close (tie.spec empty-requires hand-back-requires returns)
+refuse-spec = tie.close (tie.spec empty-requires returns)

@@ -5,6 +5,7 @@ use native.Mathlib.Omega.{arith}
 use mathlib.Core.Path.{_≡_, sym, _∙_}
 use lib.ListN.{length}
 use Rattle.theory.proofs.Lists.{not-true, not-false, clash}
+use Rattle.table.specs.Words.{rulesOf}
 use Rattle.file_blocks.specs.Questions.{blocks, placesOf}
 use Rattle.file_blocks.proofs.Reading.{whole-parts, places-count, place-within}
 use Rattle.file_loading.proofs.Gathering.{Going, going-from, going-all, read-bad, read-next}
@@ -13,11 +14,11 @@ use Rattle.file_loading.proofs.read_records.Statement.{statement}
 use Rattle.file_loading.proofs.read_records.Tie as tie
 
 abbrev Inv-loop : tie.InvT-loop
-Inv-loop bytes count rules₀ least₀ k₀ rules least k =
-    (count ≡ length (placesOf (blocks bytes))) × Going (placesOf (blocks bytes)) rules least k
+Inv-loop bytes count words₀ least₀ k₀ words least k =
+    (count ≡ length (placesOf (blocks bytes))) × Going (placesOf (blocks bytes)) (rulesOf words) least k
 
 abbrev μ-loop : tie.MeasureT-loop
-μ-loop bytes count rules₀ least₀ k₀ rules least k = count - k
+μ-loop bytes count words₀ least₀ k₀ words least k = count - k
 
 record-count-requires : tie.Need-record-count-requires Inv-loop μ-loop
 record-count-requires c κs =
@@ -69,21 +70,18 @@ returns c =
     let read = c .before .before in
     let l = read .before .before .before .before in
     let s = l .before .before .before .before .before in
-    read-bad (s .args .bytes .now) (s .pre .0) (s .pre .1) (l .loop .rules) (l .loop .least) (l .loop .k)
+    read-bad (s .args .bytes .now) (s .pre .0) (s .pre .1) (l .loop .words) (l .loop .least) (l .loop .k)
     (l .loop .inv .1) (omega (arith, l .loop .inv .0)) _ _ _ (read .before .before .record-start .ensures)
     (read .before .word-at .ensures) (read .rule-at .ensures)
     (λ S. clash (c .before .stands .ensures .1 S) (not-true _ (c .if1 .taken)))
 
-cast-s : tie.Need-cast-s Inv-loop μ-loop
-cast-s c = search needs
+put-rule-requires : tie.Need-put-rule-requires Inv-loop μ-loop
+put-rule-requires c κs = tt
 
-mul-rules : tie.Need-mul-rules Inv-loop μ-loop
-mul-rules c = search needs
-
-array-set-from-rules : tie.Need-array-set-from-rules Inv-loop μ-loop
-array-set-from-rules c =
-    let S = c .before .before .stands .ensures .0 (not-false _ (c .before .if1 .left)) in
-    S .below
+cast-least : tie.Need-cast-least Inv-loop μ-loop
+cast-least c =
+    let S = c .before .before .before .before .stands .ensures .0 (not-false _ (c .before .before .before .if1 .left)) in
+    omega (arith, S .below)
 
 add-least : tie.Need-add-least Inv-loop μ-loop
 add-least c = search needs
@@ -96,20 +94,20 @@ loop-less c = search needs
 
 loop-again : tie.Need-loop-again Inv-loop μ-loop
 loop-again c =
-    let read = c .before .before .before in
+    let read = c .before .before .before .before .before in
     let l = read .before .before .before .before in
     let s = l .before .before .before .before .before in (
       l .loop .inv .0,
-      read-next (s .args .bytes .now) (s .pre .0) (s .pre .1) (l .loop .rules) (l .loop .least) (l .loop .k)
+      read-next (s .args .bytes .now) (s .pre .0) (s .pre .1) (l .loop .words) (l .loop .least) (l .loop .k)
           (l .loop .inv .1) (omega (arith, l .loop .inv .0)) _ _ _ (read .before .before .record-start .ensures)
           (read .before .word-at .ensures) (read .rule-at .ensures)
-          (c .before .before .stands .ensures .0 (not-false _ (c .before .if1 .left))),
+          (c .before .before .before .before .stands .ensures .0 (not-false _ (c .before .before .before .if1 .left))) _ (c .before .put-rule .ensures),
     )
 
 returns-2 : tie.Need-returns-2 Inv-loop μ-loop
 returns-2 c =
     let l = c .before .loop in
-    going-all _ (l .rules) (l .least) (l .k) (l .inv .1) (omega (arith, l .inv .0))
+    going-all _ (l .words) (l .least) (l .k) (l .inv .1) (omega (arith, l .inv .0))
 
 pub read-records-spec : {M : Type 1} → statement M
 read-records-spec =
@@ -125,9 +123,8 @@ read-records-spec =
     rule-at-requires
     stands-requires
     returns
-    cast-s
-    mul-rules
-    array-set-from-rules
+    put-rule-requires
+    cast-least
     add-least
     add-k
     loop-less

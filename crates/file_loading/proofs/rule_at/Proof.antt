@@ -16,11 +16,17 @@ add-count c = search needs
 shared-slice-read-count : tie.Need-shared-slice-read-count
 shared-slice-read-count c = search needs
 
-add-negatives : tie.Need-add-negatives
-add-negatives c = search needs
+wide-requires : tie.Need-wide-requires
+wide-requires c κs = search needs
 
-shared-slice-read-negatives : tie.Need-shared-slice-read-negatives
-shared-slice-read-negatives c = search needs
+add-wide : tie.Need-add-wide
+add-wide c = search needs
+
+shared-slice-read-wide : tie.Need-shared-slice-read-wide
+shared-slice-read-wide c = search needs
+
+wide-requires-2 : tie.Need-wide-requires-2
+wide-requires-2 c κs = search needs
 
 state-of-requires : tie.Need-state-of-requires
 state-of-requires c κs = search needs
@@ -31,9 +37,12 @@ entries-at-requires c κs = search needs
 returns : tie.Need-returns
 returns c =
     let state = c .before in
-    let head = state .before .before .before in
+    let negatives = state .before in
+    let positives = negatives .before .before in
+    let head = positives .before .before in
     let a = head .before .before .args in
-    fields-at (a .bytes .now) (a .at) _ _ _ (head .word-at .ensures) (state .state-of .ensures)
+    fields-at (a .bytes .now) (a .at) _ _ _ _ _ (head .word-at .ensures) (state .state-of .ensures)
+    (positives .wide .ensures) (negatives .wide2 .ensures)
     (c .entries-at .ensures)
 
 pub rule-at-spec : {M : Type 1} → statement M
@@ -44,8 +53,10 @@ rule-at-spec =
     word-at-requires
     add-count
     shared-slice-read-count
-    add-negatives
-    shared-slice-read-negatives
+    wide-requires
+    add-wide
+    shared-slice-read-wide
+    wide-requires-2
     state-of-requires
     entries-at-requires
     returns)

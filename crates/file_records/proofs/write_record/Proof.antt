@@ -28,6 +28,9 @@ add-out c = omega arith
 slice-write-out : tie.Need-slice-write-out
 slice-write-out c = omega arith
 
+cast-out : tie.Need-cast-out
+cast-out c = (let s = c .before .before .before .before .before .before .before .before .before .before .before in omega (arith, s .pre .0 .fits))
+
 add-out-2 : tie.Need-add-out-2
 add-out-2 c = omega arith
 
@@ -43,7 +46,7 @@ write-entries-requires c κs = simp length-set (omega arith)
 returns : tie.Need-returns
 returns c =
     let rest = c .before .before in
-    let count = rest .before .before .before in
+    let count = rest .before .before .before .before in
     let second = count .before .before .before in
     let first = second .before .before .before .before in
     let s = first .before .before .before in
@@ -68,6 +71,7 @@ write-record-spec =
     count-byte-requires
     add-out
     slice-write-out
+    cast-out
     add-out-2
     slice-write-out-2
     add-write-entries

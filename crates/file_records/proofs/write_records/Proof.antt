@@ -1,9 +1,12 @@
 -- `file_records::write_records` meets its contract. The loop keeps: the records passed are written. Assumes nothing.
 use Prim.Native.Nat.{_+_, _-_, _*_, _≤_, _<_}
 use native.Mathlib.Omega.{arith}
-use mathlib.Core.Path.{_≡_}
-use lib.ListN.{length, getD}
+use mathlib.Core.Path.{_≡_, sym, subst}
+use lib.ListN.{getD}
 use Rattle.theory.specs.Limits.{document}
+use Rattle.table.specs.Words.{rulesOf}
+use Rattle.table.specs.Clean.{CleanRule}
+use Rattle.table.proofs.Words.{rules-length}
 use Rattle.fields.specs.Written.{Wrote}
 use Rattle.fields.proofs.Wrote.{wrote-length}
 use Rattle.file_blocks.specs.Files.{PLACE}
@@ -11,16 +14,15 @@ use Rattle.file_records.proofs.Held.{slot-below}
 use Rattle.file_records.specs.Held.{slot}
 use Rattle.file_records.specs.Bytes.{recordsBytes}
 use Rattle.file_records.proofs.Records.{wrote-no-record, wrote-next-record}
-use borrow.Author.Needs.{needs}
 use Rattle.file_records.proofs.write_records.Statement.{statement}
 use Rattle.file_records.proofs.write_records.Tie as tie
 
 abbrev Inv-loop : tie.InvT-loop
-Inv-loop out₀ at from count rules held k₀ out k =
-    (k ≤ count) × Wrote (recordsBytes rules from k) out₀ at out (at + PLACE * k)
+Inv-loop out₀ at table from count held k₀ out k =
+    (k ≤ count) × Wrote (recordsBytes (rulesOf table) from k) out₀ at out (at + PLACE * k)
 
 abbrev μ-loop : tie.MeasureT-loop
-μ-loop out₀ at from count rules held k₀ out k = count - k
+μ-loop out₀ at table from count held k₀ out k = count - k
 
 -- the slot of the record, which is one of the rules'
 slot-low :
@@ -29,11 +31,12 @@ slot-low :
     < document .slots
 slot-low c =
     let s = c .before .before .before in
-    let long : length (s .args .t3) ≡ document .slots = search needs in
+    let table = s .args .table .now in
     omega (
       arith,
-      slot-below (s .args .t3) (s .args .t4) (s .pre .1 .0) (s .args .from + c .before .loop .k)
+      slot-below (rulesOf table) (s .args .t4) (s .pre .1 .0) (s .args .from + c .before .loop .k)
           (omega (arith, s .pre)),
+      rules-length table,
     )
 
 loop-holds : tie.Need-loop-holds Inv-loop μ-loop
@@ -51,11 +54,8 @@ element-copy-out-slot c = omega (arith, c .before .before .before .pre)
 cast-s : tie.Need-cast-s Inv-loop μ-loop
 cast-s c = omega (arith, slot-low (c .before .before))
 
-mul-rule : tie.Need-mul-rule Inv-loop μ-loop
-mul-rule c = omega (arith, slot-low (c .before .before))
-
-array-copy-out-rule : tie.Need-array-copy-out-rule Inv-loop μ-loop
-array-copy-out-rule c = omega (arith, slot-low (c .before .before))
+rule-at-requires : tie.Need-rule-at-requires Inv-loop μ-loop
+rule-at-requires c κs = slot-low (c .before .before)
 
 mul-write-record : tie.Need-mul-write-record Inv-loop μ-loop
 mul-write-record c = omega (arith, c .before .before .before .before .before .before .before .pre)
@@ -67,7 +67,8 @@ write-record-requires : tie.Need-write-record-requires Inv-loop μ-loop
 write-record-requires c κs =
     let l = c .before .before .before .before .before in
     let s = l .before .before in
-    (s .pre .0 _ (slot-low (c .before .before .before .before)), omega (arith, s .pre, wrote-length (l .loop .inv .1)))
+    let low = slot-low (c .before .before .before .before) in
+    (subst CleanRule (sym (c .before .rule-at .ensures)) (s .pre .0 _ low), omega (arith, s .pre, wrote-length (l .loop .inv .1)))
 
 add-k : tie.Need-add-k Inv-loop μ-loop
 add-k c = omega arith
@@ -80,8 +81,9 @@ loop-again c =
     let l = c .before .before .before .before .before .before .before .before in
     let s = l .before .before in (
       omega arith,
-      wrote-next-record (s .args .t3) (s .args .from) (s .args .t4) (s .pre .1 .0) (l .loop .k)
-          (omega (arith, s .pre)) (l .loop .inv .1) (c .before .before .write-record .ensures),
+      wrote-next-record (rulesOf (s .args .table .now)) (s .args .from) (s .args .t4) (s .pre .1 .0) (l .loop .k)
+          (omega (arith, s .pre)) (l .loop .inv .1) _
+          (c .before .before .before .before .rule-at .ensures, c .before .before .write-record .ensures),
     )
 
 same-length : tie.Need-same-length Inv-loop μ-loop
@@ -104,8 +106,7 @@ write-records-spec =
     mul-slot
     element-copy-out-slot
     cast-s
-    mul-rule
-    array-copy-out-rule
+    rule-at-requires
     mul-write-record
     add-write-record
     write-record-requires

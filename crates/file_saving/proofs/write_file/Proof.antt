@@ -1,6 +1,7 @@
 -- `file_saving::write_file` meets its contract. The loop keeps: the blocks passed are written. Assumes nothing.
 use Prim.Native.Nat.{_-_, _*_, _≤_}
 use native.Mathlib.Omega.{arith}
+use Rattle.table.specs.Words.{rulesOf}
 use Rattle.fields.specs.Written.{Wrote}
 use Rattle.fields.proofs.Wrote.{wrote-length}
 use Rattle.file_blocks.specs.Files.{BLOCK}
@@ -9,10 +10,10 @@ use Rattle.file_saving.proofs.write_file.Statement.{statement}
 use Rattle.file_saving.proofs.write_file.Tie as tie
 
 abbrev Inv-loop : tie.InvT-loop
-Inv-loop out₀ rules held blocks i₀ out i = (i ≤ blocks) × Wrote (firstBlocks rules blocks i) out₀ 0 out (BLOCK * i)
+Inv-loop out₀ table held blocks i₀ out i = (i ≤ blocks) × Wrote (firstBlocks (rulesOf table) blocks i) out₀ 0 out (BLOCK * i)
 
 abbrev μ-loop : tie.MeasureT-loop
-μ-loop out₀ rules held blocks i₀ out i = blocks - i
+μ-loop out₀ table held blocks i₀ out i = blocks - i
 
 loop-holds : tie.Need-loop-holds Inv-loop μ-loop
 loop-holds c = (omega arith, wrote-no-block _ _ _)

@@ -1,0 +1,2 @@
+-- What making a table from its rules promises.
+pub mod Making
