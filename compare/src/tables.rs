@@ -212,12 +212,16 @@ impl Seen {
             muted.tables, muted.sound, muted.no_state
         );
         println!("wrong depths and spoilers: {}", self.kept_wrong.shown());
-        let few = [
-            ("a muted rule, or with a state past 2", muted.is_enough(count)),
-            ("a wrong depth or spoiler of some kind", self.kept_wrong.is_enough(count)),
-        ];
-        let few = few.iter().filter(|(_, is_enough)| !is_enough);
-        few.map(|(what, _)| println!("too few tables with {what}")).count()
+        let mut few = 0;
+        if !muted.is_enough(count) {
+            println!("too few tables with a muted rule, or with a state past 2");
+            few += 1;
+        }
+        if !self.kept_wrong.is_enough(count) {
+            println!("too few tables with a wrong depth or spoiler of some kind");
+            few += 1;
+        }
+        few
     }
 }
 
