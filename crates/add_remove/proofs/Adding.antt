@@ -1,10 +1,10 @@
 -- How an addition to a sound table ends, from the answers of its questions. Assumes nothing.
 use Prim.Native.Nat.{ℕ, _<_}
 use mathlib.Core.Path.{_≡_, refl, sym, _∙_, ap, subst}
-use mathlib.Core.Bool.{true, false, not}
+use mathlib.Core.Bool.{Bool, true, false, not}
 use mathlib.Core.List.{List, [], _∷_}
 use mathlib.Core.Option.{Option, none, some}
-use lib.ListN.{length, set}
+use lib.ListN.{set}
 use Rattle.theory.specs.Rules.{all, Held, Bounded, any-rule, same, kept}
 use Rattle.theory.specs.Rules as theory
 use Rattle.theory.specs.Dependencies.{NegativeCycle}
@@ -17,7 +17,8 @@ use Rattle.theory.proofs.Sameness.{same-kept}
 use Rattle.theory.proofs.Questions.{first-no-yes, first-no-here, first-no-take, first-no-before}
 use Rattle.table.specs.declared.Rule.{Rule}
 use Rattle.table.specs.declared.Table.{Table}
-use Rattle.table.specs.Rules.{bookOf, programOf}
+use Rattle.table.specs.Rules.{programOf}
+use Rattle.table.specs.Words.{tableOf, rulesOf}
 use Rattle.table.specs.Sound.{Sound}
 use Rattle.refusals.specs.declared.Refusal.{Refusal}
 use Rattle.refusals.specs.declared.Refusal.the-variants as refusal
@@ -25,11 +26,10 @@ use Rattle.calls.specs.declared.AddAnswer.the-variants as added
 use Rattle.calls.specs.declared.Added.{Added}
 use Rattle.refusals.specs.Refusals.{numberOf}
 use Rattle.calls.specs.Contracts as contract
-use Rattle.calls.specs.Contracts.{held, Sized, AddEnds}
-use Rattle.labels.specs.declared.Labelling.{Labelling}
-use Rattle.labels.specs.Labelling.{LabellingOf}
+use Rattle.calls.specs.Contracts.{held, AddEnds}
+use Rattle.labels.specs.Labelling.{Relabelled}
 use Rattle.new_rule.specs.Parts.{SlotWith}
-use Rattle.add_remove.proofs.Putting.{book-put, bounded-put, put-cyclic, put-stratified, put-sized}
+use Rattle.add_remove.proofs.Putting.{bounded-put, put-cyclic, put-stratified, put-sized, put-held}
 use Rattle.add_remove.proofs.Putting.{put-sound}
 
 -- A refusal that hands the table back as it came.
@@ -73,7 +73,7 @@ module _ (t : Table) (S : Sound t) (q : theory.Rule) where
       -- the rule is put into the lowest free slot
       module _
           (s : ℕ) (inside : s < document .slots) (low : lowest-free (all (held t)) ≡ some s) (r : Rule)
-          (R : SlotWith (kept q) r) (slots : List Rule) (put : slots ≡ set (t .rules) s r)
+          (R : SlotWith (kept q) r) (w : List ℕ) (put : rulesOf w ≡ set (rulesOf (t .words)) s r)
         where
           six : first-no (add-questions document (all (held t)) q)
               ≡ first-no (asks 7 (stratified (with-replaced (all (held t)) s q)) ∷ [])
@@ -81,23 +81,20 @@ module _ (t : Table) (S : Sound t) (q : theory.Rule) where
               five ∙ first-no-yes _ _ (ap is-some low)
               ∙ ap (λ (o : Option ℕ). first-no (asks 7 (stratified (put-in (all (held t)) o (kept q))) ∷ [])) low
 
-          pub bounded-changed : Bounded (programOf slots) (document .atoms)
-          bounded-changed = bounded-put t S q pass s inside (λ k n. alone k) r R slots put
+          pub bounded-changed : Bounded (programOf (rulesOf w)) (document .atoms)
+          bounded-changed = bounded-put t S q pass s inside (λ k n. alone k) r R w put
 
-          module _ (l : Labelling) (L : LabellingOf (bookOf slots) l) where
-            pub refused-cycle : l .acyclic ≡ false → AddEnds t q (added.Refused refusal.NegativeCycle) t
+          module _ (v : List ℕ) (b : Bool) (L : Relabelled w v b) where
+            pub refused-cycle : b ≡ false → AddEnds t q (added.Refused refusal.NegativeCycle) t
             refused-cycle e =
                 contract.refused refusal.NegativeCycle S
-                (six ∙ first-no-here _ _ (put-cyclic t S q pass s inside (λ k n. alone k) r R slots put l L e))
+                (six ∙ first-no-here _ _ (put-cyclic t S q pass s inside (λ k n. alone k) r R w put v b L e))
 
-            pub add-ends :
-                l .acyclic ≡ true → Sized t → length (r .entries) ≡ document .entries
-                → length (l .labels) ≡ document .atoms
-                → AddEnds t q (added.Taken (record { 0 = s })) (record { rules = slots; labels = l .labels })
-            add-ends e Z n m =
+            pub add-ends : b ≡ true → AddEnds t q (added.Taken (record { 0 = s })) (tableOf v)
+            add-ends e =
                 contract.accepted (record { 0 = s }) _ S
-                (six ∙ first-no-yes _ _ (put-stratified t S q pass s inside (λ k n. alone k) r R slots put l L e)
+                (six ∙ first-no-yes _ _ (put-stratified t S q pass s inside (λ k n. alone k) r R w put v b L e)
                 ∙ (unfold first-no in refl))
-                low (put-sized t S q pass s inside (λ k n. alone k) r R slots put l L Z n m)
-                (book-put t S q pass s inside (λ k n. alone k) r R slots put)
-                (put-sound t S q pass s inside (λ k n. alone k) r R slots put l L e)
+                low (put-sized t S q pass s inside (λ k n. alone k) r R w put v b L)
+                (put-held t S q pass s inside (λ k n. alone k) r R w put v b L)
+                (put-sound t S q pass s inside (λ k n. alone k) r R w put v b L e)

@@ -23,13 +23,13 @@ use Rattle.theory.proofs.Questions.{first-no-asked}
 use Rattle.table.specs.declared.Rule.{Rule}
 use Rattle.table.specs.declared.Table.{Table}
 use Rattle.table.specs.Rules.{bookOf, programOf, ruleOf, slotOf}
+use Rattle.table.specs.Words.{tableOf, rulesOf}
 use Rattle.table.specs.Sound.{Sound}
 use Rattle.table.proofs.Programs.{slot-rule}
 use Rattle.calls.specs.Contracts.{held, Sized}
-use Rattle.labels.specs.declared.Labelling.{Labelling}
-use Rattle.labels.specs.Labelling.{LabellingOf}
+use Rattle.labels.specs.Labelling.{Relabelled}
 use Rattle.new_rule.specs.Parts.{SlotWith}
-use Rattle.add_remove.proofs.OneSlot.{book-after, bounded-after, sound-after, sized-after}
+use Rattle.add_remove.proofs.OneSlot.{book-after, bounded-after, sound-after}
 
 -- Whether a program of ascending lists holds the rule of a slot made for q tells whether it holds the same rule as q.
 pub same-told :
@@ -64,31 +64,29 @@ module _
     fresh : (k : ℕ) (p : theory.Rule) → (k ≡ s → ⊥) → slotOf r ≡ some p → Held (all (held t)) k p → ⊥
     fresh k p n h i = alone k n (subst (Held (all (held t)) k) (sym (one p h)) i)
 
-    module _ (slots : List Rule) (put : slots ≡ set (t .rules) s r) where
-      pub book-put : bookOf slots ≡ set (held t) s (some (new-page q))
+    -- w are the numbers with that rule, v those where each slot keeps what the rules ask for.
+    module _ (w : List ℕ) (put : rulesOf w ≡ set (rulesOf (t .words)) s r) where
+      book-put : bookOf (rulesOf w) ≡ set (held t) s (some (new-page q))
       book-put = ap bookOf put ∙ book-after t S s inside r ∙ ap (set (held t) s) (R .held)
 
-      pub program-put : programOf slots ≡ with-replaced (all (held t)) s q
+      program-put : programOf (rulesOf w) ≡ with-replaced (all (held t)) s q
       program-put = ap all book-put ∙ all-set (held t) s (some (new-page q))
 
-      pub bounded-put : Bounded (programOf slots) (document .atoms)
-      bounded-put = rw put (bounded-after t S s inside r (R .clean) passes ascending fresh)
+      pub bounded-put : Bounded (programOf (rulesOf w)) (document .atoms)
+      bounded-put = bounded-after t S s inside r (R .clean) passes ascending fresh w put
 
-      module _ (l : Labelling) (L : LabellingOf (bookOf slots) l) where
-        pub put-cyclic : l .acyclic ≡ false → stratified (with-replaced (all (held t)) s q) ≡ false
-        put-cyclic e = cycle-found _ (subst NegativeCycle program-put (L .cyclic e))
+      module _ (v : List ℕ) (b : Bool) (L : Relabelled w v b) where
+        pub put-cyclic : b ≡ false → stratified (with-replaced (all (held t)) s q) ≡ false
+        put-cyclic e = cycle-found _ (subst NegativeCycle program-put (L .cyclic e .0))
 
-        pub put-stratified : l .acyclic ≡ true → stratified (with-replaced (all (held t)) s q) ≡ true
+        pub put-stratified : b ≡ true → stratified (with-replaced (all (held t)) s q) ≡ true
         put-stratified e = stratified-iff _ .1 (λ c. L .acyclic e .0 (subst NegativeCycle (sym program-put) c))
 
-        pub put-sound : l .acyclic ≡ true → Sound (record { rules = slots; labels = l .labels })
-        put-sound e =
-            let L′ : LabellingOf (bookOf (set (t .rules) s r)) l = rw put at L in
-            let w = L′ .acyclic e in
-            rw put
-            (sound-after t S s inside r (R .clean) passes ascending fresh (l .labels) (w .0) (w .1 .0) (w .1 .1))
+        pub put-held : held (tableOf v) ≡ set (held t) s (some (new-page q))
+        put-held = ap bookOf (L .rules) ∙ book-put
 
-        pub put-sized :
-            Sized t → length (r .entries) ≡ document .entries → length (l .labels) ≡ document .atoms
-            → Sized (record { rules = slots; labels = l .labels })
-        put-sized Z n m = rw put (sized-after t S s inside r Z n (l .labels) m)
+        pub put-sized : Sized (tableOf v)
+        put-sized = record { long = L .sized }
+
+        pub put-sound : b ≡ true → Sound (tableOf v)
+        put-sound = sound-after t S s inside r (R .clean) passes ascending fresh w put v b L

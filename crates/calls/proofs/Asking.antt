@@ -20,6 +20,7 @@ use Rattle.table.specs.declared.Rule.{Rule}
 use Rattle.table.specs.declared.Slot.{Slot}
 use Rattle.table.specs.declared.Table.{Table}
 use Rattle.table.specs.Rules.{ruleOf, pageOf, slotOf}
+use Rattle.table.specs.Words.{rulesOf}
 use Rattle.table.specs.Clean.{freeRule}
 use Rattle.table.specs.Sound.{Sound}
 use Rattle.table.proofs.Programs.{slot-free, slot-held}
@@ -93,9 +94,9 @@ module _ (t : Table) (s : ℕ) where
       first-no-here (asks 8 (ltb s (document .slots))) (rule-asked ∷ [])
       (unless _ (λ u. omega (arith, ltb-lt s (document .slots) u)))
 
-  module _ (r : Rule) (e : r ≡ getD (t .rules) s freeRule) where
+  module _ (r : Rule) (e : r ≡ getD (rulesOf (t .words)) s freeRule) where
     pub page-is : getD (held t) s none ≡ pageOf r
-    page-is = List·getD-map pageOf (t .rules) s freeRule ∙ ap pageOf (sym e)
+    page-is = List·getD-map pageOf (rulesOf (t .words)) s freeRule ∙ ap pageOf (sym e)
 
     slot-is : getD (all (held t)) s none ≡ slotOf r
     slot-is = all-at (held t) s ∙ ap rule-on page-is

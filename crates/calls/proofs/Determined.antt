@@ -78,7 +78,7 @@ ask-rule-determined r (rule.Refused f) (rule.Refused g) d e =
 -- The admissible model of a sound table's unmuted rules is one set.
 pub same-model :
     (t : Table) → Sound t → (M N : AtomSet) → Admissible (active (held t)) M → Admissible (active (held t)) N → M ≡ N
-same-model t S M N A B = fun-ext (one-model (held t) (S .labels .acyclic) M N A B)
+same-model t S M N A B = fun-ext (one-model (held t) (S .rules .acyclic) M N A B)
 
 -- Two additions of the same rule to the same table. Refused, both name the first question answered no; accepted, both
 -- take the lowest free slot and leave the same pages, so the same table (`table-unique`). One of each cannot be.
@@ -149,7 +149,7 @@ label-determined t a x y (contract.refused f S d) (contract.accepted M k T e A L
 label-determined t a x y (contract.accepted M k S d A L) (contract.unsound n) = absurd (n S)
 label-determined t a x y (contract.accepted M k S d A L) (contract.refused g T e) = absurd (both _ _ e d)
 label-determined t a x y (contract.accepted M k S d A L) (contract.accepted N j T e B K) =
-    ap tellLabel (same-label (held t) M N a k j (S .labels .acyclic) A B L K)
+    ap tellLabel (same-label (held t) M N a k j (S .rules .acyclic) A B L K)
 
 -- The page of the slot is one, and so is the model in which its rule is read.
 pub spoiler-determined : (t : Table) (s : ℕ) (x y : SpoilerAnswer) → SpoilerEnds t s x → SpoilerEnds t s y → x ≡ y
@@ -230,7 +230,7 @@ pub reason-determined :
     → (x ≡ y) × (c ≡ d)
 unfolding every
 reason-determined t a =
-    list-determined (reason-questions document a (labelAt (t .labels) a)) refl _
+    list-determined (reason-questions document a (labelAt (t .words) a)) refl _
     (λ M xs ys X Y. reason-unique (active (held t)) M a xs ys X Y) t
 
 pub save-determined :

@@ -9,22 +9,21 @@ use mathlib.Core.List.{List}
 use mathlib.Core.Option.{Option, none, some, Option·some-injective}
 use lib.ListN.{length, getD, take, drop, length-map, List·getD-map, length-drop}
 use lib.Seq.{ext-getD, getD-take, getD-drop, length-take-le}
-use Rattle.theory.specs.Rules.{Page, Pages, all, active, rule-on}
+use Rattle.theory.specs.Rules.{Page, Pages, rule-on}
 use Rattle.theory.specs.Rules as theory
-use Rattle.theory.specs.Models.{Admissible}
-use Rattle.theory.specs.Labels.{Labelled}
+use Rattle.theory.specs.Sound.{SoundSlots}
 use Rattle.theory.specs.Limits.{document}
 use Rattle.theory.proofs.Lists.{le-or-lt}
-use Rattle.theory.proofs.Labels.{same-label}
+use Rattle.theory.proofs.Slots.{slots-determined}
 use Rattle.table.specs.declared.Atom.{Atom}
 use Rattle.table.specs.declared.Rule.{Rule}
 use Rattle.table.specs.declared.Table.{Table}
 use Rattle.table.specs.Rules.{numbers, ruleOf, page-in, pageOf, stateOf, noAtom, pastRule}
-use Rattle.table.specs.Labels.{labelAt, absentLabel}
+use Rattle.table.specs.Words.{rulesOf, depthAt, spoilerAt}
 use Rattle.table.specs.Clean.{CleanRule}
 use Rattle.table.specs.Sound.{Sound}
 use Rattle.table.proofs.Programs.{book-at, slot-held}
-use Rattle.table.proofs.CleanLabels.{label-equal}
+use Rattle.table.proofs.Words.{rules-length, rules-at, words-determined}
 use Rattle.calls.specs.Contracts.{held, Sized}
 
 -- Atoms of equal numbers are equal.
@@ -68,6 +67,11 @@ module _ (r : Rule) (C : CleanRule r) (L : length (r .entries) ≡ document .ent
       numbers-at (take (r .negatives) (drop (r .positives) (r .entries))) i
       ∙ ap (λ (a : Atom). a .0) (getD-take (r .negatives) (drop (r .positives) (r .entries)) i noAtom l
       ∙ getD-drop (r .positives) (r .entries) i noAtom)
+
+-- A rule read off a table's numbers has all its entries.
+entries-length :
+    (w : List ℕ) (s : ℕ) → s < document .slots → length (getD (rulesOf w) s pastRule .entries) ≡ document .entries
+entries-length w s l = ap (λ (r : Rule). length (r .entries)) (rules-at w s l)
 
 -- The state of a slot, as far as its page tells it.
 state-of : Option Page → ℕ
@@ -124,26 +128,28 @@ module _ (q r : Rule) (C : CleanRule q) (D : CleanRule r) (L : length (q .entrie
       )
 
 -- Two sound tables that hold the same rules with the same marks are equal. Idea: slots are clean, so a page tells every
--- field of its slot (`slot-equal`); both tables' labels are those of the one model of the same rules (`same-label`),
--- and labels are clean too (`label-equal`).
+-- field of its rule (`slot-equal`); what both keep of each slot is determined by the same pages (`slots-determined`).
 pub table-unique : (t u : Table) → Sized t → Sized u → Sound t → Sound u → held t ≡ held u → t ≡ u
-table-unique t u Z Y S T e = λ i. record { rules = rules i; labels = labels i }
+table-unique t u Z Y S T e = λ i. record { words = same i }
   where
-    rules : t .rules ≡ u .rules
-    rules = ext-getD pastRule (t .rules) (u .rules) (Z .slots ∙ sym (Y .slots)) (λ s l. (
-        let k : s < document .slots = omega (arith, Z .slots) in
-        slot-equal (getD (t .rules) s pastRule) (getD (u .rules) s pastRule) (S .clean .rules s k)
-        (T .clean .rules s k)
-        (Z .entries s k) (Y .entries s k)
-        (sym (book-at (t .rules) s) ∙ ap (λ (B : Pages). getD B s none) e ∙ book-at (u .rules) s)))
+    rules : rulesOf (t .words) ≡ rulesOf (u .words)
+    rules = ext-getD pastRule (rulesOf (t .words)) (rulesOf (u .words))
+        (rules-length (t .words) ∙ sym (rules-length (u .words))) (λ s l. (
+        let k : s < document .slots = omega (arith, rules-length (t .words)) in
+        slot-equal (getD (rulesOf (t .words)) s pastRule) (getD (rulesOf (u .words)) s pastRule) (S .clean s k)
+        (T .clean s k) (entries-length (t .words) s k) (entries-length (u .words) s k)
+        (sym (book-at (rulesOf (t .words)) s) ∙ ap (λ (B : Pages). getD B s none) e
+        ∙ book-at (rulesOf (u .words)) s)))
 
-    labels : t .labels ≡ u .labels
-    labels = ext-getD absentLabel (t .labels) (u .labels) (Z .atoms ∙ sym (Y .atoms)) (λ a l. (
-        let k : a < document .atoms = omega (arith, Z .atoms) in
-        let m = T .labels in
-        label-equal (getD (t .labels) a absentLabel) (getD (u .labels) a absentLabel) (S .clean .labels a k)
-        (T .clean .labels a k)
-        (same-label (held u) (S .labels .model) (m .model) a _ _ (m .acyclic)
-        (subst (λ (B : Pages). Admissible (active B) (S .labels .model)) e (S .labels .admissible)) (m .admissible)
-        (subst (λ (B : Pages). Labelled B (S .labels .model) a (labelAt (t .labels) a)) e (S .labels .labels a k))
-        (m .labels a k))))
+    kept :
+        (s : ℕ) → s < document .slots
+        → (depthAt (t .words) s ≡ depthAt (u .words) s) × (spoilerAt (t .words) s ≡ spoilerAt (u .words) s)
+    kept s l =
+        slots-determined (held u) (T .rules .acyclic) (depthAt (t .words)) (spoilerAt (t .words)) (depthAt (u .words))
+        (spoilerAt (u .words))
+        (subst (λ (B : Pages). SoundSlots B (depthAt (t .words)) (spoilerAt (t .words))) e (S .kept)) (T .kept) s
+        (omega (arith, T .rules .slots))
+
+    same : t .words ≡ u .words
+    same =
+        words-determined (t .words) (u .words) (Z .long) (Y .long) rules (λ s l. kept s l .0) (λ s l. kept s l .1)

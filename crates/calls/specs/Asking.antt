@@ -3,10 +3,10 @@
 use Prim.Native.Nat.{ℕ}
 use mathlib.Core.Path.{_≡_}
 use mathlib.Core.Option.{none, some}
+use Rattle.theory.specs.Rules.{all}
 use Rattle.theory.specs.Questions.{first-no, atom-questions, slot-questions}
 use Rattle.theory.specs.Limits.{document}
 use Rattle.table.specs.declared.Table.{Table}
-use Rattle.table.specs.Rules.{programOf}
 use Rattle.table.specs.Sound.{Sound}
 use Rattle.refusals.specs.declared.Refusal.{Refusal}
 use Rattle.refusals.specs.declared.Refusal.the-variants.{TableUnsound}
@@ -15,6 +15,7 @@ use Rattle.calls.specs.declared.AskedAtom.the-variants as asked
 use Rattle.calls.specs.declared.AskedSlot.{AskedSlot}
 use Rattle.calls.specs.declared.AskedSlot.the-variants as asked-slot
 use Rattle.refusals.specs.Refusals.{numberOf}
+use Rattle.calls.specs.Contracts.{held}
 
 -- The table is not sound (15), the first question of the atom is answered no, or that atom passes.
 pub data AskAtomEnds (t : Table) (a : ℕ) : AskedAtom → Type 0 where
@@ -29,8 +30,8 @@ pub data AskAtomEnds (t : Table) (a : ℕ) : AskedAtom → Type 0 where
 pub data AskSlotEnds (t : Table) (s : ℕ) : AskedSlot → Type 0 where
   unsound : (Sound t → ⊥) → AskSlotEnds t s (asked-slot.Refused TableUnsound)
   refused :
-      (f : Refusal) → Sound t → first-no (slot-questions document (programOf (t .rules)) s) ≡ some (numberOf f)
+      (f : Refusal) → Sound t → first-no (slot-questions document (all (held t)) s) ≡ some (numberOf f)
       → AskSlotEnds t s (asked-slot.Refused f)
   passed :
-      Sound t → first-no (slot-questions document (programOf (t .rules)) s) ≡ none
+      Sound t → first-no (slot-questions document (all (held t)) s) ≡ none
       → AskSlotEnds t s (asked-slot.Passed (record { 0 = s }))

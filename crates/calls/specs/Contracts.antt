@@ -18,7 +18,8 @@ use Rattle.theory.specs.Questions.{replace-questions, reason-questions, lowest-
 use Rattle.theory.specs.Limits.{document}
 use Rattle.table.specs.declared.Slot.{Slot}
 use Rattle.table.specs.declared.Table.{Table}
-use Rattle.table.specs.Rules.{bookOf, pastRule}
+use Rattle.table.specs.Rules.{bookOf}
+use Rattle.table.specs.Words.{words, rulesOf}
 use Rattle.table.specs.Labels.{labelAt}
 use Rattle.table.specs.Clean.{emptyTable}
 use Rattle.table.specs.Sound.{Sound}
@@ -41,13 +42,11 @@ use Rattle.calls.specs.Answers.{tellLabel, tellPage}
 
 -- What a table holds: its rules, each with its mark.
 abbrev pub held : Table → Pages
-held t = bookOf (t .rules)
+held t = bookOf (rulesOf (t .words))
 
--- A table as the code has it: its arrays have their lengths.
+-- A table as the code has it: its numbers are as many as a table has.
 pub record Sized (t : Table) : Type 0 where
-  pub slots : length (t .rules) ≡ document .slots
-  pub atoms : length (t .labels) ≡ document .atoms
-  pub entries : (s : ℕ) → s < document .slots → length (getD (t .rules) s pastRule .entries) ≡ document .entries
+  pub long : length (t .words) ≡ words
 
 -- Add: 15, 1, 2, 3, 4, 5, 6, 7. Takes the lowest free slot, where the rule is kept with ascending lists, unmuted;
 -- every other slot keeps its rule and its mark.
@@ -136,7 +135,7 @@ RepercussionsEnd t a = ListEnds (atom-questions document a) (λ M xs. Lists xs (
 -- Reason of an atom: 15, 10, 12, 11.
 abbrev pub ReasonEnds : Table → ℕ → List ℕ → ListAnswer → List ℕ → Type 0
 ReasonEnds t a =
-    ListEnds (reason-questions document a (labelAt (t .labels) a)) (λ M xs. Reason (active (held t)) M a xs) t
+    ListEnds (reason-questions document a (labelAt (t .words) a)) (λ M xs. Reason (active (held t)) M a xs) t
 
 -- Save: 15, then 11. The file of the table stands from the start of the lent buffer, its length is answered, and later
 -- bytes stay.

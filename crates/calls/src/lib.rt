@@ -6,7 +6,9 @@ use sound::sound;
 use table::Atom;
 use table::Slot;
 use table::Table;
-use table::parts::rule_in;
+use table::slots::rule_in;
+ghost use Rattle.table.specs.Words.{tableOf};
+ghost use Rattle.table.specs.Sound.{Sound};
 ghost use Rattle.calls.specs.Asking.{AskAtomEnds, AskSlotEnds};
 
 // The slot that an addition took.
@@ -67,13 +69,11 @@ pub enum AskedSlot {
     Refused(Refusal),
 }
 
-// Asks 15, then 10. Each call on an atom starts with it.
-pub fn ask_atom(table: Table, atom: u32) -> AskedAtom
-    ensures { λ r. ⌜ AskAtomEnds table atom r ⌝ }
+// Asks 10 of a table that is sound.
+pub fn atom_asked(table: &[u16; Table::WORDS], atom: u32) -> AskedAtom
+    requires { ⌜ Sound (tableOf (now table)) ⌝ }
+    ensures { λ r. ⌜ AskAtomEnds (tableOf (now (table .entry))) atom r ⌝ }
 {
-    if !sound(table) {
-        return AskedAtom::Refused(Refusal::TableUnsound);
-    }
     if !head_fits(atom) {
         return AskedAtom::Refused(Refusal::AtomTooLarge);
     }
@@ -81,21 +81,38 @@ pub fn ask_atom(table: Table, atom: u32) -> AskedAtom
     AskedAtom::Passed(Atom(a))
 }
 
-// Asks 15, 8, 9. Each call on a slot starts with it.
-pub fn ask_slot(table: Table, slot: u32) -> AskedSlot
-    ensures { λ r. ⌜ AskSlotEnds table slot r ⌝ }
+// Asks 15, then 10. Each call on an atom starts with it.
+pub fn ask_atom(table: &[u16; Table::WORDS], atom: u32) -> AskedAtom
+    ensures { λ r. ⌜ AskAtomEnds (tableOf (now (table .entry))) atom r ⌝ }
 {
     if !sound(table) {
-        return AskedSlot::Refused(Refusal::TableUnsound);
+        return AskedAtom::Refused(Refusal::TableUnsound);
     }
+    atom_asked(table, atom)
+}
+
+// Asks 8, then 9 of a table that is sound.
+pub fn slot_asked(table: &[u16; Table::WORDS], slot: u32) -> AskedSlot
+    requires { ⌜ Sound (tableOf (now table)) ⌝ }
+    ensures { λ r. ⌜ AskSlotEnds (tableOf (now (table .entry))) slot r ⌝ }
+{
     if slot as usize >= Table::SLOTS {
         return AskedSlot::Refused(Refusal::SlotTooLarge);
     }
     let s = slot as u16;
-    let rules = table.rules;
-    let held = rule_in(rules, Slot(s));
+    let held = rule_in(table, Slot(s));
     if held.state == 0 {
         return AskedSlot::Refused(Refusal::SlotFree);
     }
     AskedSlot::Passed(Slot(s))
+}
+
+// Asks 15, 8, 9. Each call on a slot starts with it.
+pub fn ask_slot(table: &[u16; Table::WORDS], slot: u32) -> AskedSlot
+    ensures { λ r. ⌜ AskSlotEnds (tableOf (now (table .entry))) slot r ⌝ }
+{
+    if !sound(table) {
+        return AskedSlot::Refused(Refusal::TableUnsound);
+    }
+    slot_asked(table, slot)
 }

@@ -1,2 +1,2 @@
--- The words of the contracts of the pass that compares each slot with what is kept.
-pub mod Certificate
+-- One slot compared with what it has to keep.
+pub mod Compared

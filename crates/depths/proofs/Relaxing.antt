@@ -325,28 +325,30 @@ module _ (P : Program) (M : AtomSet) (n : ℕ) (B : Bounded P n) (A : Admissible
       ];
     }
 
--- The next slot, in the words of the code: it is slot s of the table.
+-- The next slot, in the words of the code: it is slot s of the table, from which the rule was read.
 module _ (rules : List table.Rule) (M : AtomSet) (n : ℕ) (B : Bounded (activeOf rules) n)
     (A : Admissible (activeOf rules) M) (at : ℕ → ℕ) (k i : ℕ) (d : List ℕ) (t : Bool)
-    (W : Pass (activeOf rules) M at n k i d t) (s : ℕ) (come : s ≡ at i) where
+    (W : Pass (activeOf rules) M at n k i d t) (s : ℕ) (come : s ≡ at i)
+    (rule : table.Rule) (read : rule ≡ getD rules s pastRule) where
   abbrev o : Option Rule
-  o = activeIn (getD rules s pastRule)
+  o = activeIn rule
 
   abbrev h : ℕ
-  h = getD rules s pastRule .head .0
+  h = rule .head .0
 
   here : getD (activeOf rules) (at i) none ≡ o
-  here = ap (λ (z : ℕ). getD (activeOf rules) z none) (sym come) ∙ active-place rules s
+  here =
+      ap (λ (z : ℕ). getD (activeOf rules) z none) (sym come) ∙ active-place rules s ∙ ap activeIn (sym read)
 
   pub pass-next : (l : List ℕ) (flag : Bool) → Lowered M n o h d l flag → (u : Bool) → u ≡ (flag || t)
       → Pass (activeOf rules) M at n k (i + 1) l u
   pass-next l true R u e =
       let w = R .lower refl in
-      let heads = slot-head (getD rules s pastRule) in
+      let heads = slot-head rule in
       rw e (pass-lower (activeOf rules) M n B A at k i d t W o h here heads (w .0) l (w .1))
   pass-next l false R u e =
       let w = R .kept refl in
-      let heads = slot-head (getD rules s pastRule) in
+      let heads = slot-head rule in
       rw (e, w .1) (pass-over (activeOf rules) M n B A at k i d t W o h here heads (w .0))
 
 -- No more rounds are made than there are atoms.

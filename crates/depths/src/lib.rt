@@ -7,6 +7,7 @@ use table::Table;
 use table::sets::larger;
 use table::sets::number_of;
 use table::sets::set_number;
+use table::slots::rule_at;
 use table::turns::slot_at;
 ghost use mathlib.Core.Path.{_≡_};
 ghost use mathlib.Core.Bool.{true};
@@ -19,6 +20,7 @@ ghost use Rattle.theory.specs.Certificate.{level};
 ghost use Rattle.theory.specs.Limits.{document};
 ghost use Rattle.table.specs.Sets.{member, number};
 ghost use Rattle.table.specs.Rules.{activeOf, activeIn, ruleOf};
+ghost use Rattle.table.specs.Words.{rulesOf};
 ghost use Rattle.depths.specs.Numbers.{DepthsOf, within};
 ghost use Rattle.depths.specs.Passes.{Lowered};
 
@@ -101,9 +103,10 @@ fn lower(rule: Rule, model: &[bool; Table::ATOMS], found: &mut [u16; Table::ATOM
 
 // The depth of each in atom, 0 for every other: rounds over the slots, upwards and downwards in turn, up to the first
 // that lowers none.
-pub fn depths(rules: [Rule; Table::SLOTS], model: &[bool; Table::ATOMS]) -> [u16; Table::ATOMS]
-    requires { ⌜ Bounded (activeOf rules) (document .atoms) × Admissible (activeOf rules) (member (now model)) ⌝ }
-    ensures { λ r. ⌜ DepthsOf (activeOf rules) (member (now (model .entry))) (number r) ⌝ }
+pub fn depths(table: &[u16; Table::WORDS], model: &[bool; Table::ATOMS]) -> [u16; Table::ATOMS]
+    requires { ⌜ Bounded (activeOf (rulesOf (now table))) (document .atoms)
+        × Admissible (activeOf (rulesOf (now table))) (member (now model)) ⌝ }
+    ensures { λ r. ⌜ DepthsOf (activeOf (rulesOf (now (table .entry)))) (member (now (model .entry))) (number r) ⌝ }
 {
     let mut found: [u16; Table::ATOMS] = [0; Table::ATOMS];
     let mut round: usize = 0;
@@ -114,7 +117,7 @@ pub fn depths(rules: [Rule; Table::SLOTS], model: &[bool; Table::ATOMS]) -> [u16
         let mut i: usize = 0;
         while i < Table::SLOTS {
             let s = slot_at(down, i);
-            let rule = rules[s];
+            let rule = rule_at(table, s);
             let fell = lower(rule, model, &mut found);
             lowered = fell | lowered;
             i += 1;

@@ -25,6 +25,7 @@ use Rattle.theory.proofs.Cycles.{found-cycle, cycle-found}
 use Rattle.theory.proofs.Questions.{first-no-here, first-no-take, never-refused, passed-bounded}
 use Rattle.theory.proofs.Pages.{all-set}
 use Rattle.theory.proofs.Labels.{label-in}
+use Rattle.theory.proofs.Slots.{labelled}
 use Rattle.table.specs.declared.Table.{Table}
 use Rattle.table.specs.Labels.{labelAt}
 use Rattle.table.specs.Clean.{emptyTable}
@@ -48,10 +49,10 @@ use Rattle.history.proofs.Sequence.{sound-model}
 
 sound-in-model : (u : Table) → Sound u → InModel u
 sound-in-model u S = record {
-  model = S .labels .model;
+  model = S .kept .model;
   only = sound-model u S;
   exactly = λ a l. (
-      let e = label-in (held u) (S .labels .model) (S .labels .admissible) a _ (S .labels .labels a l) in
+      let e = label-in (held u) (S .kept .model) (S .kept .admissible) a _ (labelled _ _ _ (S .kept) a) in
       ((λ t. sym e ∙ t), (λ t. e ∙ t)));
 }
 
@@ -210,23 +211,23 @@ pub removed-none-left :
 removed-none-left t u s y (contract.unsound n) e q r h v = (let z : _≡_ {A = ℕ} 0 1 = cc in absurd (omega arith))
 removed-none-left t u s y (contract.refused f S a) e q r h v = (let z : _≡_ {A = ℕ} 0 1 = cc in absurd (omega arith))
 removed-none-left t u s y (contract.accepted w S a Z i U) e q r h v =
-    ap (any-rule (same r)) (ap all i ∙ all-set (held t) s none) ∙ none-left document (held t) _ (S .labels) r s q h v
+    ap (any-rule (same r)) (ap all i ∙ all-set (held t) s none) ∙ none-left document (held t) (S .rules) r s q h v
 
 -- And where the removed rule was the only one of its head, in whatever order, that atom's label is not in any more.
 pub removed-label-gone :
     (t u : Table) (s : ℕ) (y : ChangeAnswer) → RemoveEnds t s y u → y ≡ changed.Accepted → (q r : Rule)
     → Held (all (held t)) s q → same r q ≡ true
     → ((k : ℕ) (p : Rule) → Held (all (held t)) k p → p .head ≡ r .head → same r p ≡ true)
-    → is-in-label (labelAt (u .labels) (r .head)) ≡ false
+    → is-in-label (labelAt (u .words) (r .head)) ≡ false
 removed-label-gone t u s y (contract.unsound n) e q r h v only = (let z : _≡_ {A = ℕ} 0 1 = cc in absurd (omega arith))
 removed-label-gone t u s y (contract.refused f S a) e q r h v only =
     (let z : _≡_ {A = ℕ} 0 1 = cc in absurd (omega arith))
 removed-label-gone t u s y (contract.accepted w S a Z i U) e q r h v only =
-    let L = U .labels in
+    let L = U .kept in
     let low : r .head < document .atoms =
     subst (λ (x : ℕ). x < document .atoms) (sym (same-iff r q .0 v .heads))
-    (passed-bounded document (all (held t)) (S .labels .passes) s q h (q .head) (List·Memᴰ·head refl)) in
-    ground-gone document (held t) _ (S .labels) r s q h v only (L .model)
+    (passed-bounded document (all (held t)) (S .rules .passes) s q h (q .head) (List·Memᴰ·head refl)) in
+    ground-gone document (held t) (S .rules) r s q h v only (L .model)
     (subst (λ (B : Pages). Admissible (active B) (L .model)) i (L .admissible)) _
-    (subst (λ (B : Pages). Labelled B (L .model) (r .head) (labelAt (w .labels) (r .head))) i
-    (L .labels (r .head) low))
+    (subst (λ (B : Pages). Labelled B (L .model) (r .head) (labelAt (w .words) (r .head))) i
+    (labelled _ _ _ L (r .head)))

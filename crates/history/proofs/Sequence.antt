@@ -25,6 +25,7 @@ use Rattle.theory.proofs.Pages.{all-length, held-page}
 use Rattle.theory.proofs.Depths.{depth-count}
 use Rattle.theory.proofs.Labels.{in-occurs-held, spoils, spoiler-exists}
 use Rattle.theory.proofs.Explanations.{list-below}
+use Rattle.theory.proofs.Slots.{labelled}
 use Rattle.table.specs.declared.Table.{Table}
 use Rattle.table.specs.Labels.{labelAt}
 use Rattle.table.specs.Clean.{emptyTable}
@@ -51,16 +52,16 @@ use Rattle.history.specs.Claim.{bookAnswers, bookAfter, Supported, Histo
 
 -- The unmuted rules of a sound table have one admissible model, and its atoms are below the limit.
 
-pub sound-model : (t : Table) (S : Sound t) → OnlyModel (active (held t)) (S .labels .model)
+pub sound-model : (t : Table) (S : Sound t) → OnlyModel (active (held t)) (S .kept .model)
 sound-model t S = record {
-  model = S .labels .admissible;
-  alone = λ N A. one-model (held t) (S .labels .acyclic) N (S .labels .model) A (S .labels .admissible);
+  model = S .kept .admissible;
+  alone = λ N A. one-model (held t) (S .rules .acyclic) N (S .kept .model) A (S .kept .admissible);
 }
 
-pub sound-below : (t : Table) (S : Sound t) (x : ℕ) → S .labels .model x ≡ true → x < document .atoms
+pub sound-below : (t : Table) (S : Sound t) (x : ℕ) → S .kept .model x ≡ true → x < document .atoms
 sound-below t S x u =
-    let w = in-occurs-held (held t) (S .labels .model) (S .labels .admissible .founded) x u in
-    passed-bounded document (all (held t)) (S .labels .passes) (w .slot) (w .rule) (w .held) x (w .there)
+    let w = in-occurs-held (held t) (S .kept .model) (S .kept .admissible .founded) x u in
+    passed-bounded document (all (held t)) (S .rules .passes) (w .slot) (w .rule) (w .held) x (w .there)
 
 -- What a call on a sound table answers and leaves is what the book does, and the table stays sound.
 pub record Follows (B : Pages) (c : Call) (x : Answer) (u : Table) : Type 0 where
@@ -260,31 +261,31 @@ out-spoiled B M A a s r (is-out o n) h e = ⊎-elim
 -- What holds of any sound table, in the words of the claim.
 module _ (cs : List Call) (xs : List Answer) (t : Table) (e : held t ≡ bookAfter cs) (S : Sound t) where
   M : AtomSet
-  M = S .labels .model
+  M = S .kept .model
 
   model : Admissible (active (bookAfter cs)) M
   unfolding M
-  model = subst (λ (B : Pages). Admissible (active B) (S .labels .model)) e (S .labels .admissible)
+  model = subst (λ (B : Pages). Admissible (active B) (S .kept .model)) e (S .kept .admissible)
 
   low : (x : ℕ) → M x ≡ true → x < document .atoms
   unfolding M
   low = sound-below t S
 
-  kept : (a : ℕ) → a < document .atoms → Labelled (bookAfter cs) M a (labelAt (t .labels) a)
+  kept : (a : ℕ) → a < document .atoms → Labelled (bookAfter cs) M a (labelAt (t .words) a)
   unfolding M
-  kept a l = subst (λ (B : Pages). Labelled B (S .labels .model) a (labelAt (t .labels) a)) e
-      (S .labels .labels a l)
+  kept a l = subst (λ (B : Pages). Labelled B (S .kept .model) a (labelAt (t .words) a)) e
+      (labelled _ _ _ (S .kept) a)
 
   answered-label :
       (a : ℕ) → a < document .atoms → (x : LabelAnswer) → LabelEnds t a x
       → (l : Label) × (x ≡ tellLabel l) × Labelled (bookAfter cs) M a l
   unfolding M
   answered-label a l x E = (
-    labelAt (t .labels) a,
+    labelAt (t .words) a,
     label-determined t a x _ E
-        (contract.accepted (S .labels .model) (labelAt (t .labels) a) S
-        (atom-yes a true (sym (lt-ltb a (document .atoms) l)) refl) (S .labels .admissible)
-        (S .labels .labels a l)),
+        (contract.accepted (S .kept .model) (labelAt (t .words) a) S
+        (atom-yes a true (sym (lt-ltb a (document .atoms) l)) refl) (S .kept .admissible)
+        (labelled _ _ _ (S .kept) a)),
     kept a l,
   )
 
@@ -294,9 +295,9 @@ module _ (cs : List Call) (xs : List Answer) (t : Table) (e : held t ≡ bookAft
   unfolding M
   answered-spoiler s p h x E =
       let i = ap (λ (B : Pages). getD B s none) e ∙ h in
-      let asked = slot-asked (all (held t)) s (p .rule) (all-length (held t) ∙ S .labels .slots)
+      let asked = slot-asked (all (held t)) s (p .rule) (all-length (held t) ∙ S .rules .slots)
       (held-page (held t) s p i) in
-      spoiler-determined t s x _ E (contract.accepted (S .labels .model) p S asked i (S .labels .admissible))
+      spoiler-determined t s x _ E (contract.accepted (S .kept .model) p S asked i (S .kept .admissible))
 
   claim : xs ≡ bookAnswers cs → History cs xs t
   claim told = record {
@@ -305,7 +306,7 @@ module _ (cs : List Call) (xs : List Answer) (t : Table) (e : held t ≡ bookAft
     sound = S;
     model = M;
     admissible = model;
-    alone = λ N A a. one-model (bookAfter cs) (subst (λ (B : Pages). NegativeCycle (all B) → ⊥) e (S .labels .acyclic))
+    alone = λ N A a. one-model (bookAfter cs) (subst (λ (B : Pages). NegativeCycle (all B) → ⊥) e (S .rules .acyclic))
         N M A model a;
     labels = kept;
     label-answer = answered-label;

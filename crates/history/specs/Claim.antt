@@ -86,13 +86,13 @@ pub record History (cs : List Call) (xs : List Answer) (t : Table) : Type 0 wher
   pub model : AtomSet
   pub admissible : Admissible (active (bookAfter cs)) model
   pub alone : (N : AtomSet) → Admissible (active (bookAfter cs)) N → (a : ℕ) → N a ≡ model a
-  pub labels : (a : ℕ) → a < document .atoms → Labelled (bookAfter cs) model a (labelAt (t .labels) a)
+  pub labels : (a : ℕ) → a < document .atoms → Labelled (bookAfter cs) model a (labelAt (t .words) a)
   pub label-answer :
       (a : ℕ) → a < document .atoms → (x : LabelAnswer) → LabelEnds t a x
       → (l : Label) × (x ≡ tellLabel l) × Labelled (bookAfter cs) model a l
   -- an in atom shows its support and its least depth
   pub supported :
-      (a d s : ℕ) → a < document .atoms → labelAt (t .labels) a ≡ in-at d s
+      (a d s : ℕ) → a < document .atoms → labelAt (t .words) a ≡ in-at d s
       → Supported (active (bookAfter cs)) model a d s
   -- the spoiler answer of each held slot is the one defined: muted, for a muted rule
   pub spoiler-answer :
@@ -100,7 +100,7 @@ pub record History (cs : List Call) (xs : List Answer) (t : Table) : Type 0 wher
       → x ≡ tellPage model p
   -- and each unmuted rule of an out atom shows the first entry that really spoils it: on its side, at its place
   pub spoiled :
-      (a : ℕ) → a < document .atoms → labelAt (t .labels) a ≡ out → (s : ℕ) (r : Rule)
+      (a : ℕ) → a < document .atoms → labelAt (t .words) a ≡ out → (s : ℕ) (r : Rule)
       → Held (active (bookAfter cs)) s r → r .head ≡ a
       → (x : Spoiler) × (spoiler model r ≡ some x) × Spoils model r x
 
@@ -109,4 +109,4 @@ pub record History (cs : List Call) (xs : List Answer) (t : Table) : Type 0 wher
 pub record InModel (u : Table) : Type 0 where
   pub model : AtomSet
   pub only : OnlyModel (active (held u)) model
-  pub exactly : (a : ℕ) → a < document .atoms → (is-in-label (labelAt (u .labels) a) ≡ true) ↔ (model a ≡ true)
+  pub exactly : (a : ℕ) → a < document .atoms → (is-in-label (labelAt (u .words) a) ≡ true) ↔ (model a ≡ true)

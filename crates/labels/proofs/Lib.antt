@@ -1,3 +1,2 @@
--- Laws behind the labels. Nothing here needs to be believed.
-pub mod Kept
-pub mod Sizes
+-- Laws about the definitions of specs/. Nothing here needs to be believed: all of it is checked.
+pub mod Keeping

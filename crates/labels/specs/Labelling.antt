@@ -1,27 +1,21 @@
--- The labels of all atoms, as they are kept. Assumes nothing.
-use Prim.Native.Nat.{ℕ, _<_}
+-- What is kept of each slot, found anew for the rules held. Assumes nothing.
+use Prim.Native.Nat.{ℕ}
 use mathlib.Core.Path.{_≡_}
-use mathlib.Core.Bool.{true, false}
+use mathlib.Core.Bool.{Bool, true, false}
 use mathlib.Core.List.{List}
-use lib.ListN.{getD}
-use Rattle.theory.specs.Rules.{Pages, all, active}
-use Rattle.theory.specs.Models.{AtomSet, Admissible}
+use lib.ListN.{length}
 use Rattle.theory.specs.Dependencies.{NegativeCycle}
-use Rattle.theory.specs.Labels.{Labelled}
-use Rattle.theory.specs.Limits.{document}
-use Rattle.table.specs.declared.Label.{Label}
-use Rattle.table.specs.Labels.{labelAt, absentLabel}
-use Rattle.table.specs.Clean.{CleanLabel}
-use Rattle.labels.specs.declared.Labelling.{Labelling}
+use Rattle.theory.specs.Sound.{SoundSlots}
+use Rattle.table.specs.Rules.{bookOf, programOf}
+use Rattle.table.specs.Words.{words, rulesOf, depthAt, spoilerAt}
 
--- The labels kept are those defined, in the admissible model M of the unmuted rules, for every atom; what is not in
--- keeps nothing.
-pub record Labels (B : Pages) (M : AtomSet) (labels : List Label) : Type 0 where
-  pub admissible : Admissible (active B) M
-  pub labelled : (a : ℕ) → Labelled B M a (labelAt labels a)
-  pub clean : (a : ℕ) → a < document .atoms → CleanLabel (getD labels a absentLabel)
-
--- Either these, and there is no negative cycle of all rules held, or there is one.
-pub record LabellingOf (B : Pages) (r : Labelling) : Type 0 where
-  pub acyclic : r .acyclic ≡ true → (NegativeCycle (all B) → ⊥) × ((M : AtomSet) × Labels B M (r .labels))
-  pub cyclic : r .acyclic ≡ false → NegativeCycle (all B)
+-- The rules stay. Either there is no negative cycle of all rules held, and each slot keeps what the rules ask for; or
+-- there is one, and nothing is changed.
+pub record Relabelled (before after : List ℕ) (r : Bool) : Type 0 where
+  pub rules : rulesOf after ≡ rulesOf before
+  pub sized : length after ≡ words
+  pub acyclic :
+      r ≡ true
+      → (NegativeCycle (programOf (rulesOf before)) → ⊥)
+      × SoundSlots (bookOf (rulesOf before)) (depthAt after) (spoilerAt after)
+  pub cyclic : r ≡ false → NegativeCycle (programOf (rulesOf before)) × (after ≡ before)

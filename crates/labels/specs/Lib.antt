@@ -1,3 +1,3 @@
--- What is found of the labels.
+-- What relabelling promises (Labelling), and what the functions of the crate tell each other (Keeping).
 pub mod Labelling
-pub mod Assembling
+pub mod Keeping

@@ -3,7 +3,7 @@ use Prim.Native.Nat.{ℕ, suc, _+_, _≤_, _<_}
 use native.Mathlib.Omega.{arith}
 use native.Mathlib.Nat.{eq-or-lt-of-le}
 use native.Mathlib.Numerals.{add-one}
-use mathlib.Core.Path.{_≡_, refl, sym, _∙_, subst, fun-ext}
+use mathlib.Core.Path.{_≡_, refl, sym, _∙_, ap, subst, fun-ext}
 use mathlib.Core.Logic.{⊎-elim}
 use mathlib.Core.Bool.{Bool, true, false}
 use mathlib.Core.List.{List, [], _∷_, List·Memᴰ·head}
@@ -81,10 +81,11 @@ pub strata-given : (rules : List Rule) (ℓ : ℕ → ℕ) → Stratified (bookO
 strata-given rules ℓ S = strata-active (bookOf rules) ℓ (exact-strata (all (bookOf rules)) ℓ (S .exact))
 
 -- The head of a slot's rule is below the limit n, where all atoms of the program are.
-pub head-below : (rules : List Rule) (n i : ℕ) → Bounded (all (bookOf rules)) n
-    → HeadBelow (activeIn (getD rules i pastRule)) n
-head-below rules n i b r e =
-    active-bounded (bookOf rules) n b i r (active-place rules i ∙ e) (r .head) (List·Memᴰ·head refl)
+pub head-below : (rules : List Rule) (n i : ℕ) (r : Rule) → r ≡ getD rules i pastRule → Bounded (all (bookOf rules)) n
+    → HeadBelow (activeIn r) n
+head-below rules n i r read b q e =
+    active-bounded (bookOf rules) n b i q (active-place rules i ∙ ap activeIn (sym read) ∙ e) (q .head)
+    (List·Memᴰ·head refl)
 
 module _ (rules : List Rule) (ℓ : ℕ → ℕ) (k : ℕ) (M₀ : AtomSet) (found after : List Bool) (made : ℕ) (t : Bool)
     (G : Going (activeOf rules) ℓ k M₀ (member found) made) (R : Round ℓ k rules found after t) where

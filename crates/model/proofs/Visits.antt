@@ -93,27 +93,24 @@ pub record Round (ℓ : ℕ → ℕ) (k : ℕ) (rules : List Rule) (before found
   pub size : length found ≡ length before
 
 module _ (ℓ : ℕ → ℕ) (k : ℕ) (rules : List Rule) where
-  sweep-next : (M : AtomSet) (i : ℕ) → i < length rules
-      → sweep ℓ k M (activeOf (drop i rules))
-      ≡ sweep ℓ k (visit ℓ k M (activeIn (getD rules i pastRule))) (activeOf (drop (i + 1) rules))
+  sweep-next : (M : AtomSet) (i : ℕ) (r : Rule) → r ≡ getD rules i pastRule → i < length rules
+      → sweep ℓ k M (activeOf (drop i rules)) ≡ sweep ℓ k (visit ℓ k M (activeIn r)) (activeOf (drop (i + 1) rules))
   unfolding sweep
-  sweep-next M i l = rw (add-one, drop-cons rules i pastRule)
+  sweep-next M i r e l = rw (e, add-one, drop-cons rules i pastRule)
 
-  adds-next : (M : AtomSet) (i : ℕ) → i < length rules
+  adds-next : (M : AtomSet) (i : ℕ) (r : Rule) → r ≡ getD rules i pastRule → i < length rules
       → adds ℓ k M (activeOf (drop i rules))
-      ≡ (fires ℓ k M (activeIn (getD rules i pastRule))
-      || adds ℓ k (visit ℓ k M (activeIn (getD rules i pastRule))) (activeOf (drop (i + 1) rules)))
+      ≡ (fires ℓ k M (activeIn r) || adds ℓ k (visit ℓ k M (activeIn r)) (activeOf (drop (i + 1) rules)))
   unfolding adds
-  adds-next M i l = rw (add-one, drop-cons rules i pastRule)
+  adds-next M i r e l = rw (e, add-one, drop-cons rules i pastRule)
 
   module _ (before : List Bool) where
     pub left-start : Left ℓ k rules before 0 before false
     left-start = record { place = omega arith; whole = refl; more = refl; size = refl }
 
-    module _ (i : ℕ) (found : List Bool) (u : Bool) (l : i < length rules) (L : Left ℓ k rules before i found u) where
-      abbrev here : Rule
-      here = getD rules i pastRule
-
+    -- Slot i is visited, and this rule was read from it.
+    module _ (i : ℕ) (found : List Bool) (u : Bool) (l : i < length rules) (L : Left ℓ k rules before i found u)
+        (here : Rule) (read : here ≡ getD rules i pastRule) where
       abbrev new : Bool
       new = sought ℓ k (member found) (here .head .0)
 
@@ -132,10 +129,10 @@ module _ (ℓ : ℕ → ℕ) (k : ℕ) (rules : List Rule) where
           record {
             place = omega arith;
             whole = ap (λ (M : AtomSet). sweep ℓ k M (activeOf (drop (i + 1) rules))) go
-                ∙ (sym (sweep-next (member found) i l) ∙ L .whole);
+                ∙ (sym (sweep-next (member found) i here read l) ∙ L .whole);
             more = or-assoc u t _ ∙ (ap (λ b. u || b)
                 (ap₂ (λ (b : Bool) (M : AtomSet). b || adds ℓ k M (activeOf (drop (i + 1) rules))) told go
-                ∙ sym (adds-next (member found) i l)) ∙ L .more);
+                ∙ sym (adds-next (member found) i here read l)) ∙ L .more);
             size = same ∙ L .size;
           }
 
@@ -193,7 +190,7 @@ module _ (ℓ : ℕ → ℕ) (k : ℕ) (rules : List Rule) where
     rest-over (suc n) i found u b N L = ⊎-elim
         (λ (l : length rules ≤ i). left-end i found u l L)
         (λ (l : i < length rules). rest-over n (i + 1) found u (omega arith) (λ s m. N s (omega arith))
-        (left-idle i found u l L (N i (omega arith) l)))
+        (left-idle i found u l L (getD rules i pastRule) refl (N i (omega arith) l)))
         (le-or-lt (length rules) i)
 
     pub left-rest : (i : ℕ) (found : List Bool) (u : Bool) → NoneFrom ℓ k rules found i
@@ -212,13 +209,16 @@ module _ (ℓ : ℕ → ℕ) (k : ℕ) (rules : List Rule) where
 
   module _ (found : List Bool) (end last i : ℕ) (S : Seen ℓ k rules found end last i) where
     -- slot i does not wait,
-    pub seen-over : waits-at ℓ k rules found i ≡ false → Seen ℓ k rules found end last (i + 1)
-    seen-over e = record {
+    pub seen-over :
+        (r : Rule) → r ≡ getD rules i pastRule → waits ℓ k (member found) (r .state) (r .head .0) ≡ false
+        → Seen ℓ k rules found end last (i + 1)
+    seen-over r read e = record {
       low = omega (arith, S .low);
       inner = λ s l m. ⊎-elim
           (λ (b : i ≤ s). (
           let q : i ≡ s = omega arith in
-          subst (λ (z : ℕ). waits-at ℓ k rules found z ≡ false) q e))
+          subst (λ (z : Rule). waits ℓ k (member found) (z .state) (z .head .0) ≡ false)
+          (read ∙ ap (λ (z : ℕ). getD rules z pastRule) q) e))
           (λ (b : s < i). S .inner s l b)
           (le-or-lt i s);
       outer = S .outer;

@@ -6,10 +6,12 @@ use table::Table;
 use table::sets::has;
 use table::sets::mark;
 use table::sets::number_of;
+use table::slots::rule_at;
 ghost use mathlib.Core.Path.{_≡_};
 ghost use Rattle.theory.specs.Rules.{passes};
 ghost use Rattle.theory.specs.Models.{valid};
 ghost use Rattle.table.specs.Rules.{activeIn, activeOf, bookOf};
+ghost use Rattle.table.specs.Words.{rulesOf};
 ghost use Rattle.table.specs.Sets.{member, number};
 ghost use Rattle.model.specs.Model.{Stratified, Searched};
 ghost use Rattle.model.specs.Rounds.{sought, waits, Ready, Filling, HighestOf};
@@ -65,13 +67,13 @@ fn holds_valid(rule: Rule, flags: &[bool; Table::ATOMS]) -> bool
 
 // The rounds of stratum k, up to the first that adds none. Answers how many were made.
 fn fill_stratum(
-    rules: [Rule; Table::SLOTS],
+    table: &[u16; Table::WORDS],
     strata: &[u16; Table::ATOMS],
     k: u16,
     found: &mut [bool; Table::ATOMS],
 ) -> u16
-    requires { ⌜ Ready (bookOf rules) (number (now strata)) k (now found) ⌝ }
-    ensures { λ r. ⌜ Filling (activeOf rules) (number (now (strata .entry))) k
+    requires { ⌜ Ready (bookOf (rulesOf (now table))) (number (now strata)) k (now found) ⌝ }
+    ensures { λ r. ⌜ Filling (activeOf (rulesOf (now (table .entry)))) (number (now (strata .entry))) k
         (now (found .entry)) (now (found .exit)) r ⌝ }
 {
     let mut rounds: u16 = 0;
@@ -82,19 +84,17 @@ fn fill_stratum(
         let mut last: usize = 0;
         let mut i: usize = 0;
         while i < end {
-            // state and head decide most visits: the rule is copied only if it waits
             let slot = i;
             i += 1;
-            let head = Atom(rules[slot].head.0);
-            if !waits(rules[slot].state, head, strata, k, found) {
+            let rule = rule_at(table, slot);
+            if !waits(rule.state, rule.head, strata, k, found) {
                 continue;
             }
             last = i;
-            let rule = rules[slot];
             if !holds_valid(rule, found) {
                 continue;
             }
-            mark(found, head);
+            mark(found, rule.head);
             adds = true;
         }
         end = last;
@@ -121,16 +121,16 @@ fn highest(strata: &[u16; Table::ATOMS]) -> u16
 }
 
 // The admissible model of the unmuted rules, given the strata of the atoms, and the rounds of each stratum.
-pub fn in_atoms(rules: [Rule; Table::SLOTS], strata: &[u16; Table::ATOMS]) -> Search
-    requires { ⌜ Stratified (bookOf rules) (number (now strata)) ⌝ }
-    ensures { λ r. ⌜ Searched (bookOf rules) r ⌝ }
+pub fn in_atoms(table: &[u16; Table::WORDS], strata: &[u16; Table::ATOMS]) -> Search
+    requires { ⌜ Stratified (bookOf (rulesOf (now table))) (number (now strata)) ⌝ }
+    ensures { λ r. ⌜ Searched (bookOf (rulesOf (now (table .entry)))) r ⌝ }
 {
     let top = highest(strata);
     let mut found: [bool; Table::ATOMS] = [false; Table::ATOMS];
     let mut rounds: [u16; Search::STRATA] = [0; Search::STRATA];
     let mut k: u16 = 0;
     loop {
-        let n = fill_stratum(rules, strata, k, &mut found);
+        let n = fill_stratum(table, strata, k, &mut found);
         rounds[k as usize] = n;
         if k >= top {
             return Search {

@@ -5,7 +5,7 @@ use mathlib.Core.Path.{_≡_, sym, _∙_, ap, ap₂, subst}
 use mathlib.Core.Bool.{Bool, true, false}
 use mathlib.Core.List.{List}
 use mathlib.Core.Option.{none, some, Option·some-injective}
-use lib.ListN.{length, getD, set}
+use lib.ListN.{getD, set}
 use Rattle.theory.specs.Rules.{Pages, all, rule-on, with-mark, Held, Ascending, Bounded}
 use Rattle.theory.specs.Rules as theory
 use Rattle.theory.specs.Dependencies.{NegativeCycle}
@@ -17,15 +17,16 @@ use Rattle.table.specs.declared.Rule.{Rule}
 use Rattle.table.specs.declared.Slot.{Slot}
 use Rattle.table.specs.declared.Table.{Table}
 use Rattle.table.specs.Rules.{bookOf, pageOf, pastRule, programOf, ruleOf, slotOf}
+use Rattle.table.specs.Words.{tableOf, rulesOf}
 use Rattle.table.specs.Clean.{CleanRule, freeRule}
 use Rattle.table.specs.Sound.{Sound}
 use Rattle.table.proofs.Entries.{there as there-too}
-use Rattle.table.proofs.Programs.{book-length, page-stated}
+use Rattle.table.proofs.Programs.{page-stated}
+use Rattle.table.proofs.Words.{rules-length}
 use Rattle.calls.specs.declared.ChangeAnswer.the-variants as changed
-use Rattle.calls.specs.Contracts.{held, Sized, ChangeEnds, MuteEnds}
+use Rattle.calls.specs.Contracts.{held, ChangeEnds, MuteEnds}
 use Rattle.calls.proofs.Asking.{PassesSlot, slot-low, slot-holds}
-use Rattle.labels.specs.declared.Labelling.{Labelling}
-use Rattle.labels.specs.Labelling.{LabellingOf}
+use Rattle.labels.specs.Labelling.{Relabelled}
 use Rattle.add_remove.proofs.OneSlot.{accepted-after, book-after, bounded-after}
 use Rattle.muting.specs.Marks.{slotMarked}
 
@@ -50,7 +51,7 @@ module _ (m : Bool) (r : Rule) where
 
 -- The rule r in slot s of the table t, which passed questions 8 and 9, gets the mark m.
 module _
-    (t : Table) (s : ℕ) (x : Slot) (Q : PassesSlot t s x) (r : Rule) (is : r ≡ getD (t .rules) s freeRule) (m : Bool)
+    (t : Table) (s : ℕ) (x : Slot) (Q : PassesSlot t s x) (r : Rule) (is : r ≡ getD (rulesOf (t .words)) s freeRule) (m : Bool)
   where
     abbrev S : Sound t
     S = Q .sound
@@ -66,11 +67,9 @@ module _
 
     clean-there : CleanRule r
     clean-there =
-        subst CleanRule (sym (is ∙ there-too (t .rules) s freeRule pastRule (omega (arith, inside, long))))
-        (S .clean .rules s inside)
-      where
-        long : length (t .rules) ≡ document .slots
-        long = sym (book-length (t .rules)) ∙ S .labels .slots
+        subst CleanRule
+        (sym (is ∙ there-too (rulesOf (t .words)) s freeRule pastRule (omega (arith, inside, rules-length (t .words)))))
+        (S .clean s inside)
 
     -- the slot holds that rule
     one : (p : theory.Rule) → slotOf new ≡ some p → ruleOf r ≡ p
@@ -78,17 +77,17 @@ module _
 
     passes : (p : theory.Rule) → slotOf new ≡ some p → first-no (rule-questions document p) ≡ none
     passes p h = subst (λ (q : theory.Rule). first-no (rule-questions document q) ≡ none) (one p h)
-        (S .labels .passes s (ruleOf r) there)
+        (S .rules .passes s (ruleOf r) there)
 
     ascending : (p : theory.Rule) → slotOf new ≡ some p → Ascending p
-    ascending p h = subst Ascending (one p h) (S .labels .ascending s (ruleOf r) there)
+    ascending p h = subst Ascending (one p h) (S .rules .ascending s (ruleOf r) there)
 
     fresh : (k : ℕ) (p : theory.Rule) → (k ≡ s → ⊥) → slotOf new ≡ some p → Held (all (held t)) k p → ⊥
     fresh k p n h i =
-        n (S .labels .single k s p p i (subst (Held (all (held t)) s) (one p h) there) (same-refl p))
+        n (S .rules .single k s p p i (subst (Held (all (held t)) s) (one p h) there) (same-refl p))
 
     -- The pages are those with the mark set.
-    pages-marked : bookOf (set (t .rules) s new) ≡ with-mark (held t) s m
+    pages-marked : bookOf (set (rulesOf (t .words)) s new) ≡ with-mark (held t) s m
     pages-marked =
         let w = page-held (held t) s (ruleOf r) there in
         book-after t S s inside new
@@ -97,44 +96,35 @@ module _
         ∙ ap (set-mark m) (sym (w .1)))
 
     -- So every rule held stays.
-    all-stay : programOf (set (t .rules) s new) ≡ all (held t)
+    all-stay : programOf (set (rulesOf (t .words)) s new) ≡ all (held t)
     all-stay = ap all pages-marked ∙ mark-keeps-rules (held t) s m
 
-    module _ (slots : List Rule) (put : slots ≡ set (t .rules) s new) where
-      bounded-marked : Bounded (programOf slots) (document .atoms)
-      bounded-marked =
-          rw put (bounded-after t S s inside new (clean-marked m r clean-there) passes ascending fresh)
+    -- w are the numbers with that mark, v those where each slot keeps what the rules ask for.
+    module _ (w : List ℕ) (put : rulesOf w ≡ set (rulesOf (t .words)) s new) where
+      bounded-marked : Bounded (programOf (rulesOf w)) (document .atoms)
+      bounded-marked = bounded-after t S s inside new (clean-marked m r clean-there) passes ascending fresh w put
 
-      mute-ends :
-          (l : Labelling) → LabellingOf (bookOf slots) l → Sized t → length (r .entries) ≡ document .entries
-          → length (l .labels) ≡ document .atoms
-          → MuteEnds t s m changed.Accepted (record { rules = slots; labels = l .labels })
-      mute-ends l L Z n k =
-          let u : Table = record { rules = set (t .rules) s new; labels = l .labels } in
-          let L′ : LabellingOf (bookOf (set (t .rules) s new)) l = rw put at L in
-          rw put
-          (subst (λ (B : Pages). ChangeEnds (slot-questions document (all (held t)) s) B t changed.Accepted u)
+      mute-ends : (v : List ℕ) (b : Bool) → Relabelled w v b → MuteEnds t s m changed.Accepted (tableOf v)
+      mute-ends v b L =
+          subst (λ (B : Pages). ChangeEnds (slot-questions document (all (held t)) s) B t changed.Accepted (tableOf v))
           pages-marked
-          (accepted-after t S s inside new (clean-marked m r clean-there) passes ascending fresh _ (Q .yes)
-          (λ c. S .labels .acyclic (subst NegativeCycle all-stay c)) l L′ Z n k))
+          (accepted-after t S s inside new (clean-marked m r clean-there) passes ascending fresh w put v b L _ (Q .yes)
+          (λ c. S .rules .acyclic (subst NegativeCycle all-stay c)))
 
 -- The same of what the code reads and puts: h is what slot x holds, o that with the mark.
 module _
     (t : Table) (s : ℕ) (x : Slot) (Q : PassesSlot t s x) (m : Bool) (h o : Rule)
-    (read : h ≡ getD (t .rules) (x .0) freeRule) (mark : o ≡ slotMarked m h) (slots : List Rule)
-    (put : slots ≡ set (t .rules) (x .0) o)
+    (read : h ≡ getD (rulesOf (t .words)) (x .0) freeRule) (mark : o ≡ slotMarked m h) (w : List ℕ)
+    (put : rulesOf w ≡ set (rulesOf (t .words)) (x .0) o)
   where
-    is-there : h ≡ getD (t .rules) s freeRule
-    is-there = read ∙ ap (λ (k : ℕ). getD (t .rules) k freeRule) (Q .slot)
+    is-there : h ≡ getD (rulesOf (t .words)) s freeRule
+    is-there = read ∙ ap (λ (k : ℕ). getD (rulesOf (t .words)) k freeRule) (Q .slot)
 
-    is-put : slots ≡ set (t .rules) s (slotMarked m h)
-    is-put = put ∙ ap₂ (λ (k : ℕ) (r : Rule). set (t .rules) k r) (Q .slot) mark
+    is-put : rulesOf w ≡ set (rulesOf (t .words)) s (slotMarked m h)
+    is-put = put ∙ ap₂ (λ (k : ℕ) (r : Rule). set (rulesOf (t .words)) k r) (Q .slot) mark
 
-    pub bounded-after-mark : Bounded (programOf slots) (document .atoms)
-    bounded-after-mark = bounded-marked t s x Q h is-there m slots is-put
+    pub bounded-after-mark : Bounded (programOf (rulesOf w)) (document .atoms)
+    bounded-after-mark = bounded-marked t s x Q h is-there m w is-put
 
-    pub muted-ends :
-        (l : Labelling) → LabellingOf (bookOf slots) l → Sized t → length (h .entries) ≡ document .entries
-        → length (l .labels) ≡ document .atoms
-        → MuteEnds t s m changed.Accepted (record { rules = slots; labels = l .labels })
-    muted-ends = mute-ends t s x Q h is-there m slots is-put
+    pub muted-ends : (v : List ℕ) (b : Bool) → Relabelled w v b → MuteEnds t s m changed.Accepted (tableOf v)
+    muted-ends = mute-ends t s x Q h is-there m w is-put

@@ -22,6 +22,7 @@ use Rattle.theory.proofs.Questions.{held-below, never-refused}
 use Rattle.theory.proofs.Pages.{active-acyclic, active-occurs, all-length, all-set, held-page, mark-again, mark-set}
 use Rattle.theory.proofs.Pages.{muted-freed, page-held, set-mark}
 use Rattle.theory.proofs.Labels.{label-unique, same-label}
+use Rattle.theory.proofs.Slots.{labelled}
 use Rattle.theory.proofs.Removal.{freed}
 use Rattle.theory.proofs.Replacing.{old-rule}
 use Rattle.table.specs.declared.Table.{Table}
@@ -45,7 +46,7 @@ never-7 t u s m (contract.refused f S e) = never-refused 7 (slot-questions docum
 -- through a negation. (Pages that hold the same rules, whatever the marks.)
 pub any-marks-acyclic :
     (t : Table) → Sound t → (B : Pages) → all B ≡ all (held t) → NegativeCycle (active B) → ⊥
-any-marks-acyclic t S B e = active-acyclic B (subst (λ (P : Program). NegativeCycle P → ⊥) (sym e) (S .labels .acyclic))
+any-marks-acyclic t S B e = active-acyclic B (subst (λ (P : Program). NegativeCycle P → ⊥) (sym e) (S .rules .acyclic))
 
 -- With every mark off, the unmuted rules are all rules held: these have no loop through a negation either.
 abbrev pub all-unmuted : Pages → Pages
@@ -57,12 +58,12 @@ unmuted-rules (none ∷ B) = ap (λ (P : Program). none ∷ P) (unmuted-rules B)
 unmuted-rules (some p ∷ B) = ap (λ (P : Program). some (p .rule) ∷ P) (unmuted-rules B)
 
 pub all-unmuted-acyclic : (t : Table) → Sound t → NegativeCycle (active (all-unmuted (held t))) → ⊥
-all-unmuted-acyclic t S c = S .labels .acyclic (subst NegativeCycle (unmuted-rules (held t)) c)
+all-unmuted-acyclic t S c = S .rules .acyclic (subst NegativeCycle (unmuted-rules (held t)) c)
 
 -- A slot that holds a rule, of a sound table, passes 15, 8 and 9.
 module _ (t : Table) (s : ℕ) (m : Bool) (p : Page) (h : getD (held t) s none ≡ some p) (S : Sound t) where
   asked : first-no (slot-questions document (all (held t)) s) ≡ none
-  asked = slot-asked (all (held t)) s (p .rule) (all-length (held t) ∙ S .labels .slots) (held-page (held t) s p h)
+  asked = slot-asked (all (held t)) s (p .rule) (all-length (held t) ∙ S .rules .slots) (held-page (held t) s p h)
 
   -- Setting a mark there is accepted, and the table has it.
   pub set-accepted : (u : Table) (x : ChangeAnswer) → MuteEnds t s m x u
@@ -122,11 +123,11 @@ module _
         (subst (λ (P : Program). Supporting P M a k) (sym same-active) T)
 
     same-labels :
-        (a : ℕ) → a < document .atoms → Occurs (all (held v)) a → labelAt (t .labels) a ≡ labelAt (v .labels) a
-    same-labels a l o =
-        same-label (held v) (S .labels .model) (R .labels .model) a _ _ (R .labels .acyclic)
-        (subst (λ (P : Program). Admissible P (S .labels .model)) (sym same-active) (S .labels .admissible))
-        (R .labels .admissible) (label-too (S .labels .model) a _ o (S .labels .labels a l)) (R .labels .labels a l)
+        (a : ℕ) → Occurs (all (held v)) a → labelAt (t .words) a ≡ labelAt (v .words) a
+    same-labels a o =
+        same-label (held v) (S .kept .model) (R .kept .model) a _ _ (R .rules .acyclic)
+        (subst (λ (P : Program). Admissible P (S .kept .model)) (sym same-active) (S .kept .admissible))
+        (R .kept .admissible) (label-too (S .kept .model) a _ o (labelled _ _ _ (S .kept) a)) (labelled _ _ _ (R .kept) a)
 
 -- One muted rule: the labels are those of the table without it, for every atom that occurs there. Slot s of t is muted,
 -- and v is left when it is removed.
@@ -135,7 +136,7 @@ module _
     (R : Sound v) (rest : held v ≡ set (held t) s none)
   where
     pub labels-without :
-        (a : ℕ) → a < document .atoms → Occurs (all (held v)) a → labelAt (t .labels) a ≡ labelAt (v .labels) a
+        (a : ℕ) → Occurs (all (held v)) a → labelAt (t .words) a ≡ labelAt (v .words) a
     labels-without = same-labels t v S R same-active fewer
       where
         same-active : active (held v) ≡ active (held t)
@@ -185,32 +186,32 @@ unmuted-active (some p ∷ B) = ap₂ _∷_ (one (p .muted) refl) (unmuted-activ
     one false e = refl
 
 pub labels-without-muted :
-    (t v : Table) → Sound t → Sound v → held v ≡ without-muted (held t) → (a : ℕ) → a < document .atoms
-    → Occurs (all (held v)) a → labelAt (t .labels) a ≡ labelAt (v .labels) a
+    (t v : Table) → Sound t → Sound v → held v ≡ without-muted (held t) → (a : ℕ)
+    → Occurs (all (held v)) a → labelAt (t .words) a ≡ labelAt (v .words) a
 labels-without-muted t v S R rest = same-labels t v S R (ap active rest ∙ unmuted-active (held t))
     (λ a o. active-occurs (held t) a
     (subst (λ (P : Program). Occurs P a) (ap all rest ∙ unmuted-all (held t)) o))
 
 -- An atom that occurs and is the head of no unmuted rule is out: so is one whose rules are all muted.
 pub all-muted-out :
-    (t : Table) → Sound t → (a : ℕ) → a < document .atoms → Occurs (all (held t)) a
-    → ((s : ℕ) (r : Rule) → Held (active (held t)) s r → r .head ≡ a → ⊥) → labelAt (t .labels) a ≡ out
-all-muted-out t S a l o none-heads =
-    label-unique (held t) (S .labels .model) (S .labels .admissible .founded) a _ out (S .labels .labels a l)
+    (t : Table) → Sound t → (a : ℕ) → Occurs (all (held t)) a
+    → ((s : ℕ) (r : Rule) → Held (active (held t)) s r → r .head ≡ a → ⊥) → labelAt (t .words) a ≡ out
+all-muted-out t S a o none-heads =
+    label-unique (held t) (S .kept .model) (S .kept .admissible .founded) a _ out (labelled _ _ _ (S .kept) a)
     (is-out o (unless _ (λ e. (
-    let w = ordered-rule (active (held t)) (S .labels .model) (S .labels .admissible .founded .order)
-    (S .labels .admissible .founded .ordered) a (S .labels .admissible .founded .exactly a .0 e) in
+    let w = ordered-rule (active (held t)) (S .kept .model) (S .kept .admissible .founded .order)
+    (S .kept .admissible .founded .ordered) a (S .kept .admissible .founded .exactly a .0 e) in
     let h = rules-at (active (held t)) (w .0) (w .1) in
     none-heads (h .0) (w .0) (h .1) (w .2)))))
 
 -- The same of the calls: muting a rule, and removing it.
 pub muted-as-removed :
     (t u v : Table) (s : ℕ) → MuteEnds t s true changed.Accepted u → RemoveEnds t s changed.Accepted v → (a : ℕ)
-    → a < document .atoms → Occurs (all (held v)) a → labelAt (u .labels) a ≡ labelAt (v .labels) a
-muted-as-removed t u v s (contract.accepted w S d Y i W) (contract.accepted z T e Z j R) a l o =
+    → Occurs (all (held v)) a → labelAt (u .words) a ≡ labelAt (v .words) a
+muted-as-removed t u v s (contract.accepted w S d Y i W) (contract.accepted z T e Z j R) a o =
     let old = old-rule document (all (held t)) s d in
     let k = page-held (held t) s (old .0) (old .1) in
     let below = some-below (held t) s (k .0) (k .1) in
     let there = ap (λ (B : Pages). getD B s none) i ∙ marked-there (held t) s true (k .0) below (k .1) in
     labels-without w z s _ there refl W R
-    (j ∙ sym (set-set (held t) s _ none) ∙ ap (λ (B : Pages). set B s none) (sym i)) a l o
+    (j ∙ sym (set-set (held t) s _ none) ∙ ap (λ (B : Pages). set B s none) (sym i)) a o

@@ -16,7 +16,7 @@ use Rattle.theory.proofs.Questions.{held-below, lowest-free-of, lowest-free-non
 use Rattle.table.specs.declared.Rule.{Rule}
 use Rattle.table.specs.declared.Slot.{Slot}
 use Rattle.table.specs.Rules.{programOf, slotOf, ruleOf, pastRule}
-use Rattle.table.proofs.Programs.{program-at, program-length, slot-free, slot-held, slot-rule, slot-state, state-held}
+use Rattle.table.proofs.Programs.{program-at, program-length, slot-free, slot-held, slot-rule, slot-state}
 use Rattle.new_rule.specs.declared.FreeSlot.{FreeSlot}
 use Rattle.new_rule.specs.declared.FreeSlot.the-variants.{At, Nowhere}
 use Rattle.new_rule.specs.Parts.{LowestFree, at, nowhere}
@@ -35,13 +35,16 @@ abbrev pub NoneHolds : Program → theory.Rule → ℕ → Type 0
 NoneHolds P q i = (k : ℕ) → k < i → Held P k q → ⊥
 
 module _ (q : theory.Rule) (rules : List Rule) (i : ℕ) where
-  -- what the test of slot i tells
-  module _ (b : Bool) (told : (b ≡ true) ↔ (slotOf (getD rules i pastRule) ≡ some q)) where
+  -- what the test of the rule read in slot i tells
+  module _ (r : Rule) (read : r ≡ getD rules i pastRule) (b : Bool) (told : (b ≡ true) ↔ (slotOf r ≡ some q)) where
+    there : getD (programOf rules) i none ≡ slotOf r
+    there = program-at rules i ∙ ap slotOf (sym read)
+
     pub holds-here : b ≡ true → (true ≡ true) ↔ ((s : ℕ) × Held (programOf rules) s q)
-    holds-here t = (λ u. (i, program-at rules i ∙ told .0 t), λ w. refl)
+    holds-here t = (λ u. (i, there ∙ told .0 t), λ w. refl)
 
     pub holds-not : b ≡ false → Held (programOf rules) i q → ⊥
-    holds-not f h = clash (told .1 (sym (program-at rules i) ∙ h)) f
+    holds-not f h = clash (told .1 (sym there ∙ h)) f
 
   pub holds-none :
       length rules ≤ i → NoneHolds (programOf rules) q i → (false ≡ true) ↔ ((s : ℕ) × Held (programOf rules) s q)
@@ -57,11 +60,12 @@ AllHeld P i = (k : ℕ) → k < i → (r : theory.Rule) × Held P k r
 
 module _ (rules : List Rule) (i : ℕ) (long : length rules ≡ document .slots) (all : AllHeld (programOf rules) i) where
   pub free-here :
-      i < document .slots → getD rules i pastRule .state ≡ 0 → LowestFree (programOf rules) (At (record { 0 = i }))
-  free-here l e =
+      (r : Rule) → r ≡ getD rules i pastRule → i < document .slots → r .state ≡ 0
+      → LowestFree (programOf rules) (At (record { 0 = i }))
+  free-here r read l e =
       at i l
       (lowest-free-of (programOf rules) i (omega (arith, program-length rules))
-      (program-at rules i ∙ slot-free (getD rules i pastRule) e) all)
+      (program-at rules i ∙ ap slotOf (sym read) ∙ slot-free r e) all)
 
   pub free-none : document .slots ≤ i → LowestFree (programOf rules) Nowhere
   free-none m = nowhere (lowest-free-none (programOf rules) (λ t j. all t (omega (arith, program-length rules))))
@@ -81,6 +85,6 @@ module _ (P : Program) (r : FreeSlot) (L : LowestFree P r) where
       go (nowhere q) = q
 
 pub held-here :
-    (rules : List Rule) (i : ℕ) → (getD rules i pastRule .state ≡ 0 → ⊥)
-    → (r : theory.Rule) × Held (programOf rules) i r
-held-here rules i n = (_, state-held rules i n)
+    (rules : List Rule) (i : ℕ) (r : Rule) → r ≡ getD rules i pastRule → (r .state ≡ 0 → ⊥)
+    → (q : theory.Rule) × Held (programOf rules) i q
+held-here rules i r read n = (ruleOf r, program-at rules i ∙ ap slotOf (sym read) ∙ slot-held r n)

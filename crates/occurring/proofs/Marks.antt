@@ -16,7 +16,8 @@ use lib.Seq.{getD-set-same, getD-set-other, drop-cons, take-suc}
 use Rattle.theory.specs.Lists.{any}
 use Rattle.theory.specs.Rules.{Rule, Program, Bounded, entries, passes}
 use Rattle.theory.proofs.Lists.{clash, eqb-of, eqb-not, le-or-lt, mem}
-use Rattle.theory.proofs.Rules.{occurs-test, occurs-at, occurs-of}
+use Rattle.theory.specs.Slots.{occurs?}
+use Rattle.theory.proofs.Rules.{occurs-at, occurs-of}
 use Rattle.table.specs.declared.Atom.{Atom}
 use Rattle.table.specs.declared.Rule as table
 use Rattle.table.specs.Rules.{numbers, ruleOf, slotOf, noAtom}
@@ -85,12 +86,12 @@ marked-held r f g h n e W =
 -- What the slots below i have marked, with what the slots from i on have still to mark, is every atom that occurs.
 pub record Marking (P : Program) (n i : ℕ) (f : List Bool) : Type 0 where
   pub long : length f ≡ n
-  pub left : (a : ℕ) → a < n → (member f a || occurs-test (drop i P) a) ≡ occurs-test P a
+  pub left : (a : ℕ) → a < n → (member f a || occurs? (drop i P) a) ≡ occurs? P a
 
 pub marking-start : (P : Program) (n : ℕ) → Marking P n 0 (replicate n false)
 marking-start P n = record {
   long = length-replicate n false;
-  left = λ a l. ap (λ z. z || occurs-test P a) (all-alike n a false);
+  left = λ a l. ap (λ z. z || occurs? P a) (all-alike n a false);
 }
 
 atoms-test : (o : Option Rule) (a : ℕ) → any (eqb a) (atoms o) ≡ passes (λ r. mem a (r .head ∷ entries r)) o
@@ -101,12 +102,12 @@ atoms-test (some r) a = refl
 pub marking-next :
     (P : Program) (n i : ℕ) (o : Option Rule) (f g : List Bool) → i < length P → getD P i none ≡ o → Marking P n i f
     → Marked (atoms o) f g → Marking P n (i + 1) g
-unfolding occurs-test any
+unfolding occurs? any
 marking-next P n i o f g l here W X = record {
   long = X .long ∙ W .long;
   left = λ a k. (
-      let rest = occurs-test (drop (i + 1) P) a in
-      let step : occurs-test (drop i P) a ≡ (any (eqb a) (atoms o) || rest) =
+      let rest = occurs? (drop (i + 1) P) a in
+      let step : occurs? (drop i P) a ≡ (any (eqb a) (atoms o) || rest) =
       rw (add-one, drop-cons P i none, here, atoms-test) in
       ap (λ z. z || rest) (X .is a (omega (arith, W .long)))
       ∙ (or-assoc (member f a) (any (eqb a) (atoms o)) rest ∙ (ap (λ z. member f a || z) (sym step) ∙ W .left a k)));
@@ -114,7 +115,7 @@ marking-next P n i o f g l here W X = record {
 
 pub marking-end :
     (P : Program) (n i : ℕ) (f : List Bool) → Bounded P n → length P ≤ i → Marking P n i f → OccurringIn P (member f)
-unfolding occurs-test any
+unfolding occurs? any
 marking-end P n i f B past W a = (
   λ t. elim (le-or-lt n a) [
     | inl l ↦ absurd (clash t (List·getD-eq-default f false (omega (arith, W .long))))
@@ -123,10 +124,10 @@ marking-end P n i f B past W a = (
   λ O. all (B (O .slot) (O .rule) (O .held) a (O .there)) ∙ occurs-of P a O,
 )
   where
-    nothing : occurs-test [] a ≡ false
+    nothing : occurs? [] a ≡ false
     nothing = refl
 
-    all : a < n → member f a ≡ occurs-test P a
-    all l = sym (ap (λ z. member f a || z) (ap (λ Q. occurs-test Q a) (drop-of-length-le P past) ∙ nothing)
+    all : a < n → member f a ≡ occurs? P a
+    all l = sym (ap (λ z. member f a || z) (ap (λ Q. occurs? Q a) (drop-of-length-le P past) ∙ nothing)
         ∙ or-false (member f a))
         ∙ W .left a l

@@ -4,10 +4,12 @@ use table::Atom;
 use table::Rule;
 use table::Table;
 use table::sets::mark;
+use table::slots::rule_at;
 ghost use Rattle.theory.specs.Rules.{Bounded, entries};
 ghost use Rattle.theory.specs.Limits.{document};
 ghost use Rattle.table.specs.Sets.{member};
 ghost use Rattle.table.specs.Rules.{programOf, slotOf, ruleOf};
+ghost use Rattle.table.specs.Words.{rulesOf};
 ghost use Rattle.occurring.specs.Occurrence.{OccurringIn};
 ghost use Rattle.occurring.specs.Marks.{atoms, Marked};
 
@@ -37,14 +39,14 @@ fn mark_rule(rule: Rule, flags: &mut [bool; Table::ATOMS])
 }
 
 // Which atoms occur.
-pub fn occurring(rules: [Rule; Table::SLOTS]) -> [bool; Table::ATOMS]
-    requires { ⌜ Bounded (programOf rules) (document .atoms) ⌝ }
-    ensures { λ r. ⌜ OccurringIn (programOf rules) (member r) ⌝ }
+pub fn occurring(table: &[u16; Table::WORDS]) -> [bool; Table::ATOMS]
+    requires { ⌜ Bounded (programOf (rulesOf (now table))) (document .atoms) ⌝ }
+    ensures { λ r. ⌜ OccurringIn (programOf (rulesOf (now (table .entry)))) (member r) ⌝ }
 {
     let mut flags: [bool; Table::ATOMS] = [false; Table::ATOMS];
     let mut i: usize = 0;
     while i < Table::SLOTS {
-        let rule = rules[i];
+        let rule = rule_at(table, i);
         mark_rule(rule, &mut flags);
         i += 1;
     }

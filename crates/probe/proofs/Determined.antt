@@ -1,21 +1,18 @@
 -- Two answers of a probe that its contract allows for the same table are equal. Assumes nothing.
 use Prim.Native.Nat.{ℕ, _<_}
 use native.Mathlib.Omega.{arith}
-use mathlib.Core.Path.{_≡_, refl, sym, _∙_, ap, subst}
+use mathlib.Core.Path.{_≡_, refl, sym, _∙_, ap}
 use mathlib.Core.List.{List}
-use lib.ListN.{length, getD}
 use lib.Seq.{ext-getD}
-use Rattle.theory.specs.Models.{AtomSet}
 use Rattle.theory.specs.Limits.{document}
-use Rattle.theory.proofs.Labels.{same-label}
 use Rattle.theory.proofs.Bounds.{told-unique}
-use Rattle.table.specs.declared.Label.{Label}
+use Rattle.theory.proofs.Slots.{slots-determined}
 use Rattle.table.specs.declared.Table.{Table}
 use Rattle.table.specs.Rules.{bookOf}
-use Rattle.table.specs.Labels.{absentLabel}
+use Rattle.table.specs.Words.{tableOf, rulesOf, depthAt, spoilerAt}
 use Rattle.table.specs.Sets.{number}
-use Rattle.table.proofs.CleanLabels.{label-equal}
-use Rattle.labels.specs.Labelling.{Labels}
+use Rattle.table.proofs.Programs.{book-length}
+use Rattle.table.proofs.Words.{rules-length, words-determined}
 use Rattle.probe.specs.declared.Relabelled.{Relabelled}
 use Rattle.probe.specs.declared.RoundsCounted.{RoundsCounted}
 use Rattle.probe.specs.Probes.{SoundProbe, is-sound, is-not}
@@ -28,28 +25,24 @@ sound-probe-determined t x y (is-sound S) (is-not n) = absurd (n S)
 sound-probe-determined t x y (is-not n) (is-sound T) = absurd (n T)
 sound-probe-determined t x y (is-not n) (is-not m) = refl
 
--- Rules without a negative cycle have one admissible model, so each atom one label; and the labels are clean.
+-- Rules without a negative cycle have one admissible model, so each slot has one depth and one spoiler to keep.
 pub labels-probe-determined : (t : Table) (x y : Relabelled) → LabelsProbe t x → LabelsProbe t y → x ≡ y
 labels-probe-determined t x y (unfit n) (unfit m) = refl
 labels-probe-determined t x y (unfit n) (cyclic F c) = absurd (n F)
-labels-probe-determined t x y (unfit n) (labelled M u F free e l L) = absurd (n F)
+labels-probe-determined t x y (unfit n) (labelled u F free e l K) = absurd (n F)
 labels-probe-determined t x y (cyclic F c) (unfit n) = absurd (n F)
 labels-probe-determined t x y (cyclic F c) (cyclic G d) = refl
-labels-probe-determined t x y (cyclic F c) (labelled M u G free e l L) = absurd (free c)
-labels-probe-determined t x y (labelled M u F free e l L) (unfit n) = absurd (n F)
-labels-probe-determined t x y (labelled M u F free e l L) (cyclic G c) = absurd (free c)
-labels-probe-determined t x y (labelled M u F free e l L) (labelled N v G also f k K) =
-    λ i. record { refused = 0; table = record { rules = rules i; labels = labels i } }
+labels-probe-determined t x y (cyclic F c) (labelled u G free e l K) = absurd (free c)
+labels-probe-determined t x y (labelled u F free e l K) (unfit n) = absurd (n F)
+labels-probe-determined t x y (labelled u F free e l K) (cyclic G c) = absurd (free c)
+labels-probe-determined t x y (labelled u F free e l K) (labelled v G also f k L) =
+    ap (λ (w : List ℕ). record { refused = 0; table = tableOf w })
+    (words-determined (u .words) (v .words) l k (e ∙ sym f) (λ s m. same s m .0) (λ s m. same s m .1))
   where
-    rules : u .rules ≡ v .rules
-    rules = e ∙ sym f
-
-    labels : u .labels ≡ v .labels
-    labels = ext-getD absentLabel (u .labels) (v .labels) (l ∙ sym k) (λ a b. (
-        let low : a < document .atoms = omega arith in
-        label-equal (getD (u .labels) a absentLabel) (getD (v .labels) a absentLabel) (L .clean a low) (K .clean a low)
-        (same-label (bookOf (t .rules)) M N a _ _ free (L .admissible) (K .admissible) (L .labelled a)
-        (K .labelled a))))
+    same : (s : ℕ) → s < document .slots
+        → (depthAt (u .words) s ≡ depthAt (v .words) s) × (spoilerAt (u .words) s ≡ spoilerAt (v .words) s)
+    same s m = slots-determined (bookOf (rulesOf (t .words))) free _ _ _ _ K L s
+        (omega (arith, book-length (rulesOf (t .words)), rules-length (t .words)))
 
 pub rounds-probe-determined : (t : Table) (x y : RoundsCounted) → RoundsProbe t x → RoundsProbe t y → x ≡ y
 rounds-probe-determined t x y (not-fit n) (not-fit m) = refl
@@ -62,4 +55,4 @@ rounds-probe-determined t x y (counted r F free l R) (not-fit n) = absurd (n F)
 rounds-probe-determined t x y (counted r F free l R) (no-strata G c) = absurd (free c)
 rounds-probe-determined t x y (counted r F free l R) (counted q G also k Q) =
     ap (λ (z : List ℕ). record { refused = 0; rounds = z })
-    (ext-getD 0 r q (l ∙ sym k) (λ i b. told-unique (bookOf (t .rules)) i (number r i) (number q i) (R i) (Q i)))
+    (ext-getD 0 r q (l ∙ sym k) (λ i b. told-unique (bookOf (rulesOf (t .words))) i (number r i) (number q i) (R i) (Q i)))

@@ -1,7 +1,7 @@
 // The engine's phases, exported for comparison runs and benchmarks. Not part of the library's interface.
 use history_replay::Replayed;
 use history_replay::replay;
-use labels::labels_of;
+use labels::relabel;
 use model::Search;
 use model::in_atoms;
 use sound::sound;
@@ -12,10 +12,11 @@ use well_formed::slots_well_formed;
 ghost use mathlib.Core.Path.{_≡_};
 ghost use mathlib.Core.Bool.{true};
 ghost use mathlib.Core.Logic.{_↔_};
+ghost use Rattle.table.specs.Words.{tableOf};
 ghost use Rattle.history_replay.specs.Replays.{Replays};
 ghost use Rattle.probe.specs.Probes.{RulesFit, SoundProbe, LabelsProbe, RoundsProbe, no-rounds};
 
-// The table with the labels that its rules give, or as it came: `refused` is 0, or the number of the question that the
+// The table with what its slots have to keep, or as it came: `refused` is 0, or the number of the question that the
 // rules answer no (15 or 7).
 #[repr(C)]
 pub struct Relabelled {
@@ -36,38 +37,35 @@ pub struct RoundsCounted {
 pub extern "C" fn probe_sound(table: Table) -> u32
     ensures { λ r. ⌜ SoundProbe table r ⌝ }
 {
-    if sound(table) {
+    if sound(&table.words) {
         return 1;
     }
     0
 }
 
 // Are the table's rules sound by themselves?
-fn fit(table: Table) -> bool
-    ensures { λ r. ⌜ (r ≡ true) ↔ RulesFit table ⌝ }
+fn fit(table: &[u16; Table::WORDS]) -> bool
+    ensures { λ r. ⌜ (r ≡ true) ↔ RulesFit (tableOf (now (table .entry))) ⌝ }
 {
-    let rules = table.rules;
-    if !slots_well_formed(rules) {
+    if !slots_well_formed(table) {
         return false;
     }
-    no_two_equal(rules)
+    no_two_equal(table)
 }
 
-// The labels of the table's rules, where these are sound by themselves.
+// The table with what its slots have to keep, where its rules are sound by themselves.
 #[no_mangle]
 pub extern "C" fn probe_labels(table: Table) -> Relabelled
     ensures { λ r. ⌜ LabelsProbe table r ⌝ }
 {
-    if !fit(table) {
+    if !fit(&table.words) {
         return Relabelled {
             refused: 15,
             table: table,
         };
     }
-    let rules = table.rules;
-    let l = labels_of(rules);
-    let labels = l.labels;
-    if !l.acyclic {
+    let mut words = table.words;
+    if !relabel(&mut words) {
         return Relabelled {
             refused: 7,
             table: table,
@@ -75,10 +73,7 @@ pub extern "C" fn probe_labels(table: Table) -> Relabelled
     }
     Relabelled {
         refused: 0,
-        table: Table {
-            rules: rules,
-            labels: labels,
-        },
+        table: Table { words: words },
     }
 }
 
@@ -97,16 +92,15 @@ fn no_rounds(refused: u32) -> RoundsCounted
 pub extern "C" fn probe_rounds(table: Table) -> RoundsCounted
     ensures { λ r. ⌜ RoundsProbe table r ⌝ }
 {
-    if !fit(table) {
+    if !fit(&table.words) {
         return no_rounds(15);
     }
-    let rules = table.rules;
-    let s = strata(rules);
+    let s = strata(&table.words);
     let of = s.of;
     if !s.acyclic {
         return no_rounds(7);
     }
-    let search = in_atoms(rules, &of);
+    let search = in_atoms(&table.words, &of);
     let rounds = search.rounds;
     RoundsCounted {
         refused: 0,

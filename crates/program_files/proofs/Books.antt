@@ -9,7 +9,7 @@ use lib.ListN.{length, take}
 use lib.Seq.{take-all, take-append-seam}
 use Rattle.theory.specs.Rules.{Pages}
 use Rattle.theory.specs.Labels.{Label}
-use Rattle.theory.specs.Sound.{SoundLabels}
+use Rattle.theory.specs.Sound.{SoundRules}
 use Rattle.theory.specs.Questions.{first-no}
 use Rattle.theory.specs.Limits.{document}
 use Rattle.theory.proofs.Questions.{first-no-none}
@@ -36,9 +36,8 @@ use Rattle.program_files.specs.Loads.{LoadsInput}
 
 -- Saving. The file of a sound table has room, so neither 15 nor 11 is met.
 
-file-short : {B : Pages} {label : ℕ → Label} → SoundLabels document B label → length (fileOf B) ≤ LONGEST
-file-short {B} {label} s =
-    whole-short (fileOf B) (first-no-none _ _ (file-accepted B label s) .0)
+file-short : {B : Pages} → SoundRules document B → length (fileOf B) ≤ LONGEST
+file-short {B} s = whole-short (fileOf B) (first-no-none _ _ (file-accepted B s) .0)
 
 saved-file :
     (t : Table) (before after : List ℕ) (x : ListAnswer) → Sound t → LONGEST ≤ length before → SaveEnds t before x after
@@ -48,7 +47,7 @@ saved-file t before after x S room (contract.refused f T e) =
     let asked : none ≡ some (numberOf f) = unfold first-no in e in
     absurd (Option·none-ne-some (numberOf f) asked)
 saved-file t before after x S room (contract.short M bs T e A i l) =
-    absurd (omega (arith, room, l, ap length i, file-short (S .labels)))
+    absurd (omega (arith, room, l, ap length i, file-short (S .rules)))
 saved-file t before after x S room (contract.accepted M bs T e A i l) = take-append-seam bs _ ∙ i
 
 -- What is saved is the file of the book's pages after exactly the calls that the lines of the sheet are.
@@ -77,12 +76,10 @@ pub saved-loaded :
 saved-loaded {out = out} {r = r} s p =
     let claim = program-history (s .sheet) in
     let B = bookAfter (callsOf (fedBytes (s .sheet))) in
-    let sound = claim .sound .labels in
-    let label = labelAt (r .last .reply .table .labels) in
-    let S : SoundLabels document B label = subst (λ (C : Pages). SoundLabels document C label) (claim .slots) sound in
+    let S : SoundRules document B = subst (λ (C : Pages). SoundRules document C) (claim .slots) (claim .sound .rules) in
     let seen = load-book (subst (λ (f : List ℕ). LoadPrints f out) (saved-book s) p) in
-    subst (λ (C : Pages). SeesLabels C out) (file-pages B label S)
-    (subst (λ (o : Option ℕ). LoadSeen (fileOf B) o out) (file-accepted B label S) seen)
+    subst (λ (C : Pages). SeesLabels C out) (file-pages B S)
+    (subst (λ (o : Option ℕ). LoadSeen (fileOf B) o out) (file-accepted B S) seen)
 
 -- Unless it could not be written, that file was handed to standard output, and nothing else was.
 shown-whole :

@@ -7,6 +7,7 @@ use sheet_feed::feed;
 ghost use Prim.Native.Nat.{_+_, _-_, _*_, _≤_, _<_, _^_};
 ghost use mathlib.Core.Path.{_≡_};
 ghost use lib.ListN.{length, take, drop};
+ghost use Rattle.table.specs.Sound.{Sound};
 ghost use Rattle.sheet_meaning.specs.Sheets.{MOST};
 ghost use Rattle.program_loop.specs.Takes.{SPACE, Answers, Takes, TakesRead, TakesInput};
 
@@ -36,9 +37,11 @@ fn answer(
     shown: &mut usize,
     lost: &mut usize,
 ) -> Sheet
+    requires { ⌜ Sound (sheet .table) ⌝ }
     requires { ⌜ (length (now out) ≡ SPACE) × (now shown + SPACE * length (now piece) < 2 ^ 64) × (now lost ≡ 0) ⌝ }
     ensures { λ r. ⌜ Answers sheet showing (now (piece .entry))
         (now (shown .entry)) (now (shown .exit)) (now (lost .exit)) r ⌝ }
+    ensures { λ r. ⌜ Sound (r .table) ⌝ }
 {
     let mut s = sheet;
     let mut from: usize = 0;
@@ -62,10 +65,12 @@ fn take_piece(
     shown: &mut usize,
     lost: &mut usize,
 ) -> Sheet
+    requires { ⌜ Sound (sheet .table) ⌝ }
     requires { ⌜ (from ≤ end) × (end ≤ length (now input)) ⌝ }
     requires { ⌜ (length (now out) ≡ SPACE) × (now shown + SPACE * (end - from) < 2 ^ 64) × (now lost ≡ 0) ⌝ }
     ensures { λ r. ⌜ Takes task sheet (take (end - from) (drop from (now (input .entry))))
         (now (shown .entry)) (now (shown .exit)) (now (lost .exit)) r ⌝ }
+    ensures { λ r. ⌜ Sound (r .table) ⌝ }
 {
     match task {
         Task::Answer(showing) => answer(sheet, &input[from..end], showing, out, shown, lost),
@@ -84,11 +89,13 @@ fn take_read(
     shown: &mut usize,
     lost: &mut usize,
 ) -> Sheet
+    requires { ⌜ Sound (sheet .table) ⌝ }
     requires { ⌜ (length (now input) ≤ MOST) × (now read < length (now input)) × (0 < now got) ⌝ }
     requires { ⌜ (length (now out) ≡ SPACE) × (now shown ≤ SPACE * now read) × (now lost ≡ 0) ⌝ }
     ensures { λ r. ⌜ TakesRead task sheet
         (now (input .entry)) (now (read .entry)) (now (got .entry)) (now (shown .entry))
         (now (input .exit)) (now (read .exit)) (now (got .exit)) (now (shown .exit)) (now (lost .exit)) r ⌝ }
+    ensures { λ r. ⌜ Sound (r .table) ⌝ }
 {
     let from = *read;
     read_on(input, read, got, lost);
@@ -108,10 +115,12 @@ pub fn take_input(
     shown: &mut usize,
     lost: &mut usize,
 ) -> Sheet
+    requires { ⌜ Sound (sheet .table) ⌝ }
     requires { ⌜ (length (now input) ≤ MOST) × (length (now out) ≡ SPACE) ⌝ }
     requires { ⌜ (now read ≡ 0) × (0 < now got) × (now shown ≡ 0) × (now lost ≡ 0) ⌝ }
     ensures { λ r. ⌜ TakesInput task sheet (now (input .exit))
         (now (read .exit)) (now (got .exit)) (now (shown .exit)) (now (lost .exit)) r ⌝ }
+    ensures { λ r. ⌜ Sound (r .table) ⌝ }
 {
     let mut s = sheet;
     while *lost == 0 && *got > 0 && *read < input.len() {

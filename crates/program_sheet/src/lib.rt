@@ -11,6 +11,7 @@ ghost use Prim.Native.Nat.{_+_, _<_, _^_};
 ghost use mathlib.Core.Path.{_≡_};
 ghost use mathlib.Core.Bool.{true, false};
 ghost use lib.ListN.{length};
+ghost use Rattle.table.specs.Sound.{Sound};
 ghost use Rattle.sheet_meaning.specs.Sheets.{MOST};
 ghost use Rattle.program_loop.specs.Takes.{SPACE};
 ghost use Rattle.program_sheet.specs.Answered.{RepliesLast, AnswersFrom, AnswersLast, AnswersSheet};
@@ -37,9 +38,11 @@ fn reply_last(
     shown: &mut usize,
     lost: &mut usize,
 ) -> Reply
+    requires { ⌜ Sound (sheet .table) ⌝ }
     requires { ⌜ (length (now out) ≡ SPACE) × (now shown + SPACE < 2 ^ 64) ⌝ }
     ensures { λ r. ⌜ RepliesLast sheet showing (now (out .entry)) (now (out .exit)) (now (shown .entry))
         (now (lost .entry)) (now (shown .exit)) (now (lost .exit)) r ⌝ }
+    ensures { λ r. ⌜ Sound (r .table) ⌝ }
 {
     let reply = reply_at(sheet, out, 0);
     if *lost > 0 {
@@ -51,8 +54,10 @@ fn reply_last(
 
 // Answers each line as it comes, and then the last one.
 fn answer_from(sheet: Sheet, showing: bool, input: &mut [u8]) -> Last
+    requires { ⌜ Sound (sheet .table) ⌝ }
     requires { ⌜ length (now input) ≡ MOST ⌝ }
     ensures { λ r. ⌜ AnswersFrom sheet showing (now (input .exit)) r ⌝ }
+    ensures { λ r. ⌜ Sound (r .reply .table) ⌝ }
 {
     let mut out = output_buffer();
     let mut read: usize = 0;

@@ -1,36 +1,37 @@
 -- How the calls end: what a sound table keeps is what is defined, and what the leaves answer is what the contracts ask.
 -- Assumes nothing.
-use Prim.Native.Nat.{ℕ}
-use mathlib.Core.Path.{_≡_, sym, _∙_, ap, subst}
-use mathlib.Core.Bool.{Bool, true, false, true≢false}
+use Prim.Native.Nat.{ℕ, _≤_, _<_}
+use native.Mathlib.Omega.{arith}
+use mathlib.Core.Path.{_≡_, refl, sym, _∙_, ap, subst}
+use mathlib.Core.Bool.{Bool, true, false, cond}
 use mathlib.Core.List.{List}
-use mathlib.Core.Option.{some}
+use mathlib.Core.Option.{Option, none, some, Option·none-ne-some}
+use lib.Dec.{leb}
 use lib.ListN.{length, getD}
 use Rattle.theory.specs.Lists.{Lists}
-use Rattle.theory.specs.Rules.{Page, all, active, Bounded}
+use Rattle.theory.specs.Rules.{Page, Pages, active, active-on, Bounded, entries, rule-on}
 use Rattle.theory.specs.Models.{AtomSet, Admissible}
-use Rattle.theory.specs.Labels.{absent, out, in-at, Labelled, is-in, Supporting}
-use Rattle.theory.specs.Labels as theory-labels
-use Rattle.theory.specs.Questions.{atom-questions, is-in-label}
+use Rattle.theory.specs.Labels.{place-over, Spoiler, spoiler, Supporting}
+use Rattle.theory.specs.Slots.{place-kept, slot-spoiler, spoiler-at}
+use Rattle.theory.specs.Questions.{atom-questions}
 use Rattle.theory.specs.Limits.{document}
-use Rattle.theory.specs.Certificate.{kept-in, slot-in}
-use Rattle.theory.proofs.Certificate.{Certified, certified-admissible, certified-labels}
+use Rattle.theory.proofs.Labels.{spoils}
+use Rattle.theory.proofs.Pages.{active-at, active-bounded, all-at}
+use Rattle.theory.proofs.Slots.{place-entry, spoiler-read}
 use Rattle.table.specs.declared.Atom.{Atom}
 use Rattle.table.specs.declared.Label.{Label}
 use Rattle.table.specs.declared.Rule.{Rule}
 use Rattle.table.specs.declared.Slot.{Slot}
 use Rattle.table.specs.declared.Table.{Table}
 use Rattle.table.specs.Sets.{member, number, Flags}
-use Rattle.table.specs.Rules.{pageOf, ruleOf}
+use Rattle.table.specs.Rules.{ruleOf}
+use Rattle.table.specs.Words.{rulesOf, spoilerAt}
 use Rattle.table.specs.Clean.{freeRule}
-use Rattle.table.specs.Labels.{labelAt, labelOf, absentLabel}
+use Rattle.table.specs.Labels.{labelAt, labelOf}
 use Rattle.table.specs.Sound.{Sound}
 use Rattle.table.specs.declared.arrays.LabelArrays.{LabelArrays}
 use Rattle.table.specs.Arrays.{ArraysOf}
-use Rattle.table.proofs.LabelArrays.{flags-are, slots-are}
-use Rattle.theory.proofs.Pages.{active-bounded, page-held}
-use Rattle.theory.proofs.Questions.{passed-bounded}
-use Rattle.sound.proofs.Soundness.{kept-certified, sound-kept, sound-occurrence}
+use Rattle.table.proofs.Programs.{page-free, page-there}
 use Rattle.refusals.specs.declared.Refusal.{Refusal}
 use Rattle.calls.specs.declared.AskedAtom.{AskedAtom}
 use Rattle.calls.specs.declared.AskedAtom.the-variants.{Passed, Refused}
@@ -38,78 +39,104 @@ use Rattle.calls.specs.declared.ListAnswer.{ListAnswer}
 use Rattle.calls.specs.declared.ListAnswer.the-variants as listed
 use Rattle.calls.specs.declared.LabelAnswer.{LabelAnswer}
 use Rattle.calls.specs.declared.SpoilerAnswer.{SpoilerAnswer}
+use Rattle.calls.specs.declared.SpoilerAnswer.the-variants as spoilt
 use Rattle.calls.specs.Asking.{AskAtomEnds}
-use Rattle.calls.specs.Answers.{tellLabel, tellPage}
+use Rattle.calls.specs.Answers.{tellLabel, tellPage, tellSpoiler}
 use Rattle.calls.specs.Contracts.{held, LabelEnds, SpoilerEnds, ListEnds}
 use Rattle.calls.specs.Contracts as contract
-use Rattle.calls.proofs.Asking.{Passes, passes-low, ask-passed, list-refused, PassesSlot, page-is, slot-holds}
+use Rattle.calls.proofs.Asking.{Passes, ask-passed, list-refused, PassesSlot, page-is, slot-holds, slot-low}
+use Rattle.reading.proofs.SoundArrays.{flag-model, flags-model, in-supporting, sound-bounded, sound-label}
 use Rattle.written_lists.specs.Lists.{below}
 use Rattle.written_lists.specs.Written.{Written, short, fits}
 use Rattle.written_lists.proofs.Lists.{flags-list}
 
--- Every atom of a sound table's rules is below the number of atoms.
-pub sound-bounded : (t : Table) → Sound t → Bounded (all (held t)) (document .atoms)
-sound-bounded t S = passed-bounded document (all (held t)) (S .labels .passes)
-
--- So is every atom of the unmuted ones.
+-- Every atom of a sound table's unmuted rules is below the number of atoms.
 pub active-low : (t : Table) → Sound t → Bounded (active (held t)) (document .atoms)
 active-low t S = active-bounded (held t) (document .atoms) (sound-bounded t S)
 
--- What a sound table keeps is what is defined. The in atoms kept are the model.
-module _ (t : Table) (slots : length (t .rules) ≡ document .slots) (atoms : length (t .labels) ≡ document .atoms)
-    (S : Sound t) where
-  abbrev label : ℕ → theory-labels.Label
-  label = labelAt (t .labels)
+-- The in atoms kept are the model, each with its supporting slot.
+module _ (t : Table) (S : Sound t) (k : LabelArrays) (K : ArraysOf (t .words) k) where
+  pub flags-admissible : Admissible (active (held t)) (member (k .flags))
+  flags-admissible = rw (flags-model t S k K) (S .kept .admissible)
 
-  certified : Certified (held t) label
-  certified = kept-certified (held t) label (sound-kept t slots atoms S) (sound-occurrence t slots atoms S)
+  pub flags-supports :
+      (h : ℕ) → member (k .flags) h ≡ true → Supporting (active (held t)) (member (k .flags)) h (number (k .slots) h)
+  flags-supports h e =
+      rw (flags-model t S k K) (in-supporting t S k K h (sym (flag-model t S k K h) ∙ e))
 
-  sound-model : Admissible (active (held t)) (kept-in label)
-  sound-model = certified-admissible (held t) label certified
-
-  sound-label : (a : ℕ) → Labelled (held t) (kept-in label) a (label a)
-  sound-label = certified-labels (held t) label certified
-
-  sound-supports : (h : ℕ) → kept-in label h ≡ true → Supporting (active (held t)) (kept-in label) h (slot-in (label h))
-  sound-supports h e = go (label h) e (sound-label h)
-    where
-      go :
-          (l : theory-labels.Label) → is-in-label l ≡ true → Labelled (held t) (kept-in label) h l
-          → Supporting (active (held t)) (kept-in label) h (slot-in l)
-      go absent q w = absurd (true≢false (sym q))
-      go out q w = absurd (true≢false (sym q))
-      go (in-at d s) q (is-in i D T) = T
-
-  -- the same of the arrays
-  module _ (k : LabelArrays) (K : ArraysOf (t .labels) k) where
-    pub flags-model : Admissible (active (held t)) (member (k .flags))
-    flags-model = rw (flags-are (t .labels) k K) sound-model
-
-    pub spoiler-ends :
-        (s : ℕ) (x : Slot) → PassesSlot t s x → (q : Rule) → q ≡ getD (t .rules) (x .0) freeRule → (r : SpoilerAnswer)
-        → ((p : Page) → pageOf q ≡ some p → r ≡ tellPage (member (k .flags)) p) → SpoilerEnds t s r
-    spoiler-ends s x Q q e r u =
-        let is : q ≡ getD (t .rules) s freeRule = e ∙ ap (λ (z : ℕ). getD (t .rules) z freeRule) (Q .slot) in
-        let w = page-held (held t) s (ruleOf q) (slot-holds t s q is (Q .yes)) in
-        rw (u (w .0) (sym (page-is t s q is) ∙ w .1))
-        (contract.accepted (member (k .flags)) (w .0) S (Q .yes) (w .1) flags-model)
-
-    pub flags-supports :
-        (h : ℕ) → member (k .flags) h ≡ true → Supporting (active (held t)) (member (k .flags)) h (number (k .slots) h)
-    flags-supports h e =
-        let q : kept-in label h ≡ true = sym (ap (λ (M : AtomSet). M h) (flags-are (t .labels) k K)) ∙ e in
-        let s : number (k .slots) h ≡ slot-in (label h) = ap (λ (f : ℕ → ℕ). f h) (slots-are (t .labels) k K) in
-        rw (flags-are (t .labels) k K, s) (sound-supports h q)
-
--- How a call on an atom ends that tells its kept label.
+-- How a call on an atom ends that tells its label.
 pub label-ends :
     (t : Table) (a : ℕ) (x : Atom) (l : Label) (r : LabelAnswer) → Passes t a x
-    → l ≡ getD (t .labels) (x .0) absentLabel → r ≡ tellLabel (labelOf l) → LabelEnds t a r
+    → labelOf l ≡ labelAt (t .words) (x .0) → r ≡ tellLabel (labelOf l) → LabelEnds t a r
 label-ends t a x l r Q e u =
-    let labels = Q .sound .labels in
-    rw (u, e, Q .atom)
-    (contract.accepted (labels .model) (labelAt (t .labels) a) (Q .sound) (Q .yes) (labels .admissible)
-    (labels .labels a (passes-low t a x Q)))
+    let S = Q .sound in
+    let is : r ≡ tellLabel (labelAt (t .words) a) = u ∙ ap tellLabel (e ∙ ap (labelAt (t .words)) (Q .atom)) in
+    rw is
+    (contract.accepted (S .kept .model) (labelAt (t .words) a) S (Q .yes) (S .kept .admissible) (sound-label t S a))
+
+-- What the place that a slot keeps tells of its page p.
+module _ (B : Pages) (M : AtomSet) (s place : ℕ) (kept : place ≡ slot-spoiler B M s) (p : Page)
+    (here : getD B s none ≡ some p) where
+  read : place ≡ place-kept M (active-on (some p))
+  read = kept ∙ ap (place-kept M) (active-at B s ∙ ap active-on here)
+
+  pub place-low : place ≤ length (entries (p .rule))
+  place-low = go (p .muted) read
+    where
+      of : (o : Option Spoiler) → spoiler M (p .rule) ≡ o → place-over (p .rule) o ≤ length (entries (p .rule))
+      of none e = omega arith
+      of (some z) e = (let w = place-entry M (p .rule) z (spoils M (p .rule) z e) in omega (arith, w .1, w .2))
+
+      go : (m : Bool) → place ≡ place-kept M (active-on (some (record { rule = p .rule; muted = m })))
+          → place ≤ length (entries (p .rule))
+      go true e = omega arith
+      go false e = omega (arith, of (spoiler M (p .rule)) refl)
+
+  pub place-told :
+      cond (p .muted) spoilt.Muted (tellSpoiler (spoiler-at (p .rule) place)) ≡ tellPage M p
+  place-told = go (p .muted) read
+    where
+      go : (m : Bool) → place ≡ place-kept M (active-on (some (record { rule = p .rule; muted = m })))
+          → cond m spoilt.Muted (tellSpoiler (spoiler-at (p .rule) place))
+          ≡ tellPage M (record { rule = p .rule; muted = m })
+      go true e = refl
+      go false e = ap tellSpoiler (ap (spoiler-at (p .rule)) e ∙ spoiler-read M (p .rule))
+
+-- How a call on a slot ends that tells of its rule q, by the place that the slot keeps.
+module _ (t : Table) (s : ℕ) (x : Slot) (Q : PassesSlot t s x) (q : Rule)
+    (e : q ≡ getD (rulesOf (t .words)) (x .0) freeRule) (place : ℕ) (kept : place ≡ spoilerAt (t .words) (x .0)) where
+  is : q ≡ getD (rulesOf (t .words)) s freeRule
+  is = e ∙ ap (λ (z : ℕ). getD (rulesOf (t .words)) z freeRule) (Q .slot)
+
+  some-state : q .state ≡ 0 → ⊥
+  some-state z =
+      Option·none-ne-some (ruleOf q)
+      (sym (all-at (held t) s ∙ ap rule-on (page-is t s q is ∙ page-free q z)) ∙ slot-holds t s q is (Q .yes))
+
+  page : Page
+  page = record { rule = ruleOf q; muted = leb 2 (q .state) }
+
+  holds : getD (held t) s none ≡ some page
+  unfolding page
+  holds = page-is t s q is ∙ page-there q some-state
+
+  kept-here : place ≡ slot-spoiler (held t) (Q .sound .kept .model) s
+  kept-here =
+      kept ∙ ap (spoilerAt (t .words)) (Q .slot)
+      ∙ Q .sound .kept .spoilers s (omega (arith, slot-low t s x Q, Q .sound .rules .slots))
+
+  pub spoiler-low : place ≤ length (entries (ruleOf q))
+  unfolding page
+  spoiler-low = place-low (held t) (Q .sound .kept .model) s place kept-here page holds
+
+  pub spoiler-ends :
+      (r : SpoilerAnswer) → r ≡ cond (leb 2 (q .state)) spoilt.Muted (tellSpoiler (spoiler-at (ruleOf q) place))
+      → SpoilerEnds t s r
+  unfolding page
+  spoiler-ends r u =
+      let M = Q .sound .kept .model in
+      let told : r ≡ tellPage M page = u ∙ place-told (held t) M s place kept-here page holds in
+      rw told (contract.accepted M page (Q .sound) (Q .yes) holds (Q .sound .kept .admissible))
 
 -- How a call ends that lists a set of an atom: it is refused as the questions before are, or what was found and written
 -- is the set, in the model M.

@@ -1,23 +1,29 @@
--- A label, a spoiler and a page told as an answer. Assumes nothing.
-use Prim.Native.Nat.{ℕ, zero, suc, _≤_, _<_}
+-- A label and a spoiler told as an answer. Assumes nothing.
+use Prim.Native.Nat.{ℕ, suc, _+_, _-_, _≤_, _<_, min}
 use native.Mathlib.Omega.{arith}
-use mathlib.Core.Path.{_≡_, sym, _∙_, ap}
-use mathlib.Core.Option.{Option, some, Option·none-ne-some, Option·some-injective}
-use Rattle.theory.specs.Rules.{Page}
-use Rattle.theory.specs.Models.{AtomSet}
-use Rattle.theory.specs.Labels as theory
+use mathlib.Core.Path.{_≡_, refl, sym, _∙_, ap, subst}
+use mathlib.Core.Bool.{true, false, cond}
+use mathlib.Core.List.{List}
+use lib.Dec.{leb}
+use lib.ListN.{length, getD, take, length-append, length-map, length-take, List·getD-append, List·getD-map}
+use lib.Seq.{getD-append-add, getD-take}
+use Rattle.theory.specs.Rules.{entries}
+use Rattle.theory.specs.Rules as theory
+use Rattle.theory.specs.Slots.{spoiler-at}
+use Rattle.theory.specs.Limits.{document}
+use Rattle.theory.proofs.Lists.{le-leb, unless, leb-le}
+use Rattle.theory.proofs.Slots.{at-negative, at-positive}
 use Rattle.table.specs.declared.Atom.{Atom}
 use Rattle.table.specs.declared.Label.{Label}
 use Rattle.table.specs.declared.Rule.{Rule}
-use Rattle.table.specs.declared.Spoiler.{Spoiler}
-use Rattle.table.specs.declared.Spoiler.the-variants.{Nothing, Positive, Negative}
-use Rattle.table.specs.Rules.{page-in, pageOf, ruleOf, spoilerOf}
+use Rattle.table.specs.Rules.{noAtom, numbers, ruleOf}
 use Rattle.table.specs.Labels.{labelOf}
+use Rattle.table.proofs.Entries.{entries-are}
 use Rattle.table.proofs.Programs.{label-is-in}
 use Rattle.calls.specs.declared.LabelAnswer.the-variants as label
 use Rattle.calls.specs.declared.SpoilerAnswer.{SpoilerAnswer}
 use Rattle.calls.specs.declared.SpoilerAnswer.the-variants as spoilt
-use Rattle.calls.specs.Answers.{tellLabel, tellPage, tellSpoiler}
+use Rattle.calls.specs.Answers.{tellLabel, tellSpoiler}
 
 pub told-in :
     (l : Label) → (l .state ≡ 0 → ⊥) → (l .state ≡ 1 → ⊥) → label.In (l .depth) (l .slot) ≡ tellLabel (labelOf l)
@@ -25,33 +31,66 @@ told-in l m n =
     let more : 1 < l .state = omega arith in
     sym (ap tellLabel (label-is-in l more))
 
-module _ (f : Spoiler) (o : Option theory.Spoiler) (p : spoilerOf f ≡ o) where
-  pub told-valid : f ≡ Nothing → spoilt.Valid ≡ tellSpoiler o
-  told-valid e = ap (λ g. tellSpoiler (spoilerOf g)) (sym e) ∙ ap tellSpoiler p
+-- At place 0 of a rule there is no spoiler.
+pub told-valid : (q : theory.Rule) (place : ℕ) → place ≡ 0 → spoilt.Valid ≡ tellSpoiler (spoiler-at q place)
+unfolding spoiler-at
+told-valid q place z = sym (ap (λ k. tellSpoiler (spoiler-at q k)) z)
 
-  pub told-needs : (i : ℕ) (a : Atom) → f ≡ Positive i a → spoilt.Positive i a ≡ tellSpoiler o
-  told-needs i a e = ap (λ g. tellSpoiler (spoilerOf g)) (sym e) ∙ ap tellSpoiler p
+-- The entry k of a rule, at the place after k.
+module _ (r : Rule) (long : length (r .entries) ≡ document .entries) (place k : ℕ) (after : place ≡ suc k)
+    (low : place ≤ length (entries (ruleOf r))) where
+  abbrev q : theory.Rule
+  q = ruleOf r
 
-  pub told-blocked : (i : ℕ) (a : Atom) → f ≡ Negative i a → spoilt.Negative i a ≡ tellSpoiler o
-  told-blocked i a e = ap (λ g. tellSpoiler (spoilerOf g)) (sym e) ∙ ap tellSpoiler p
+  abbrev most : ℕ
+  most = min (r .positives + r .negatives) (document .entries)
 
--- A slot's page told by its state.
-module _ (r : Rule) (M : AtomSet) where
-  pub told-muted : 1 < r .state → (p : Page) → pageOf r ≡ some p → spoilt.Muted ≡ tellPage M p
-  told-muted l p e = go (r .state) l e
-    where
-      go : (n : ℕ) → 1 < n → page-in n (ruleOf r) ≡ some p → spoilt.Muted ≡ tellPage M p
-      go zero k q = absurd (omega arith)
-      go (suc zero) k q = absurd (omega arith)
-      go (suc (suc n)) k q = ap (tellPage M) (Option·some-injective _ p q)
+  all : numbers (take most (r .entries)) ≡ entries q
+  all = entries-are r (document .entries) long most refl
 
-  pub told-unmuted :
-      r .state ≤ 1 → (x : SpoilerAnswer) → x ≡ tellSpoiler (theory.spoiler M (ruleOf r)) → (p : Page)
-      → pageOf r ≡ some p → x ≡ tellPage M p
-  told-unmuted l x told p e = told ∙ go (r .state) l e
-    where
-      go : (n : ℕ) → n ≤ 1 → page-in n (ruleOf r) ≡ some p
-          → tellSpoiler (theory.spoiler M (ruleOf r)) ≡ tellPage M p
-      go zero k q = absurd (Option·none-ne-some p q)
-      go (suc zero) k q = ap (tellPage M) (Option·some-injective _ p q)
-      go (suc (suc n)) k q = absurd (omega arith)
+  count : length (entries q) ≡ most
+  count =
+      ap length (sym all) ∙ length-map (take most (r .entries)) (λ (a : Atom). a .0)
+      ∙ (let e : min most (length (r .entries)) ≡ most = omega arith in length-take most (r .entries) ∙ e)
+
+  pub entry-low : k < document .entries
+  entry-low = omega (arith, count)
+
+  at-entry : getD (entries q) k 0 ≡ getD (r .entries) k noAtom .0
+  at-entry =
+      ap (λ (xs : List ℕ). getD xs k 0) (sym all)
+      ∙ List·getD-map (λ (a : Atom). a .0) (take most (r .entries)) k noAtom
+      ∙ ap (λ (a : Atom). a .0) (getD-take most (r .entries) k noAtom (omega (arith, count)))
+
+  module _ (n : ℕ) (end : n ≡ min (r .positives) (document .entries)) where
+    positive-count : length (q .positives) ≡ n
+    positive-count =
+        length-map (take (r .positives) (r .entries)) (λ (a : Atom). a .0)
+        ∙ length-take (r .positives) (r .entries) ∙ ap (min (r .positives)) long ∙ sym end
+
+    pub told-positive : k < n → spoilt.Positive k (getD (r .entries) k noAtom) ≡ tellSpoiler (spoiler-at q place)
+    told-positive l =
+        let here : k < length (q .positives) = omega (arith, positive-count) in
+        let x : getD (q .positives) k 0 ≡ getD (r .entries) k noAtom .0 =
+        sym (List·getD-append (q .positives) (q .negatives) 0 k here) ∙ at-entry in
+        sym (ap (λ i. tellSpoiler (spoiler-at q i)) after ∙ ap tellSpoiler (at-positive q k here)
+        ∙ ap (λ y. spoilt.Positive k (record { 0 = y })) x)
+
+    pub told-negative :
+        n ≤ k → spoilt.Negative (k - n) (getD (r .entries) k noAtom) ≡ tellSpoiler (spoiler-at q place)
+    told-negative l =
+        let i = k - n in
+        let there : length (q .positives) + i ≡ k = omega (arith, positive-count) in
+        let x : getD (q .negatives) i 0 ≡ getD (r .entries) k noAtom .0 =
+        sym (getD-append-add (q .positives) (q .negatives) i 0) ∙ ap (λ j. getD (entries q) j 0) there ∙ at-entry in
+        sym (ap (λ j. tellSpoiler (spoiler-at q j)) (after ∙ ap suc (sym there)) ∙ ap tellSpoiler (at-negative q i)
+        ∙ ap (λ y. spoilt.Negative i (record { 0 = y })) x)
+
+-- A slot's rule told by its state.
+module _ (n : ℕ) (x : SpoilerAnswer) where
+  pub told-muted : 1 < n → spoilt.Muted ≡ cond (leb 2 n) spoilt.Muted x
+  told-muted l = sym (ap (λ b. cond b spoilt.Muted x) (le-leb 2 n (omega arith)))
+
+  pub told-unmuted : n ≤ 1 → x ≡ cond (leb 2 n) spoilt.Muted x
+  told-unmuted l =
+      sym (ap (λ b. cond b spoilt.Muted x) (unless (leb 2 n) (λ t. omega (arith, leb-le 2 n t))))

@@ -1,21 +1,22 @@
-// One kept label, one spoiler, told as an answer.
+// One label, one spoiler, told as an answer.
 use calls::LabelAnswer;
 use calls::SpoilerAnswer;
-use rule::spoiler;
+use rule::positive_end;
 use table::Label;
 use table::Rule;
-use table::Spoiler;
-use table::Table;
 ghost use mathlib.Core.Path.{_≡_};
-ghost use mathlib.Core.Option.{some};
-ghost use Rattle.theory.specs.Rules.{Page};
-ghost use Rattle.theory.specs.Labels.{spoiler};
-ghost use Rattle.table.specs.Sets.{member};
-ghost use Rattle.table.specs.Rules.{pageOf, ruleOf};
+ghost use mathlib.Core.Bool.{cond};
+ghost use Prim.Native.Nat.{_≤_};
+ghost use lib.Dec.{leb};
+ghost use lib.ListN.{length};
+ghost use Rattle.theory.specs.Rules.{entries};
+ghost use Rattle.theory.specs.Slots.{spoiler-at};
+ghost use Rattle.table.specs.Rules.{ruleOf};
 ghost use Rattle.table.specs.Labels.{labelOf};
-ghost use Rattle.calls.specs.Answers.{tellLabel, tellPage, tellSpoiler};
+ghost use Rattle.calls.specs.declared.SpoilerAnswer.the-variants.{Muted};
+ghost use Rattle.calls.specs.Answers.{tellLabel, tellSpoiler};
 
-// The answer that tells a kept label.
+// The answer that tells a label.
 pub fn tell_label(label: Label) -> LabelAnswer
     ensures { λ r. ⌜ r ≡ tellLabel (labelOf label) ⌝ }
 {
@@ -29,24 +30,30 @@ pub fn tell_label(label: Label) -> LabelAnswer
     LabelAnswer::In(label.depth, slot)
 }
 
-// The answer that tells the rule's spoiler in the set.
-fn tell_spoiler(rule: Rule, flags: &[bool; Table::ATOMS]) -> SpoilerAnswer
-    ensures { λ r. ⌜ r ≡ tellSpoiler (spoiler (member (now (flags .entry))) (ruleOf rule)) ⌝ }
+// The answer that tells the spoiler at a place of a rule's lists, counted from 1 over both; at 0 there is none.
+fn tell_spoiler(rule: Rule, place: u16) -> SpoilerAnswer
+    requires { ⌜ place ≤ length (entries (ruleOf rule)) ⌝ }
+    ensures { λ r. ⌜ r ≡ tellSpoiler (spoiler-at (ruleOf rule) place) ⌝ }
 {
-    let found = spoiler(rule, flags);
-    match found {
-        Spoiler::Nothing => SpoilerAnswer::Valid,
-        Spoiler::Positive(i, a) => SpoilerAnswer::Positive(i, a),
-        Spoiler::Negative(i, a) => SpoilerAnswer::Negative(i, a),
+    if place == 0 {
+        return SpoilerAnswer::Valid;
     }
+    let k = place as usize - 1;
+    let a = rule.entries[k];
+    let n = positive_end(rule);
+    if k < n {
+        return SpoilerAnswer::Positive(k as u8, a);
+    }
+    SpoilerAnswer::Negative((k - n) as u8, a)
 }
 
-// The answer that tells of the rule in a slot: that it is muted, or its spoiler in the set.
-pub fn tell_rule(rule: Rule, flags: &[bool; Table::ATOMS]) -> SpoilerAnswer
-    ensures { λ r. ⌜ ((p : Page) → pageOf rule ≡ some p → r ≡ tellPage (member (now (flags .entry))) p) ⌝ }
+// The answer that tells of the rule in a slot that keeps this place: that it is muted, or its spoiler.
+pub fn tell_rule(rule: Rule, place: u16) -> SpoilerAnswer
+    requires { ⌜ place ≤ length (entries (ruleOf rule)) ⌝ }
+    ensures { λ r. ⌜ r ≡ cond (leb 2 (rule .state)) Muted (tellSpoiler (spoiler-at (ruleOf rule) place)) ⌝ }
 {
     if rule.state > 1 {
         return SpoilerAnswer::Muted;
     }
-    tell_spoiler(rule, flags)
+    tell_spoiler(rule, place)
 }

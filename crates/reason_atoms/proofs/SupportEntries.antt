@@ -1,25 +1,25 @@
 -- Laws of the numbers and the entries copied of each atom, and of the loops that copy them. Assumes nothing. The number
 -- of atoms is a parameter.
-use Prim.Native.Nat.{ℕ, zero, suc, _+_, _*_, _≤_, _<_, min}
+use Prim.Native.Nat.{ℕ, _+_, _*_, _≤_, _<_, min}
 use native.Mathlib.Omega.{arith}
-use mathlib.Core.Path.{_≡_, refl, sym, _∙_, ap, subst}
+use mathlib.Core.Path.{_≡_, refl, sym, _∙_, ap, ap₂, subst}
 use mathlib.Core.Logic.{inl, inr, ⊎-elim, _↔_}
+use mathlib.Core.Bool.{Bool, true, false}
 use mathlib.Core.List.{List, [], _∷_}
 use mathlib.Core.List.{List·Memᴰ·head, List·Memᴰ·tail, List·Memᴰ·cases-cons, List·Memᴰ·not-nil}
 use lib.ListN.{length, getD, set, take, replicate, length-map, length-take, length-set, length-replicate}
 use lib.ListN.{List·getD-map, List·getD-eq-default}
 use lib.Seq.{getD-take, getD-set-same, getD-set-other}
 use Rattle.theory.specs.Lists.{_∈_}
+use Rattle.theory.specs.Models.{AtomSet}
 use Rattle.theory.specs.Limits.{document}
 use Rattle.theory.proofs.Lists.{entry-in, in-entry, le-or-lt}
 use Rattle.table.specs.declared.Atom.{Atom}
 use Rattle.table.specs.declared.Rule.{Rule}
-use Rattle.table.specs.declared.Label.{Label}
-use Rattle.table.specs.Sets.{number}
-use Rattle.table.specs.Rules.{ruleOf, noAtom, pastRule}
-use Rattle.table.specs.Labels.{labelOf, label-in, absentLabel}
-use Rattle.table.proofs.Programs.{label-is-in}
-use Rattle.reason_atoms.specs.SupportEntries.{labelSlot, positivesOf, positivesAt, entryIndex, EntriesCopied}
+use Rattle.table.specs.Sets.{member, number}
+use Rattle.table.specs.Rules.{ruleOf, noAtom}
+use Rattle.table.specs.Clean.{freeRule}
+use Rattle.reason_atoms.specs.SupportEntries.{positivesIf, positivesAt, entryIndex, EntriesCopied}
 use Rattle.reason_atoms.specs.SupportEntries.{SupportEntry, Fits, CopiedTo}
 
 -- The copied entries are the members of the list that was copied.
@@ -39,39 +39,36 @@ copied-entries xs counts entries a k x = (
       }),
 )
 
--- The positive entries of an atom's supporting rule, by its label's state; there are at most as many as entries.
-module _ (label : Label) (rule : Rule) where
-  pub positives-none : label .state < 2 → positivesOf (labelOf label) rule ≡ []
-  positives-none l = none-of (label .state) l
-    where
-      none-of : (n : ℕ) → n < 2 → positivesOf (label-in n (label .depth) (label .slot .0)) rule ≡ []
-      none-of zero i = refl
-      none-of (suc zero) i = refl
-      none-of (suc (suc n)) i = absurd (omega arith)
+-- Entry j of the positive entries of an atom's supporting rule is entry j of the rule.
+positive-at :
+    (b : Bool) (rule : Rule) (j : ℕ) → j < length (positivesIf b rule)
+    → getD (positivesIf b rule) j 0 ≡ getD (rule .entries) j noAtom .0
+positive-at true rule j l =
+    let k : j < rule .positives = omega (
+      arith,
+      length-map (take (rule .positives) (rule .entries)) (λ a. a .0),
+      length-take (rule .positives) (rule .entries),
+    ) in
+    List·getD-map (λ a. a .0) (take (rule .positives) (rule .entries)) j noAtom
+    ∙ ap (λ a. a .0) (getD-take (rule .positives) (rule .entries) j noAtom k)
+positive-at false rule j l = absurd (omega arith)
 
-  pub positives-in : 2 ≤ label .state → positivesOf (labelOf label) rule ≡ ruleOf rule .positives
-  positives-in l = ap (λ k. positivesOf k rule) (label-is-in label (omega arith))
+-- What was read of an atom: whether it is in, its slot k, and the rule there.
+module _ (rules : List Rule) (M : AtomSet) (s : ℕ → ℕ) (a : ℕ) (b : Bool) (k : ℕ) (r : Rule) (told : b ≡ M a)
+    (slot : k ≡ s a) (read : r ≡ getD rules k freeRule) where
+  same : positivesIf b r ≡ positivesAt rules M s a
+  same = ap₂ positivesIf told (read ∙ ap (λ i. getD rules i freeRule) slot)
 
-  -- entry j of them is entry j of the rule
-  pub positive-at :
-      (j : ℕ) → j < length (positivesOf (labelOf label) rule)
-      → getD (positivesOf (labelOf label) rule) j 0 ≡ getD (rule .entries) j noAtom .0
-  positive-at j l = ⊎-elim
-      (λ (h : 2 ≤ label .state). (
-      let e = positives-in h in
-      let l′ : j < length (ruleOf rule .positives) = subst (λ ys. j < length ys) e l in
-      let k : j < rule .positives = omega (
-        arith,
-        length-map (take (rule .positives) (rule .entries)) (λ a. a .0),
-        length-take (rule .positives) (rule .entries),
-      ) in
-      ap (λ ys. getD ys j 0) e
-      ∙ List·getD-map (λ a. a .0) (take (rule .positives) (rule .entries)) j noAtom
-      ∙ ap (λ a. a .0) (getD-take (rule .positives) (rule .entries) j noAtom k)))
-      (λ (h : label .state < 2).
-      absurd (omega (arith, ap length (positives-none h))))
-      (le-or-lt 2 (label .state))
+  pub count-read : (n : ℕ) → n ≡ length (positivesIf b r) → n ≡ length (positivesAt rules M s a)
+  count-read n e = e ∙ ap length same
 
+  pub entry-read :
+      (j : ℕ) → j < length (positivesAt rules M s a)
+      → getD (positivesAt rules M s a) j 0 ≡ getD (r .entries) j noAtom .0
+  entry-read j l =
+      ap (λ ys. getD ys j 0) (sym same) ∙ positive-at b r j (subst (λ ys. j < length ys) (sym same) l)
+
+-- There are at most as many as entries.
 pub positives-length :
     (rule : Rule) (n : ℕ) → length (rule .entries) ≡ n → min (rule .positives) n ≡ length (ruleOf rule .positives)
 positives-length rule n l =
@@ -192,15 +189,9 @@ module _ (ys : ℕ → List ℕ) (n : ℕ) where
             (le-or-lt n a);
       }
 
--- Past the end of the labels an atom is absent.
-pub past-label : (labels : List Label) (n : ℕ) → length labels ≡ n → (a : ℕ) → n ≤ a
-    → getD labels a absentLabel ≡ absentLabel
-past-label labels n l a h = List·getD-eq-default labels absentLabel (omega arith)
-
-module _ (labels : List Label) (n : ℕ) (l : length labels ≡ n) where
-  pub past-slot : (a : ℕ) → n ≤ a → labelSlot labels a ≡ 0
-  past-slot a h = ap (λ k. k .slot .0) (past-label labels n l a h)
-
-  pub past-positives : (rules : List Rule) (a : ℕ) → n ≤ a → positivesAt rules labels a ≡ []
-  past-positives rules a h =
-      ap (λ k. positivesOf (labelOf k) (getD rules (k .slot .0) pastRule)) (past-label labels n l a h)
+-- Past the end of the flags no atom is in.
+pub past-positives :
+    (rules : List Rule) (flags : List Bool) (s : ℕ → ℕ) (n : ℕ) → length flags ≡ n → (a : ℕ) → n ≤ a
+    → positivesAt rules (member flags) s a ≡ []
+past-positives rules flags s n l a h =
+    ap (λ b. positivesIf b (getD rules (s a) freeRule)) (List·getD-eq-default flags false (omega arith))

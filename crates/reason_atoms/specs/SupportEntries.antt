@@ -2,36 +2,25 @@
 use Prim.Native.Nat.{ℕ, _+_, _*_, _≤_, _<_}
 use mathlib.Core.Path.{_≡_}
 use mathlib.Core.Logic.{_⊎_}
+use mathlib.Core.Bool.{Bool, true, false}
 use mathlib.Core.List.{List, []}
 use lib.ListN.{length, getD}
-use Rattle.theory.specs.Labels.{absent, out, in-at}
-use Rattle.theory.specs.Labels as theory
+use Rattle.theory.specs.Models.{AtomSet}
 use Rattle.theory.specs.Limits.{document}
 use Rattle.table.specs.declared.Atom.{Atom}
 use Rattle.table.specs.declared.Rule.{Rule}
-use Rattle.table.specs.declared.Label.{Label}
 use Rattle.table.specs.Sets.{number}
-use Rattle.table.specs.Rules.{ruleOf, noAtom, pastRule}
-use Rattle.table.specs.Labels.{labelOf, absentLabel}
+use Rattle.table.specs.Rules.{ruleOf, noAtom}
+use Rattle.table.specs.Clean.{freeRule}
 
--- The kept slot of an atom: 0 past the end.
-abbrev pub labelSlot : List Label → ℕ → ℕ
-labelSlot labels a = getD labels a absentLabel .slot .0
+-- The positive entries of the rule, if it is the supporting one of an in atom: else none.
+abbrev pub positivesIf : Bool → Rule → List ℕ
+positivesIf true r = ruleOf r .positives
+positivesIf false r = []
 
--- The atom's label says that it is in.
-abbrev pub KeptIn : List Label → ℕ → Type 0
-KeptIn labels a = 2 ≤ getD labels a absentLabel .state
-
--- The positive entries of the supporting rule of an atom with that label: none where it is not in.
-abbrev pub positivesOf : theory.Label → Rule → List ℕ
-positivesOf absent r = []
-positivesOf out r = []
-positivesOf (in-at d s) r = ruleOf r .positives
-
--- The positive entries of the rule in the kept slot of an in atom.
-abbrev pub positivesAt : List Rule → List Label → ℕ → List ℕ
-positivesAt rules labels a =
-    positivesOf (labelOf (getD labels a absentLabel)) (getD rules (labelSlot labels a) pastRule)
+-- The positive entries of an in atom's supporting rule: M has the in atoms, s their supporting slots.
+abbrev pub positivesAt : List Rule → AtomSet → (ℕ → ℕ) → ℕ → List ℕ
+positivesAt rules M s a = positivesIf (M a) (getD rules (s a) freeRule)
 
 -- Where entry j of the atom a stands in the array of all entries.
 abbrev pub entryIndex : ℕ → ℕ → ℕ
@@ -43,12 +32,8 @@ pub record EntriesCopied (xs counts entries : List ℕ) (a : ℕ) : Type 0 where
   pub copied : (j : ℕ) → j < length xs → number entries (entryIndex a j) ≡ getD xs j 0
 
 -- For each atom the positive entries of its supporting rule are copied.
-abbrev pub EntriesOf : List Rule → List Label → List ℕ → List ℕ → Type 0
-EntriesOf rules labels counts entries = (a : ℕ) → EntriesCopied (positivesAt rules labels a) counts entries a
-
--- Every label's slot is one of the table's.
-abbrev pub Slotted : List Label → Type 0
-Slotted labels = (a : ℕ) → labelSlot labels a < document .slots
+abbrev pub EntriesOf : List Rule → AtomSet → (ℕ → ℕ) → List ℕ → List ℕ → Type 0
+EntriesOf rules M s counts entries = (a : ℕ) → EntriesCopied (positivesAt rules M s a) counts entries a
 
 -- x is one of the entries copied for the atom a.
 pub record SupportEntry (counts entries : List ℕ) (a x : ℕ) : Type 0 where

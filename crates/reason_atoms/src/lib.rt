@@ -1,19 +1,20 @@
 // The atoms that an atom's label rests on, gathered along the positive entries of supporting rules.
 use rule::positive_end;
 use table::Atom;
-use table::Label;
 use table::Rule;
 use table::Table;
 use table::sets::has;
 use table::sets::mark;
 use table::sets::number_of;
+use table::sets::slot_of;
+use table::slots::rule_in;
 ghost use mathlib.Core.Path.{_≡_};
 ghost use Prim.Native.Nat.{_≤_};
 ghost use lib.ListN.{length};
 ghost use Rattle.theory.specs.Limits.{document};
-ghost use Rattle.table.specs.Sets.{number};
-ghost use Rattle.table.specs.Labels.{labelOf};
-ghost use Rattle.reason_atoms.specs.SupportEntries.{positivesOf, EntriesOf, Slotted, entryIndex, SupportEntry};
+ghost use Rattle.table.specs.Sets.{member, number};
+ghost use Rattle.table.specs.Words.{rulesOf};
+ghost use Rattle.reason_atoms.specs.SupportEntries.{positivesIf, EntriesOf, entryIndex, SupportEntry};
 ghost use Rattle.reason_atoms.specs.SupportEntries.{Fits, CopiedTo};
 ghost use Rattle.reason_atoms.specs.Gathering.{Gathers};
 
@@ -27,10 +28,10 @@ pub struct Entries {
 }
 
 // How many positive entries the supporting rule of an atom has: 0 where the atom is not in.
-fn entry_count(label: Label, rule: Rule) -> usize
-    ensures { λ r. ⌜ (r ≡ length (positivesOf (labelOf label) rule)) × (r ≤ document .entries) ⌝ }
+fn entry_count(is_in: bool, rule: Rule) -> usize
+    ensures { λ r. ⌜ (r ≡ length (positivesIf is_in rule)) × (r ≤ document .entries) ⌝ }
 {
-    if label.state < 2 {
+    if !is_in {
         return 0;
     }
     positive_end(rule)
@@ -49,19 +50,25 @@ fn copy_entries(rule: Rule, n: usize, from: usize, entries: &mut [u16; ALL_ENTRI
     }
 }
 
-// The positive entries of each in atom's supporting rule, which stands in a slot of the table.
-pub fn support_entries(rules: [Rule; Table::SLOTS], labels: [Label; Table::ATOMS]) -> Entries
-    requires { ⌜ Slotted labels ⌝ }
-    ensures { λ r. ⌜ EntriesOf rules labels (r .counts) (r .entries) ⌝ }
+// The positive entries of each in atom's supporting rule: `flags` has the in atoms, `slots` their supporting slots.
+pub fn support_entries(
+    table: &[u16; Table::WORDS],
+    flags: &[bool; Table::ATOMS],
+    slots: &[u16; Table::ATOMS],
+) -> Entries
+    requires { ⌜ length (now flags) ≡ document .atoms ⌝ }
+    ensures { λ r. ⌜ EntriesOf (rulesOf (now (table .entry))) (member (now (flags .entry)))
+        (number (now (slots .entry))) (r .counts) (r .entries) ⌝ }
 {
     let mut counts: [u16; Table::ATOMS] = [0; Table::ATOMS];
     let mut entries: [u16; ALL_ENTRIES] = [0; ALL_ENTRIES];
     let mut i: usize = 0;
     while i < Table::ATOMS {
-        let label = labels[i];
-        let s = label.slot.0 as usize;
-        let rule = rules[s];
-        let n = entry_count(label, rule);
+        let k = i as u16;
+        let is_in = has(flags, Atom(k));
+        let s = slot_of(slots, Atom(k));
+        let rule = rule_in(table, s);
+        let n = entry_count(is_in, rule);
         copy_entries(rule, n, i * Table::ENTRIES, &mut entries);
         counts[i] = n as u16;
         i += 1;

@@ -156,20 +156,20 @@ module _ (P : Program) (a n i : ℕ) (flags : List Bool) (B : Bounded P n) (W : 
 pub following-next :
     (rules : List table.Rule) (a n i : ℕ) (flags after : List Bool) → Bounded (programOf rules) n
     → Following (programOf rules) a n i flags
-    → after ≡ mark-if (passes (λ q. any (eqb a) (entries q)) (slotOf (getD rules i pastRule))) flags
-    (getD rules i pastRule .head .0)
+    → (r : table.Rule) → r ≡ getD rules i pastRule
+    → after ≡ mark-if (passes (λ q. any (eqb a) (entries q)) (slotOf r)) flags (r .head .0)
     → Following (programOf rules) a n (i + 1) after
-following-next rules a n i flags after B W e = ⊎-elim
+following-next rules a n i flags after B W r read e = ⊎-elim
     (λ (t : passes f (slotOf r) ≡ true). (
     let w = passes-at f (slotOf r) t in
     let same : ruleOf r ≡ w .0 = slot-rule r (w .0) (w .1) in
     let head : r .head .0 ≡ w .0 .head = ap (λ (q : Rule). q .head) same in
     let out : after ≡ set flags (w .0 .head) true =
     e ∙ ap (λ b. mark-if b flags (r .head .0)) t ∙ ap (λ (k : ℕ). set flags k true) head in
-    rw out (following-mark P a n i flags B W (w .0) (program-at rules i ∙ w .1) (unfold uses in w .2))))
+    rw out (following-mark P a n i flags B W (w .0) (at ∙ w .1) (unfold uses in w .2))))
     (λ (t : passes f (slotOf r) ≡ false). (
     let out : after ≡ flags = e ∙ ap (λ b. mark-if b flags (r .head .0)) t in
-    rw out (following-same P a n i flags B W (unfold uses in (ap (passes f) (program-at rules i) ∙ t)))))
+    rw out (following-same P a n i flags B W (unfold uses in (ap (passes f) at ∙ t)))))
     (test (passes f (slotOf r)))
   where
     P : Program
@@ -178,8 +178,8 @@ following-next rules a n i flags after B W e = ⊎-elim
     f : Rule → Bool
     f q = any (eqb a) (entries q)
 
-    r : table.Rule
-    r = getD rules i pastRule
+    at : getD P i none ≡ slotOf r
+    at = program-at rules i ∙ ap slotOf (sym read)
 
 pub following-over :
     (P : Program) (a n i : ℕ) (flags : List Bool) → length P ≤ i → Following P a n i flags

@@ -4,6 +4,7 @@ use table::Atom;
 use table::Rule;
 use table::Table;
 use table::sets::mark;
+use table::slots::rule_at;
 ghost use mathlib.Core.Path.{_≡_};
 ghost use lib.Dec.{eqb};
 ghost use Rattle.theory.specs.Lists.{any};
@@ -11,11 +12,12 @@ ghost use Rattle.theory.specs.Rules.{passes, entries, Bounded};
 ghost use Rattle.theory.specs.Explanations.{Justification, Consequence};
 ghost use Rattle.theory.specs.Limits.{document};
 ghost use Rattle.table.specs.Rules.{slotOf, programOf};
+ghost use Rattle.table.specs.Words.{rulesOf};
 ghost use Rattle.table.specs.Sets.{Flags};
 ghost use Rattle.relations.specs.Marks.{mark-if};
 
 // Does the slot hold a rule with this head?
-fn has_head(rule: Rule, a: Atom) -> bool
+pub fn has_head(rule: Rule, a: Atom) -> bool
     ensures { λ r. ⌜ r ≡ passes (λ q. eqb (q .head) (a .0)) (slotOf rule) ⌝ }
 {
     if rule.state == 0 {
@@ -25,13 +27,13 @@ fn has_head(rule: Rule, a: Atom) -> bool
 }
 
 // The slots of the rules with this head.
-pub fn justifying(rules: [Rule; Table::SLOTS], a: Atom) -> [bool; Table::SLOTS]
-    ensures { λ r. ⌜ Flags r (Justification (programOf rules) (a .0)) ⌝ }
+pub fn justifying(table: &[u16; Table::WORDS], a: Atom) -> [bool; Table::SLOTS]
+    ensures { λ r. ⌜ Flags r (Justification (programOf (rulesOf (now (table .entry)))) (a .0)) ⌝ }
 {
     let mut flags: [bool; Table::SLOTS] = [false; Table::SLOTS];
     let mut i: usize = 0;
     while i < Table::SLOTS {
-        let rule = rules[i];
+        let rule = rule_at(table, i);
         flags[i] = has_head(rule, a);
         i += 1;
     }
@@ -39,7 +41,7 @@ pub fn justifying(rules: [Rule; Table::SLOTS], a: Atom) -> [bool; Table::SLOTS]
 }
 
 // Does the slot hold a rule with this entry?
-fn has_entry(rule: Rule, a: Atom) -> bool
+pub fn has_entry(rule: Rule, a: Atom) -> bool
     ensures { λ r. ⌜ r ≡ passes (λ q. any (eqb (a .0)) (entries q)) (slotOf rule) ⌝ }
 {
     if rule.state == 0 {
@@ -70,14 +72,14 @@ fn mark_head(rule: Rule, a: Atom, flags: &mut [bool; Table::ATOMS])
 }
 
 // The heads of the rules with this entry.
-pub fn following(rules: [Rule; Table::SLOTS], a: Atom) -> [bool; Table::ATOMS]
-    requires { ⌜ Bounded (programOf rules) (document .atoms) ⌝ }
-    ensures { λ r. ⌜ Flags r (Consequence (programOf rules) (a .0)) ⌝ }
+pub fn following(table: &[u16; Table::WORDS], a: Atom) -> [bool; Table::ATOMS]
+    requires { ⌜ Bounded (programOf (rulesOf (now table))) (document .atoms) ⌝ }
+    ensures { λ r. ⌜ Flags r (Consequence (programOf (rulesOf (now (table .entry)))) (a .0)) ⌝ }
 {
     let mut flags: [bool; Table::ATOMS] = [false; Table::ATOMS];
     let mut i: usize = 0;
     while i < Table::SLOTS {
-        let rule = rules[i];
+        let rule = rule_at(table, i);
         mark_head(rule, a, &mut flags);
         i += 1;
     }

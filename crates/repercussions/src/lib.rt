@@ -9,6 +9,7 @@ use table::Spoiler;
 use table::Table;
 use table::sets::has;
 use table::sets::slot_of;
+use table::slots::rule_at;
 ghost use mathlib.Core.Path.{_≡_};
 ghost use mathlib.Core.Bool.{true};
 ghost use lib.Dec.{eqb};
@@ -19,6 +20,7 @@ ghost use Rattle.theory.specs.Explanations.{Repercussion};
 ghost use Rattle.theory.specs.Limits.{document};
 ghost use Rattle.table.specs.Sets.{member, number, Flags};
 ghost use Rattle.table.specs.Rules.{activeIn, ruleOf, activeOf};
+ghost use Rattle.table.specs.Words.{rulesOf};
 ghost use Rattle.repercussions.specs.Edges.{AddedEdge, Grown, FromEntries, Gives};
 
 // Room for all edges: a slot gives at most one for each entry of its rule.
@@ -98,21 +100,22 @@ fn add_slot(
 
 // All atoms that this one affects, in one or more steps: `flags` has the in atoms, `slots` their supporting slots.
 pub fn reached(
-    rules: [Rule; Table::SLOTS],
+    table: &[u16; Table::WORDS],
     flags: &[bool; Table::ATOMS],
     slots: &[u16; Table::ATOMS],
     a: Atom,
 ) -> [bool; Table::ATOMS]
-    requires { ⌜ Bounded (activeOf rules) (document .atoms) × ((h : ℕ) → member (now flags) h ≡ true
-        → Supporting (activeOf rules) (member (now flags)) h (number (now slots) h)) ⌝ }
-    ensures { λ r. ⌜ Flags r (Repercussion (activeOf rules) (member (now (flags .entry))) (a .0)) ⌝ }
+    requires { ⌜ Bounded (activeOf (rulesOf (now table))) (document .atoms) × ((h : ℕ) → member (now flags) h ≡ true
+        → Supporting (activeOf (rulesOf (now table))) (member (now flags)) h (number (now slots) h)) ⌝ }
+    ensures { λ r. ⌜ Flags r (Repercussion (activeOf (rulesOf (now (table .entry)))) (member (now (flags .entry)))
+        (a .0)) ⌝ }
 {
     let mut from: [u16; EDGES] = [0; EDGES];
     let mut to: [u16; EDGES] = [0; EDGES];
     let mut count: usize = 0;
     let mut i: usize = 0;
     while i < Table::SLOTS {
-        let rule = rules[i];
+        let rule = rule_at(table, i);
         let s = i as u16;
         count = add_slot(rule, Slot(s), flags, slots, &mut from, &mut to, count);
         i += 1;

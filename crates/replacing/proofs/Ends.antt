@@ -5,7 +5,7 @@ use mathlib.Core.Logic.{_↔_}
 use mathlib.Core.Bool.{Bool, true, false, not}
 use mathlib.Core.List.{List, [], _∷_}
 use mathlib.Core.Option.{none, some}
-use lib.ListN.{length, set}
+use lib.ListN.{set}
 use lib.Seq.{set-set}
 use Rattle.theory.specs.Rules.{Program, all, Held, Ascending, Bounded, any-rule, same, kept}
 use Rattle.theory.specs.Rules as theory
@@ -20,7 +20,8 @@ use Rattle.theory.proofs.Replacing.{old-rule}
 use Rattle.theory.proofs.Sameness.{same-kept}
 use Rattle.table.specs.declared.Rule.{Rule}
 use Rattle.table.specs.declared.Table.{Table}
-use Rattle.table.specs.Rules.{bookOf, programOf, ruleOf}
+use Rattle.table.specs.Rules.{programOf, ruleOf}
+use Rattle.table.specs.Words.{tableOf, rulesOf}
 use Rattle.table.specs.Clean.{freeRule}
 use Rattle.table.specs.Sound.{Sound}
 use Rattle.table.proofs.Programs.{program-set}
@@ -30,12 +31,11 @@ use Rattle.calls.specs.declared.ChangeAnswer.the-variants as changed
 use Rattle.calls.specs.declared.Changed.{Changed}
 use Rattle.refusals.specs.Refusals.{numberOf}
 use Rattle.calls.specs.Contracts as contract
-use Rattle.calls.specs.Contracts.{held, Sized, ReplaceEnds}
+use Rattle.calls.specs.Contracts.{held, ReplaceEnds}
 use Rattle.calls.proofs.Asking.{slot-low}
-use Rattle.labels.specs.declared.Labelling.{Labelling}
-use Rattle.labels.specs.Labelling.{LabellingOf}
+use Rattle.labels.specs.Labelling.{Relabelled}
 use Rattle.new_rule.specs.Parts.{SlotWith}
-use Rattle.add_remove.proofs.Putting.{same-told, book-put, bounded-put, put-cyclic, put-stratified}
+use Rattle.add_remove.proofs.Putting.{same-told, bounded-put, put-cyclic, put-stratified, put-held}
 use Rattle.add_remove.proofs.Putting.{put-sized, put-sound}
 
 -- A refusal that hands the table back as it came.
@@ -71,27 +71,33 @@ module _
           ∙ first-no-past (rule-questions document q) _ pass
 
       -- the slots without the old rule
-      module _ (f : Rule) (is-free : f ≡ freeRule) (rest : List Rule) (left : rest ≡ set (t .rules) s f) where
-        rest-program : programOf rest ≡ set (all (held t)) s none
-        rest-program =
-            ap programOf (left ∙ ap (set (t .rules) s) is-free) ∙ program-set (t .rules) s freeRule
+      module _
+          (f : Rule) (is-free : f ≡ freeRule) (rest : List ℕ) (left : rulesOf rest ≡ set (rulesOf (t .words)) s f)
+        where
+          rest-program : programOf (rulesOf rest) ≡ set (all (held t)) s none
+          rest-program =
+              ap programOf (left ∙ ap (set (rulesOf (t .words)) s) is-free)
+              ∙ program-set (rulesOf (t .words)) s freeRule
 
-        rest-ascending : (k : ℕ) (p : theory.Rule) → Held (programOf rest) k p → Ascending p
-        rest-ascending k p h =
-            let w = old-rule document (all (held t)) s asked in
-            S .labels .ascending k p (freed (all (held t)) s k p (held-below (all (held t)) s (w .0) (w .1))
-            (subst (λ (P : Program). Held P k p) rest-program h) .1)
+          rest-ascending : (k : ℕ) (p : theory.Rule) → Held (programOf (rulesOf rest)) k p → Ascending p
+          rest-ascending k p h =
+              let w = old-rule document (all (held t)) s asked in
+              S .rules .ascending k p (freed (all (held t)) s k p (held-below (all (held t)) s (w .0) (w .1))
+              (subst (λ (P : Program). Held P k p) rest-program h) .1)
 
-        pub rest-told :
-            (r : Rule) → SlotWith (kept q) r → (b v : Bool)
-            → (b ≡ true) ↔ ((k : ℕ) × Held (programOf rest) k (ruleOf r)) → b ≡ v
-            → any-rule (same q) (set (all (held t)) s none) ≡ v
-        rest-told r R b v e u =
-            ap (any-rule (same q)) (sym rest-program)
-            ∙ same-told (programOf rest) rest-ascending q pass r R b v e u
+          pub rest-told :
+              (r : Rule) → SlotWith (kept q) r → (b v : Bool)
+              → (b ≡ true) ↔ ((k : ℕ) × Held (programOf (rulesOf rest)) k (ruleOf r)) → b ≡ v
+              → any-rule (same q) (set (all (held t)) s none) ≡ v
+          rest-told r R b v e u =
+              ap (any-rule (same q)) (sym rest-program)
+              ∙ same-told (programOf (rulesOf rest)) rest-ascending q pass r R b v e u
 
-        pub put-behind : (r : Rule) (slots : List Rule) → slots ≡ set rest s r → slots ≡ set (t .rules) s r
-        put-behind r slots put = put ∙ ap (λ (rs : List Rule). set rs s r) left ∙ set-set (t .rules) s f r
+          pub put-behind :
+              (r : Rule) (w : List ℕ) → rulesOf w ≡ set (rulesOf rest) s r
+              → rulesOf w ≡ set (rulesOf (t .words)) s r
+          put-behind r w put =
+              put ∙ ap (λ (rs : List Rule). set rs s r) left ∙ set-set (rulesOf (t .words)) s f r
 
       pub refused-same :
           any-rule (same q) (set (all (held t)) s none) ≡ true → ReplaceEnds t s q (changed.Refused refusal.SameRule) t
@@ -100,7 +106,7 @@ module _
       -- the rule is put into the slot
       module _
           (other : any-rule (same q) (set (all (held t)) s none) ≡ false) (r : Rule) (R : SlotWith (kept q) r)
-          (slots : List Rule) (put : slots ≡ set (t .rules) s r)
+          (w : List ℕ) (put : rulesOf w ≡ set (rulesOf (t .words)) s r)
         where
           alone : (k : ℕ) → (k ≡ s → ⊥) → Held (all (held t)) k (kept q) → ⊥
           alone k n h =
@@ -111,24 +117,20 @@ module _
               ≡ first-no (asks 7 (stratified (with-replaced (all (held t)) s q)) ∷ [])
           five = four ∙ first-no-yes _ _ (ap not other)
 
-          pub bounded-changed : Bounded (programOf slots) (document .atoms)
-          bounded-changed = bounded-put t S q pass s inside alone r R slots put
+          pub bounded-changed : Bounded (programOf (rulesOf w)) (document .atoms)
+          bounded-changed = bounded-put t S q pass s inside alone r R w put
 
-          module _ (l : Labelling) (L : LabellingOf (bookOf slots) l) where
-            pub refused-cycle :
-                l .acyclic ≡ false → ReplaceEnds t s q (changed.Refused refusal.NegativeCycle) t
+          module _ (v : List ℕ) (b : Bool) (L : Relabelled w v b) where
+            pub refused-cycle : b ≡ false → ReplaceEnds t s q (changed.Refused refusal.NegativeCycle) t
             refused-cycle e =
                 contract.refused refusal.NegativeCycle S
-                (five ∙ first-no-here _ _ (put-cyclic t S q pass s inside alone r R slots put l L e))
+                (five ∙ first-no-here _ _ (put-cyclic t S q pass s inside alone r R w put v b L e))
 
-            pub replace-ends :
-                l .acyclic ≡ true → Sized t → length (r .entries) ≡ document .entries
-                → length (l .labels) ≡ document .atoms
-                → ReplaceEnds t s q changed.Accepted (record { rules = slots; labels = l .labels })
-            replace-ends e Z n m =
+            pub replace-ends : b ≡ true → ReplaceEnds t s q changed.Accepted (tableOf v)
+            replace-ends e =
                 contract.accepted _ S
-                (five ∙ first-no-yes _ _ (put-stratified t S q pass s inside alone r R slots put l L e)
+                (five ∙ first-no-yes _ _ (put-stratified t S q pass s inside alone r R w put v b L e)
                 ∙ (unfold first-no in refl))
-                (put-sized t S q pass s inside alone r R slots put l L Z n m)
-                (book-put t S q pass s inside alone r R slots put)
-                (put-sound t S q pass s inside alone r R slots put l L e)
+                (put-sized t S q pass s inside alone r R w put v b L)
+                (put-held t S q pass s inside alone r R w put v b L)
+                (put-sound t S q pass s inside alone r R w put v b L e)

@@ -44,8 +44,8 @@ refused-keeps t u s r f (contract.refused g S e) = refl
 
 pub refused-keeps-labels :
     (t u : Table) (s : ℕ) (r : Rule) (f : Refusal) → ReplaceEnds t s r (changed.Refused f) u → (a : ℕ)
-    → labelAt (u .labels) a ≡ labelAt (t .labels) a
-refused-keeps-labels t u s r f E a = ap (λ (w : Table). labelAt (w .labels) a) (refused-keeps t u s r f E)
+    → labelAt (u .words) a ≡ labelAt (t .words) a
+refused-keeps-labels t u s r f E a = ap (λ (w : Table). labelAt (w .words) a) (refused-keeps t u s r f E)
 
 -- The new rule is judged against the table without the old one: as the addition to the table that the removal leaves.
 pub judged-without :
@@ -134,9 +134,9 @@ given-back t u v s q o p x S h e pass U is (contract.unsound n) = absurd (n U)
 given-back t u v s q o p x S h e pass U is (contract.refused f T d) =
     let rules = ap all is ∙ all-set (held t) s (some o) in
     absurd (both _ _ d (subst (λ (P : Program). first-no (replace-questions document P s p) ≡ none) (sym rules)
-    (back-passes document (held t) _ (S .labels) s q h p e pass (o .rule))))
+    (back-passes document (held t) (S .rules) s q h p e pass (o .rule))))
 given-back t u v s q o p x S h e pass U is (contract.accepted w T d Y i W) =
-    let back = kept-old document (held t) _ (S .labels) s q h p e pass (o .rule) in
+    let back = kept-old document (held t) (S .rules) s q h p e pass (o .rule) in
     let rules = i ∙ ap (λ (B : Pages). set B s (some (new-page p))) is
     ∙ set-set (held t) s (some o) (some (new-page p)) ∙ ap (λ (r : Rule). set (held t) s (some (unmuted r))) back in
     (refl, (W, Y, rules))
@@ -164,7 +164,7 @@ pub there-and-back :
     → ReplaceEnds t s r changed.Accepted u → ReplaceEnds u s q x v → (x ≡ changed.Accepted) × (v ≡ t)
 there-and-back t u v s q r x Z h (contract.accepted w S d Y i W) =
     there-and-back-reordered t w v s q r q x Z h (same-refl q)
-    (S .labels .passes s q (held-page (held t) s _ h)) (contract.accepted w S d Y i W)
+    (S .rules .passes s q (held-page (held t) s _ h)) (contract.accepted w S d Y i W)
 
 -- Replacing a rule by itself, also where it is given in another order, is accepted and leaves what unmuting it leaves.
 pub by-itself-unmutes :
@@ -194,4 +194,4 @@ pub by-itself :
     (t v : Table) (s : ℕ) (q : Rule) (x : ChangeAnswer) → Sound t → Sized t → getD (held t) s none ≡ some (unmuted q)
     → ReplaceEnds t s q x v → (x ≡ changed.Accepted) × (v ≡ t)
 by-itself t v s q x S Z h E =
-    by-itself-reordered t v s q q x S Z h (same-refl q) (S .labels .passes s q (held-page (held t) s _ h)) E
+    by-itself-reordered t v s q q x S Z h (same-refl q) (S .rules .passes s q (held-page (held t) s _ h)) E

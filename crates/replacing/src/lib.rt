@@ -2,17 +2,18 @@
 use calls::AskedSlot;
 use calls::ChangeAnswer;
 use calls::Changed;
-use calls::ask_slot;
-use labels::labels_of;
+use calls::slot_asked;
+use labels::relabel;
 use new_rule::holds_rule;
 use new_rule::make_rule;
 use questions::AskedRule;
 use questions::ask_rule;
 use refusals::Refusal;
+use sound::sound;
 use table::Rule;
 use table::Slot;
 use table::Table;
-use table::parts::with_rule;
+use table::slots::put_rule;
 ghost use mathlib.Core.Path.{_≡_};
 ghost use mathlib.Core.Option.{none};
 ghost use Rattle.theory.specs.Rules.{all};
@@ -51,24 +52,38 @@ fn replace_held(
         return refuse(table, why);
     }
     let rule = make_rule(head, positives, negatives);
-    let rules = table.rules;
     let free = Rule::free();
-    let rest = with_rule(rules, slot, free);
-    if holds_rule(rest, rule) {
+    let mut changed = table.words;
+    put_rule(&mut changed, slot, free);
+    if holds_rule(&changed, rule) {
         return refuse(table, Refusal::SameRule);
     }
-    let changed = with_rule(rest, slot, rule);
-    let found = labels_of(changed);
-    if !found.acyclic {
+    put_rule(&mut changed, slot, rule);
+    if !relabel(&mut changed) {
         return refuse(table, Refusal::NegativeCycle);
     }
-    let labels = found.labels;
     Changed {
         answer: ChangeAnswer::Accepted,
-        table: Table {
-            rules: changed,
-            labels: labels,
-        },
+        table: Table { words: changed },
+    }
+}
+
+// Replaces the rule in a slot of a table that is sound, or refuses.
+pub fn replace_in_sound(
+    table: Table,
+    slot: u32,
+    head: u32,
+    positives: &[u32],
+    negatives: &[u32],
+) -> Changed
+    requires { ⌜ Sound table ⌝ }
+    ensures { λ r. ⌜ ReplaceEnds table slot (ruleFrom head (now (positives .entry)) (now (negatives .entry)))
+        (r .answer) (r .table) ⌝ }
+{
+    let asked = slot_asked(&table.words, slot);
+    match asked {
+        AskedSlot::Refused(why) => refuse(table, why),
+        AskedSlot::Passed(s) => replace_held(table, s, head, positives, negatives),
     }
 }
 
@@ -78,9 +93,8 @@ pub fn replace(table: Table, slot: u32, head: u32, positives: &[u32], negatives:
     ensures { λ r. ⌜ ReplaceEnds table slot (ruleFrom head (now (positives .entry)) (now (negatives .entry)))
         (r .answer) (r .table) ⌝ }
 {
-    let asked = ask_slot(table, slot);
-    match asked {
-        AskedSlot::Refused(why) => refuse(table, why),
-        AskedSlot::Passed(s) => replace_held(table, s, head, positives, negatives),
+    if !sound(&table.words) {
+        return refuse(table, Refusal::TableUnsound);
     }
+    replace_in_sound(table, slot, head, positives, negatives)
 }

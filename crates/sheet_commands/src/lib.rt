@@ -1,22 +1,20 @@
 // The commands of a sheet, a function for each: the table after it, and the bytes that it prints, written at a place of
-// a lent buffer.
-use add_remove::add;
-use add_remove::remove;
-use reason_call::reason;
-use refusals::Refusal;
-use refusals::refusal_number;
-use replacing::replace;
+// a lent buffer. A sheet keeps its own table, which is sound from the start and stays so: question 15 is not asked.
+use add_remove::add_to_sound;
+use add_remove::remove_from_sound;
+use reading::labels_of;
+use reason_call::reason_of_sound;
+use replacing::replace_in_sound;
 use sheet_answers::tell_add;
 use sheet_answers::tell_change;
 use sheet_answers::tell_reason;
 use sheet_label_lines::write_labels;
 use sheet_lines::Command;
 use sheet_lines::Parsed;
-use sheet_printing::write_refusal;
-use sound::sound;
 use table::Table;
 ghost use Prim.Native.Nat.{_+_, _≤_};
 ghost use lib.ListN.{length};
+ghost use Rattle.table.specs.Sound.{Sound};
 ghost use Rattle.sheet_lines.specs.Commands as sheet;
 ghost use Rattle.sheet_lines.specs.Readings.{TOKENS, commandOf, positivesIn, negativesIn};
 ghost use Rattle.sheet_label_lines.specs.LabelLines.{LABELS_ROOM};
@@ -30,16 +28,18 @@ pub struct Obeyed {
 
 // `A`: the addition, whose positives stand first among the entries, then its negatives.
 fn add_rule(table: Table, head: u32, parsed: Parsed, out: &mut [u8], at: usize) -> Obeyed
+    requires { ⌜ Sound table ⌝ }
     requires { ⌜ (parsed .positives + parsed .negatives ≤ TOKENS) × (at + LABELS_ROOM ≤ length (now out)) ⌝ }
     ensures { λ r. ⌜ Obeys table (parsed .place .line) (sheet.add head (positivesIn parsed) (negativesIn parsed))
         (now (out .entry)) at (now (out .exit)) r ⌝ }
+    ensures { λ r. ⌜ Sound (r .table) ⌝ }
 {
     let place = parsed.place;
     let entries = parsed.entries;
     let both = &entries[..];
     let middle = parsed.positives;
     let end = middle + parsed.negatives;
-    let done = add(table, head, &both[..middle], &both[middle..end]);
+    let done = add_to_sound(table, head, &both[..middle], &both[middle..end]);
     let answer = done.answer;
     let added = done.table;
     let next = tell_add(answer, place.line, out, at);
@@ -51,10 +51,11 @@ fn add_rule(table: Table, head: u32, parsed: Parsed, out: &mut [u8], at: usize) 
 
 // `R`: the removal.
 fn remove_slot(table: Table, slot: u32, line: u32, out: &mut [u8], at: usize) -> Obeyed
-    requires { ⌜ at + LABELS_ROOM ≤ length (now out) ⌝ }
+    requires { ⌜ Sound table × (at + LABELS_ROOM ≤ length (now out)) ⌝ }
     ensures { λ r. ⌜ Obeys table line (sheet.remove slot) (now (out .entry)) at (now (out .exit)) r ⌝ }
+    ensures { λ r. ⌜ Sound (r .table) ⌝ }
 {
-    let done = remove(table, slot);
+    let done = remove_from_sound(table, slot);
     let answer = done.answer;
     let rest = done.table;
     let next = tell_change(answer, line, b"removed", slot, out, at);
@@ -73,17 +74,19 @@ fn replace_rule(
     out: &mut [u8],
     at: usize,
 ) -> Obeyed
+    requires { ⌜ Sound table ⌝ }
     requires { ⌜ (parsed .positives + parsed .negatives ≤ TOKENS) × (at + LABELS_ROOM ≤ length (now out)) ⌝ }
     ensures { λ r. ⌜ Obeys table (parsed .place .line)
         (sheet.replace slot head (positivesIn parsed) (negativesIn parsed))
         (now (out .entry)) at (now (out .exit)) r ⌝ }
+    ensures { λ r. ⌜ Sound (r .table) ⌝ }
 {
     let place = parsed.place;
     let entries = parsed.entries;
     let both = &entries[..];
     let cut = parsed.positives;
     let end = cut + parsed.negatives;
-    let done = replace(table, slot, head, &both[..cut], &both[cut..end]);
+    let done = replace_in_sound(table, slot, head, &both[..cut], &both[cut..end]);
     let answer = done.answer;
     let replaced = done.table;
     let next = tell_change(answer, place.line, b"replaced", slot, out, at);
@@ -95,31 +98,30 @@ fn replace_rule(
 
 // `W`: the reason of an atom. It has at most one slot for each atom.
 fn explain(table: Table, atom: u32, line: u32, out: &mut [u8], at: usize) -> usize
-    requires { ⌜ at + LABELS_ROOM ≤ length (now out) ⌝ }
+    requires { ⌜ Sound table × (at + LABELS_ROOM ≤ length (now out)) ⌝ }
     ensures { λ r. ⌜ Tells table line (sheet.why atom) (now (out .entry)) at (now (out .exit)) r ⌝ }
 {
     let mut slots: [u32; Table::ATOMS] = [0; Table::ATOMS];
-    let answer = reason(table, atom, &mut slots);
+    let answer = reason_of_sound(&table.words, atom, &mut slots);
     tell_reason(answer, line, &slots, out, at)
 }
 
-// `L`: the label of each atom that occurs. As every call, it asks 15 first.
+// `L`: the label of each atom that occurs.
 fn list_labels(table: Table, line: u32, out: &mut [u8], at: usize) -> usize
-    requires { ⌜ at + LABELS_ROOM ≤ length (now out) ⌝ }
+    requires { ⌜ Sound table × (at + LABELS_ROOM ≤ length (now out)) ⌝ }
     ensures { λ r. ⌜ Tells table line sheet.labels (now (out .entry)) at (now (out .exit)) r ⌝ }
 {
-    if !sound(table) {
-        return write_refusal(out, at, line, refusal_number(Refusal::TableUnsound));
-    }
-    let labels = table.labels;
+    let labels = labels_of(&table.words);
     write_labels(out, at, labels)
 }
 
 // Obeys the command that a line was read as. What only asks leaves the table as it is.
 pub fn obey(table: Table, command: Command, parsed: Parsed, out: &mut [u8], at: usize) -> Obeyed
+    requires { ⌜ Sound table ⌝ }
     requires { ⌜ (parsed .positives + parsed .negatives ≤ TOKENS) × (at + LABELS_ROOM ≤ length (now out)) ⌝ }
     ensures { λ r. ⌜ Obeys table (parsed .place .line) (commandOf command (positivesIn parsed) (negativesIn parsed))
         (now (out .entry)) at (now (out .exit)) r ⌝ }
+    ensures { λ r. ⌜ Sound (r .table) ⌝ }
 {
     let place = parsed.place;
     match command {

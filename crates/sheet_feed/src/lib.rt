@@ -15,6 +15,7 @@ use table::Table;
 ghost use mathlib.Core.Path.{_≡_};
 ghost use Prim.Native.Nat.{_+_, _≤_, _<_};
 ghost use lib.ListN.{length};
+ghost use Rattle.table.specs.Sound.{Sound};
 ghost use Rattle.calls.specs.declared.ChangeAnswer.the-variants.{Accepted};
 ghost use Rattle.sheet_label_lines.specs.LabelLines.{LABELS_ROOM};
 ghost use Rattle.sheet_meaning.specs.Sheets.{start};
@@ -66,8 +67,10 @@ fn ask_room(left: usize) -> ChangeAnswer
 
 // The reply to the line at hand, with room for every reply.
 fn reply_line(sheet: Sheet, out: &mut [u8], at: usize) -> Reply
+    requires { ⌜ Sound (sheet .table) ⌝ }
     requires { ⌜ at + LABELS_ROOM ≤ length (now out) ⌝ }
     ensures { λ r. ⌜ RepliesAt sheet (now (out .entry)) at (now (out .exit)) r ⌝ }
+    ensures { λ r. ⌜ Sound (r .table) ⌝ }
 {
     let table = sheet.table;
     let begun = sheet.begun;
@@ -93,7 +96,9 @@ fn reply_line(sheet: Sheet, out: &mut [u8], at: usize) -> Reply
 
 // The reply to the line at hand. Where there is no room for every reply, 11 is refused and nothing is done.
 pub fn reply_at(sheet: Sheet, out: &mut [u8], at: usize) -> Reply
+    requires { ⌜ Sound (sheet .table) ⌝ }
     ensures { λ r. ⌜ RepliesAt sheet (now (out .entry)) at (now (out .exit)) r ⌝ }
+    ensures { λ r. ⌜ Sound (r .table) ⌝ }
 {
     if !has_room(out.len(), at) {
         let table = sheet.table;
@@ -109,9 +114,11 @@ pub fn reply_at(sheet: Sheet, out: &mut [u8], at: usize) -> Reply
 // Reads up to a command and obeys it, or to the end of the piece, or until there may be too little room for another
 // reply. Lines that are no command are answered without the table.
 fn feed_command(sheet: Sheet, input: &[u8], from: usize, out: &mut [u8], at: usize) -> Fed
+    requires { ⌜ Sound (sheet .table) ⌝ }
     requires { ⌜ (from ≤ length (now input)) × (at + LABELS_ROOM ≤ length (now out)) ⌝ }
     ensures { λ r. ⌜ Feeds sheet (now (input .entry)) from (now (out .entry)) at r (now (out .exit)) ⌝ }
     ensures { λ r. ⌜ (from < length (now (input .entry)) → from < r .read) × (r .answer ≡ Accepted) ⌝ }
+    ensures { λ r. ⌜ Sound (r .sheet .table) ⌝ }
 {
     let table = sheet.table;
     let begun = sheet.begun;
@@ -148,8 +155,10 @@ fn feed_command(sheet: Sheet, input: &[u8], from: usize, out: &mut [u8], at: usi
 // Reads a piece of the sheet, up to its end or until there may be too little room for another reply. The table is
 // handed on once for each command. A buffer without room for every reply is refused by 11, and nothing is read.
 pub fn feed(sheet: Sheet, input: &[u8], out: &mut [u8]) -> Fed
+    requires { ⌜ Sound (sheet .table) ⌝ }
     ensures { λ r. ⌜ Feeds sheet (now (input .entry)) 0 (now (out .entry)) 0 r (now (out .exit)) ⌝ }
     ensures { λ r. ⌜ FeedsAll (now (input .entry)) (now (out .entry)) r ⌝ }
+    ensures { λ r. ⌜ Sound (r .sheet .table) ⌝ }
 {
     let mut fed = Fed {
         sheet: sheet,

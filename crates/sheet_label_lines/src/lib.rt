@@ -9,7 +9,7 @@ use table::Table;
 ghost use Prim.Native.Nat.{_+_, _≤_, _<_};
 ghost use lib.ListN.{length};
 ghost use Rattle.theory.specs.Limits.{document};
-ghost use Rattle.table.specs.Labels.{labelOf, labelAt};
+ghost use Rattle.table.specs.Labels.{labelOf, labelFrom};
 ghost use Rattle.fields.specs.Written.{Wrote, WroteIn};
 ghost use Rattle.sheet_label_lines.specs.LabelLines.{LABELS_ROOM, inLine, labelLine, labelLines};
 
@@ -45,7 +45,7 @@ fn write_label(out: &mut [u8], at: usize, atom: u32, label: Label) -> usize
 
 // The lines of all atoms that occur, ascending.
 pub fn write_labels(out: &mut [u8], at: usize, labels: [Label; Table::ATOMS]) -> usize
-    ensures { λ r. ⌜ WroteIn LABELS_ROOM (labelLines (labelAt labels) (document .atoms))
+    ensures { λ r. ⌜ WroteIn LABELS_ROOM (labelLines (labelFrom labels) (document .atoms))
         (now (out .entry)) at (now (out .exit)) r ⌝ }
 {
     if bytes_left(out.len(), at) < LABELS_ROOM {

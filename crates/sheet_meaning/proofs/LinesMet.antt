@@ -20,6 +20,7 @@ use Rattle.theory.proofs.Lists.{le-or-lt, ltb-lt, unless}
 use Rattle.theory.proofs.Questions.{first-no-here, first-no-none}
 use Rattle.theory.proofs.Labels.{label-exists, label-in}
 use Rattle.theory.proofs.Explanations.{reason-short}
+use Rattle.theory.proofs.Slots.{labelled}
 use Rattle.table.specs.declared.Table.{Table}
 use Rattle.table.specs.Labels.{labelAt}
 use Rattle.table.specs.Sound.{Sound}
@@ -48,7 +49,7 @@ use Rattle.sheet_meaning.specs.Seen.{addLine, changeLine, ReasonLine, Se
 -- Any admissible model of a sound table's rules is the one.
 only-of : {t : Table} {M : AtomSet} → Sound t → Admissible (active (held t)) M → OnlyModel (active (held t)) M
 only-of {t} {M} S A =
-    subst (OnlyModel (active (held t))) (same-model t S (S .labels .model) M (S .labels .admissible) A)
+    subst (OnlyModel (active (held t))) (same-model t S (S .kept .model) M (S .kept .admissible) A)
     (sound-model t S)
 
 -- What the calls' answers print is what the book's answers print.
@@ -64,14 +65,14 @@ change-told word n s (changed.Refused f) = refl
 -- A reason. Question 10 is answered by the number alone, so a number past the limit needs no label.
 module _ (t : Table) (S : Sound t) (n a : ℕ) where
   abbrev kept : Label
-  kept = labelAt (t .labels) a
+  kept = labelAt (t .words) a
 
   seen-with :
-      (l : Label) → Labelled (held t) (S .labels .model) a l → {out : List ℕ}
-      → ReasonLine (active (held t)) (S .labels .model) n a (first-no (reason-questions document a l)) out
+      (l : Label) → Labelled (held t) (S .kept .model) a l → {out : List ℕ}
+      → ReasonLine (active (held t)) (S .kept .model) n a (first-no (reason-questions document a l)) out
       → SeesReason (held t) n a out
   seen-with l L told =
-      record { model = S .labels .model; only = sound-model t S; label = l; labelled = L; told = told }
+      record { model = S .kept .model; only = sound-model t S; label = l; labelled = L; told = told }
 
   past : document .atoms ≤ a → (l : Label) → first-no (reason-questions document a l) ≡ some 10
   past over l = first-no-here (asks 10 (ltb a (document .atoms))) (asks 12 (is-in-label l) ∷ [])
@@ -81,37 +82,37 @@ module _ (t : Table) (S : Sound t) (n a : ℕ) where
       (k : ℕ) → first-no (reason-questions document a kept) ≡ some k → SeesReason (held t) n a (refusalLine n k)
   refused-seen k e = ⊎-elim
       (λ (over : document .atoms ≤ a). (
-      let w = label-exists (held t) (S .labels .model) (S .labels .admissible .founded) a in
+      let w = label-exists (held t) (S .kept .model) (S .kept .admissible .founded) a in
       seen-with (w .0) (w .1)
-      (subst (λ (o : Option ℕ). ReasonLine (active (held t)) (S .labels .model) n a o (refusalLine n k))
+      (subst (λ (o : Option ℕ). ReasonLine (active (held t)) (S .kept .model) n a o (refusalLine n k))
       (sym e ∙ past over kept ∙ sym (past over (w .0))) refl)))
-      (λ (below : a < document .atoms). seen-with kept (S .labels .labels a below)
-      (subst (λ (o : Option ℕ). ReasonLine (active (held t)) (S .labels .model) n a o (refusalLine n k)) (sym e) refl))
+      (λ (below : a < document .atoms). seen-with kept (labelled _ _ _ (S .kept) a)
+      (subst (λ (o : Option ℕ). ReasonLine (active (held t)) (S .kept .model) n a o (refusalLine n k)) (sym e) refl))
       (le-or-lt (document .atoms) a)
 
   -- the asked atom is in, where both questions are answered yes
-  asked-in : first-no (reason-questions document a kept) ≡ none → S .labels .model a ≡ true
+  asked-in : first-no (reason-questions document a kept) ≡ none → S .kept .model a ≡ true
   asked-in e =
       let ten = first-no-none (asks 10 (ltb a (document .atoms))) (asks 12 (is-in-label kept) ∷ []) e in
       let twelve = first-no-none (asks 12 (is-in-label kept)) [] (ten .1) in
-      sym (label-in (held t) (S .labels .model) (S .labels .admissible) a kept
-      (S .labels .labels a (ltb-lt a (document .atoms) (ten .0))))
+      sym (label-in (held t) (S .kept .model) (S .kept .admissible) a kept
+      (labelled _ _ _ (S .kept) a))
       ∙ twelve .0
 
   moved : (N : AtomSet) (xs : List ℕ) → Admissible (active (held t)) N → Reason (active (held t)) N a xs
-      → Reason (active (held t)) (S .labels .model) a xs
+      → Reason (active (held t)) (S .kept .model) a xs
   moved N xs A R =
       subst (λ (X : AtomSet). Reason (active (held t)) X a xs)
-      (same-model t S N (S .labels .model) A (S .labels .admissible)) R
+      (same-model t S N (S .kept .model) A (S .kept .admissible)) R
 
   given-seen :
       (xs : List ℕ) → first-no (reason-questions document a kept) ≡ none
-      → Reason (active (held t)) (S .labels .model) a xs
+      → Reason (active (held t)) (S .kept .model) a xs
       → SeesReason (held t) n a (whyLine xs)
   given-seen xs e R =
       let ten = first-no-none (asks 10 (ltb a (document .atoms))) (asks 12 (is-in-label kept) ∷ []) e in
-      seen-with kept (S .labels .labels a (ltb-lt a (document .atoms) (ten .0)))
-      (subst (λ (o : Option ℕ). ReasonLine (active (held t)) (S .labels .model) n a o (whyLine xs)) (sym e)
+      seen-with kept (labelled _ _ _ (S .kept) a)
+      (subst (λ (o : Option ℕ). ReasonLine (active (held t)) (S .kept .model) n a o (whyLine xs)) (sym e)
       (xs, R, refl))
 
   reason-seen :
@@ -124,7 +125,7 @@ module _ (t : Table) (S : Sound t) (n a : ℕ) where
         arith,
         l,
         length-replicate {A = ℕ} (document .atoms) 0,
-        reason-short (active (held t)) (S .labels .model) (document .atoms) (sound-below t S) a xs (asked-in e)
+        reason-short (active (held t)) (S .kept .model) (document .atoms) (sound-below t S) a xs (asked-in e)
             (moved N xs A R),
       ))
   reason-seen (contract.accepted N xs T e A R l) =

@@ -84,7 +84,7 @@ labels-same f g (suc n) same =
 lists-same : {t : Table} {bs cs : List ℕ} → LabelsListed t bs → LabelsListed t cs → bs ≡ cs
 lists-same {t} p q =
     p .lines ∙ labels-same (p .label) (q .label) (document .atoms) (λ a l. same-label (held t) (p .model) (q .model) a
-    (p .label a) (q .label a) (p .sound .labels .acyclic) (p .admissible) (q .admissible) (p .labelled a l)
+    (p .label a) (q .label a) (p .sound .rules .acyclic) (p .admissible) (q .admissible) (p .labelled a l)
     (q .labelled a l)) ∙ sym (q .lines)
 
 ends-same :

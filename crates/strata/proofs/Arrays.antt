@@ -13,10 +13,10 @@ use Rattle.theory.specs.Questions.{rules}
 use Rattle.table.specs.declared.Rule.{Rule}
 use Rattle.table.specs.Sets.{number}
 use Rattle.table.specs.Turns.{slotAt}
-use Rattle.table.specs.Rules.{slotOf, programOf, pastRule}
+use Rattle.table.specs.Rules.{slotOf, ruleOf, programOf, pastRule}
 use Rattle.table.proofs.Members.{all-alike}
 use Rattle.table.proofs.SlotsInTurn.{slot-at-each}
-use Rattle.table.proofs.Programs.{program-at, program-length, held-rule, state-held, slot-free}
+use Rattle.table.proofs.Programs.{program-at, program-length, held-rule, slot-held, slot-free}
 use Rattle.strata.specs.Answer.{StrataOf}
 use Rattle.strata.specs.Needed.{needed, EntriesBelow, Raised}
 use Rattle.strata.proofs.Answer.{told-strata, told-cycle}
@@ -30,18 +30,17 @@ few-rules [] = omega arith
 few-rules (none ∷ P) = omega (arith, few-rules P)
 few-rules (some r ∷ P) = omega (arith, few-rules P)
 
--- What the program says of the atoms of a slot's rule, if it holds one.
-pub entries-below :
-    (rows : List Rule) (b s : ℕ) → Bounded (programOf rows) b → EntriesBelow b (slotOf (getD rows s pastRule))
-entries-below rows b s B r h x m = B s r (program-at rows s ∙ h) x (List·Memᴰ·tail m)
+-- Of a rule r that was read from slot s: what the program says of its atoms, and what it needs.
+module _ (rows : List Rule) (s : ℕ) (r : Rule) (read : r ≡ getD rows s pastRule) where
+  pub entries-below : (b : ℕ) → Bounded (programOf rows) b → EntriesBelow b (slotOf r)
+  entries-below b B q h x m = B s q (program-at rows s ∙ ap slotOf (sym read) ∙ h) x (List·Memᴰ·tail m)
 
--- A slot that needs a number above 0 holds a rule, whose head is an atom of the program too.
-pub head-below :
-    (rows : List Rule) (b s n : ℕ) (ℓ : ℕ → ℕ) → Bounded (programOf rows) b
-    → n ≡ needed ℓ (slotOf (getD rows s pastRule)) → 0 < n → getD rows s pastRule .head .0 < b
-head-below rows b s n ℓ B e l =
-    B s _ (state-held rows s
-    (λ z. omega (arith, e ∙ ap (needed ℓ) (slot-free (getD rows s pastRule) z)))) _ (List·Memᴰ·head refl)
+  -- A slot that needs a number above 0 holds a rule, whose head is an atom of the program too.
+  pub head-below : (b n : ℕ) (ℓ : ℕ → ℕ) → Bounded (programOf rows) b → n ≡ needed ℓ (slotOf r) → 0 < n → r .head .0 < b
+  head-below b n ℓ B e l =
+      B s (ruleOf r)
+      (program-at rows s ∙ ap slotOf (sym read) ∙ slot-held r (λ z. omega (arith, e ∙ ap (needed ℓ) (slot-free r z))))
+      _ (List·Memᴰ·head refl)
 
 module _ (rows : List Rule) (S : ℕ) (long : length rows ≡ S) where
   few : length (rules (programOf rows)) ≤ S
@@ -67,32 +66,36 @@ module _ (rows : List Rule) (S : ℕ) (long : length rows ≡ S) where
     at = slotAt S down
 
     -- What the slot come to needs.
-    needs : (s n : ℕ) → s ≡ at i → n ≡ needed (number xs) (slotOf (getD rows s pastRule))
-        → n ≡ needed (number xs) (slotOf (getD rows (at i) pastRule))
-    needs s n q e = e ∙ ap (λ (z : ℕ). needed (number xs) (slotOf (getD rows z pastRule))) q
+    here : (s : ℕ) (r : Rule) → s ≡ at i → r ≡ getD rows s pastRule → r ≡ getD rows (at i) pastRule
+    here s r q read = read ∙ ap (λ (z : ℕ). getD rows z pastRule) q
+
+    needs :
+        (s n : ℕ) (r : Rule) → s ≡ at i → r ≡ getD rows s pastRule → n ≡ needed (number xs) (slotOf r)
+        → n ≡ needed (number xs) (getD (programOf rows) (at i) none)
+    needs s n r q read e =
+        e ∙ ap (λ (z : Rule). needed (number xs) (slotOf z)) (here s r q read)
+        ∙ ap (needed (number xs)) (sym (program-at rows (at i)))
 
     -- A slot needs a number above S.
-    pub passed : (s n : ℕ) → s ≡ at i → n ≡ needed (number xs) (slotOf (getD rows s pastRule)) → S < n
+    pub passed :
+        (s n : ℕ) (r : Rule) → s ≡ at i → r ≡ getD rows s pastRule → n ≡ needed (number xs) (slotOf r) → S < n
         → StrataOf (programOf rows) (record { acyclic = false; of = xs })
-    passed s n q e l =
+    passed s n r q read e l =
         told-cycle (programOf rows) xs
-        (slots-passed (programOf rows) S few at k (number xs) i raised T
-        (omega (arith, ap (needed (number xs)) (program-at rows (at i)), needs s n q e)))
+        (slots-passed (programOf rows) S few at k (number xs) i raised T (omega (arith, needs s n r q read e)))
 
     -- One slot.
     pub next :
-        (b : ℕ) → length xs ≡ b → Bounded (programOf rows) b → (s n : ℕ) (ys : List ℕ) (flag : Bool) → s ≡ at i
-        → n ≡ needed (number xs) (slotOf (getD rows s pastRule))
-        → Raised xs (getD rows s pastRule .head .0) n ys flag
-        → Slots (programOf rows) at S k (i + 1) (number ys) (flag || raised)
-    next b wide B s n ys flag q e R =
-        slot-next (programOf rows) S few at k i xs ys raised flag _ n T
-        (needs s n q e ∙ ap (needed (number xs)) (sym (program-at rows (at i))))
-        (λ r h. (
-        let y : r .head ≡ getD rows (at i) pastRule .head .0 =
-        sym (ap (λ (p : theory.Rule). p .head) (held-rule rows (at i) r h)) in
-        (y, omega (arith, y, B (at i) r h (r .head) (List·Memᴰ·head refl)))))
-        (subst (λ (z : ℕ). Raised xs (getD rows z pastRule .head .0) n ys flag) q R)
+        (b : ℕ) → length xs ≡ b → Bounded (programOf rows) b → (s n : ℕ) (r : Rule) (ys : List ℕ) (flag : Bool)
+        → s ≡ at i → r ≡ getD rows s pastRule → n ≡ needed (number xs) (slotOf r)
+        → Raised xs (r .head .0) n ys flag → Slots (programOf rows) at S k (i + 1) (number ys) (flag || raised)
+    next b wide B s n r ys flag q read e R =
+        slot-next (programOf rows) S few at k i xs ys raised flag _ n T (needs s n r q read e)
+        (λ p h. (
+        let y : p .head ≡ getD rows (at i) pastRule .head .0 =
+        sym (ap (λ (z : theory.Rule). z .head) (held-rule rows (at i) p h)) in
+        (y, omega (arith, y, B (at i) p h (p .head) (List·Memᴰ·head refl)))))
+        (subst (λ (z : Rule). Raised xs (z .head .0) n ys flag) (here s r q read) R)
 
     -- A round is over that raised none, or one.
     pub rest : raised ≡ false → S ≤ i → StrataOf (programOf rows) (record { acyclic = true; of = xs })

@@ -6,6 +6,7 @@ use table::Rule;
 use table::Table;
 use table::sets::larger;
 use table::sets::set_number;
+use table::slots::rule_at;
 use table::turns::slot_at;
 ghost use mathlib.Core.Path.{_≡_};
 ghost use Prim.Native.Nat.{_≤_, _<_};
@@ -15,6 +16,7 @@ ghost use Rattle.theory.specs.Rules.{Bounded};
 ghost use Rattle.theory.specs.Limits.{document};
 ghost use Rattle.table.specs.Sets.{number};
 ghost use Rattle.table.specs.Rules.{numbers, slotOf, programOf};
+ghost use Rattle.table.specs.Words.{rulesOf};
 ghost use Rattle.strata.specs.Answer.{StrataOf};
 ghost use Rattle.strata.specs.Needed.{plus, needed, AllBelow, EntriesBelow, Raised};
 
@@ -26,7 +28,7 @@ pub struct Stratification {
 
 // The number kept for an atom of the table. Reading it takes most of the time of a round, so that it is not tested
 // once more whether the array has a place for the atom.
-fn number_at(kept: &[u16; Table::ATOMS], a: Atom) -> u16
+pub fn number_at(kept: &[u16; Table::ATOMS], a: Atom) -> u16
     requires { ⌜ a .0 < document .atoms ⌝ }
     ensures { λ r. ⌜ r ≡ number (now (kept .entry)) (a .0) ⌝ }
 {
@@ -52,7 +54,7 @@ fn greatest(rule: Rule, from: usize, to: usize, kept: &[u16; Table::ATOMS], step
 }
 
 // The least number that the slot's rule lets its head have: no entry above it, each negative entry below it.
-fn needed(rule: Rule, kept: &[u16; Table::ATOMS]) -> usize
+pub fn needed(rule: Rule, kept: &[u16; Table::ATOMS]) -> usize
     requires { ⌜ EntriesBelow (document .atoms) (slotOf rule) ⌝ }
     ensures { λ r. ⌜ r ≡ needed (number (now (kept .entry))) (slotOf rule) ⌝ }
 {
@@ -68,7 +70,7 @@ fn needed(rule: Rule, kept: &[u16; Table::ATOMS]) -> usize
 
 // The atom's number becomes `n` if it is lower: was it? None is lower than 0, which is all that a free slot needs of
 // its head: only that may be no atom of the table.
-fn raise(kept: &mut [u16; Table::ATOMS], a: Atom, n: u16) -> bool
+pub fn raise(kept: &mut [u16; Table::ATOMS], a: Atom, n: u16) -> bool
     requires { ⌜ (0 < n → a .0 < document .atoms) ⌝ }
     ensures { λ r. ⌜ Raised (now (kept .entry)) (a .0) n (now (kept .exit)) r ⌝ }
 {
@@ -85,9 +87,9 @@ fn raise(kept: &mut [u16; Table::ATOMS], a: Atom, n: u16) -> bool
 // Rounds over the slots, each of which raises heads to what their rules need, up to the first that raises none.
 // Only a negative cycle lets a number pass SLOTS, or a round that SLOTS others came before still raise one.
 // Every eighth round walks downwards: a chain against the order of the slots settles in it.
-pub fn strata(rules: [Rule; Table::SLOTS]) -> Stratification
-    requires { ⌜ Bounded (programOf rules) (document .atoms) ⌝ }
-    ensures { λ r. ⌜ StrataOf (programOf rules) r ⌝ }
+pub fn strata(table: &[u16; Table::WORDS]) -> Stratification
+    requires { ⌜ Bounded (programOf (rulesOf (now table))) (document .atoms) ⌝ }
+    ensures { λ r. ⌜ StrataOf (programOf (rulesOf (now (table .entry)))) r ⌝ }
 {
     let mut of: [u16; Table::ATOMS] = [0; Table::ATOMS];
     let mut round: usize = 0;
@@ -97,7 +99,7 @@ pub fn strata(rules: [Rule; Table::SLOTS]) -> Stratification
         let mut i: usize = 0;
         while i < Table::SLOTS {
             let s = slot_at(down, i);
-            let rule = rules[s];
+            let rule = rule_at(table, s);
             let n = needed(rule, &of);
             if n > Table::SLOTS {
                 return Stratification {

@@ -3,11 +3,11 @@
 -- by depth, are founded; the local equation of depths (`DepthEquation`) has only the least heights as its solution;
 -- and among the valid rules of a head those with all positive entries of smaller depth are those whose level is the
 -- head's depth. Assumes nothing.
-use Prim.Native.Nat.{ℕ, zero, suc, _+_, _-_, _≤_, _<_}
+use Prim.Native.Nat.{ℕ, zero, suc, _-_, _≤_, _<_}
 use native.Mathlib.Omega.{arith}
-use mathlib.Core.Path.{_≡_, refl, sym, _∙_, ap, subst, fun-ext}
-use mathlib.Core.Logic.{_⊎_, ⊎-elim}
-use mathlib.Core.Bool.{true, false, not, true≢false}
+use mathlib.Core.Path.{_≡_, refl, sym, _∙_, ap, subst}
+use mathlib.Core.Logic.{⊎-elim}
+use mathlib.Core.Bool.{true, false, true≢false}
 use mathlib.Core.List.{List, [], _∷_, List·Memᴰ, List·Memᴰ·head, List·Memᴰ·tail, List·Memᴰ·cases-cons}
 use mathlib.Core.List.{List·Memᴰ·not-nil, map, Memᴰ·map}
 use Rattle.theory.specs.Lists.{_∈_, greatest}
@@ -22,7 +22,6 @@ use Rattle.theory.proofs.Lists.{clash, in-mem, le-or-lt, mem, mem-in, t
 use Rattle.theory.proofs.Rules.{rules-of, valid-positive}
 use Rattle.theory.proofs.Derivations.{entry, last}
 use Rattle.theory.proofs.Depths.{depth-unique, greatest-le, settled-depth}
-use Rattle.theory.proofs.Labels.{label-in}
 
 -- The greatest is no smaller than what d gives of an entry.
 

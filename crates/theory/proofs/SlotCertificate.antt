@@ -6,19 +6,19 @@ use Prim.Native.Nat.{ℕ, zero, suc, _≤_, _<_}
 use native.Mathlib.Omega.{arith}
 use mathlib.Core.Path.{_≡_, refl, sym, _∙_, ap, subst, fun-ext}
 use mathlib.Core.Logic.{⊎-elim}
-use mathlib.Core.Bool.{Bool, true, false, not, _&&_, _||_, cond, true≢false}
+use mathlib.Core.Bool.{Bool, true, false, not, _&&_, cond, true≢false}
 use mathlib.Core.Option.{Option, none, some, Option·none-ne-some}
 use lib.Dec.{eqb}
 use lib.ListN.{getD, length, length-map}
 use Rattle.theory.specs.Rules.{active, active-on, all, Held, Pages, passes, Program, Rule}
-use Rattle.theory.specs.Models.{Admissible, AtomSet, Closed, valid}
+use Rattle.theory.specs.Models.{AtomSet, Closed, valid}
 use Rattle.theory.specs.Derivations.{Depth}
 use Rattle.theory.specs.Labels.{Supporting, Supports}
 use Rattle.theory.specs.Certificate.{Confirmed, depth-due, DepthsRead, given-below, gives?, level}
-use Rattle.theory.specs.Slots.{idle, Keeps, SlotDepth, supports}
+use Rattle.theory.specs.Slots.{idle, SlotDepth, supports}
 use Rattle.theory.specs.Sound.{SoundSlots}
 use Rattle.theory.proofs.Lists.{and-l, and-of, and-r, clash, eqb-eq, eqb-of, false-not, le-or-lt, not-true}
-use Rattle.theory.proofs.Lists.{or-cases, or-l, or-r, same-test, test, unless}
+use Rattle.theory.proofs.Lists.{or-cases, or-l, or-r, same-test, unless}
 use Rattle.theory.proofs.Rules.{held-unique, passes-at}
 use Rattle.theory.proofs.Pages.{active-held, all-length}
 use Rattle.theory.proofs.Certificate.{depth-equation, DepthEquation, equation-depth, equation-founded}
@@ -36,9 +36,14 @@ module _ (P : Program) (M : AtomSet) (d : ℕ → ℕ) where
   given-at (suc s) a e = ⊎-elim
       (λ (u : passes (λ r. eqb (r .head) a && gives? M d r) (getD P s none) ≡ true). (
       let w = passes-at (λ r. eqb (r .head) a && gives? M d r) (getD P s none) u in
-      let z = w .0 in
-      (s, z, omega arith, w .1, eqb-eq (z .head) a (and-l (eqb (z .head) a) _ (w .2)),
-      and-r (eqb (z .head) a) (gives? M d z) (w .2))))
+      let z = w .0 in (
+        s,
+        z,
+        omega arith,
+        w .1,
+        eqb-eq (z .head) a (and-l (eqb (z .head) a) _ (w .2)),
+        and-r (eqb (z .head) a) (gives? M d z) (w .2),
+      )))
       (λ (u : given-below P M d s a ≡ true). (
       let w = given-at s a u in
       (w .0, w .1, omega (arith, w .2), w .3, w .4, w .5)))
@@ -139,9 +144,14 @@ module _ (B : Pages) (depth spoiler : ℕ → ℕ) (M : AtomSet) (d : ℕ → �
           let z = due-some _ _ (λ e. k .deep (F (w .0) l .due ∙ e)) in
           let r = z .0 in
           let e : r .head ≡ a = ap (λ (p : Rule). p .head)
-          (held-unique (all B) (w .0) r (k .rule) (active-held B (w .0) r (z .1)) (k .held)) ∙ k .heads in
-          (w .0, r, z .1, e, and-l (valid M r) _ (z .2),
-          eqb-eq (level d r) (d (r .head)) (and-r (valid M r) _ (z .2)) ∙ ap d e));
+          (held-unique (all B) (w .0) r (k .rule) (active-held B (w .0) r (z .1)) (k .held)) ∙ k .heads in (
+            w .0,
+            r,
+            z .1,
+            e,
+            and-l (valid M r) _ (z .2),
+            eqb-eq (level d r) (d (r .head)) (and-r (valid M r) _ (z .2)) ∙ ap d e,
+          ));
     }
 
     -- Slots that are confirmed are sound.

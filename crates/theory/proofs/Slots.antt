@@ -1,28 +1,31 @@
 -- What is kept of each slot (specification 1.9): the label of an atom read off sound slots is the one defined, and what
 -- they keep is determined by their pages. Assumes nothing.
-use Prim.Native.Nat.{ℕ, zero, suc, _+_, _<_}
+use Prim.Native.Nat.{ℕ, zero, suc, _+_, _-_, _<_}
 use native.Mathlib.Omega.{arith}
 use mathlib.Core.Path.{_≡_, refl, sym, _∙_, ap, subst, fun-ext}
-use mathlib.Core.Logic.{⊎-elim}
+use mathlib.Core.Logic.{_↔_, ⊎-elim}
 use mathlib.Core.Bool.{Bool, true, false, not, _&&_, cond}
-use mathlib.Core.List.{List, [], _∷_}
+use mathlib.Core.List.{[], _∷_}
 use mathlib.Core.Option.{Option, none, some, Option·none-ne-some, Option·some-injective}
-use lib.Dec.{eqb}
-use lib.ListN.{getD, length}
-use Rattle.theory.specs.Rules.{active, all, Held, Pages, Program, Rule}
-use Rattle.theory.specs.Models.{AtomSet}
+use lib.Dec.{eqb, ltb}
+use lib.ListN.{getD, length, length-append, List·getD-append}
+use lib.Seq.{getD-append-add}
+use Rattle.theory.specs.Rules.{active, all, entries, Held, Pages, Program, Rule}
+use Rattle.theory.specs.Models.{AtomSet, valid}
 use Rattle.theory.specs.Dependencies.{NegativeCycle}
 use Rattle.theory.specs.Derivations.{Depth}
-use Rattle.theory.specs.Labels.{absent, in-at, is-absent, is-in, is-out, Label, Labelled, out, Supporting}
+use Rattle.theory.specs.Labels.{absent, in-at, is-absent, is-in, is-out, Labelled, out, Supporting}
+use Rattle.theory.specs.Labels.{blocked, needs, negative, place-over, positive, Spoiler, spoiler, Spoils}
 use Rattle.theory.specs.Slots.{idle, Keeps, kept-from, label-by, label-from, occurs?, place-kept, slot-spoiler}
-use Rattle.theory.specs.Slots.{SlotDepth, supports}
+use Rattle.theory.specs.Slots.{SlotDepth, spoiler-at, supports}
 use Rattle.theory.specs.Sound.{SoundSlots}
-use Rattle.theory.proofs.Lists.{and-l, and-of, and-r, clash, eqb-eq, eqb-not, eqb-of, false-not, not-true, test}
+use Rattle.theory.proofs.Lists.{and-l, and-of, and-r, clash, eqb-eq, eqb-not, eqb-of, false-not, lt-ltb, ltb-lt}
+use Rattle.theory.proofs.Lists.{not-true, test, unless}
 use Rattle.theory.proofs.Rules.{held-unique, occurs-at, occurs-of}
 use Rattle.theory.proofs.Pages.{active-held, all-length}
 use Rattle.theory.proofs.Derivations.{last}
 use Rattle.theory.proofs.Depths.{depth-unique, derived-in, in-depth}
-use Rattle.theory.proofs.Labels.{label-in, one-model, supported}
+use Rattle.theory.proofs.Labels.{no-spoiler-valid, one-model, spoils, supported, valid-no-spoiler}
 use Rattle.theory.proofs.Questions.{held-below}
 
 -- The lowest slot that keeps a depth for an atom: found, or there is none.
@@ -141,6 +144,67 @@ read-in-at B depth a d s e = go (kept-from depth a 0 (all B)) refl (occurs? (all
         (subst (Keeps (all B) depth a) u (found-kept (all B) depth a t k), ap depth (sym u) ∙ v)
     go none k true q = absurd (let z : _≡_ {A = ℕ} 0 1 = cc in omega arith)
     go none k false q = absurd (let z : _≡_ {A = ℕ} 0 1 = cc in omega arith)
+
+-- A place of the positive list, and one past it.
+module _ (r : Rule) where
+  pub at-positive :
+      (i : ℕ) → i < length (r .positives)
+      → spoiler-at r (suc i) ≡ some (record { side = positive; place = i; atom = getD (r .positives) i 0 })
+  unfolding spoiler-at
+  at-positive i l = rw (lt-ltb i (length (r .positives)) l, spoiler-at)
+
+  pub at-negative :
+      (i : ℕ)
+      → spoiler-at r (suc (length (r .positives) + i))
+      ≡ some (record { side = negative; place = i; atom = getD (r .negatives) i 0 })
+  unfolding spoiler-at
+  at-negative i =
+      let n = length (r .positives) in
+      let past : ltb (n + i) n ≡ false = unless _ (λ t. (let l = ltb-lt (n + i) n t in omega arith)) in
+      let back : n + i - n ≡ i = omega arith in
+      rw (past, spoiler-at) (ap (λ k. some (record { side = negative; place = k; atom = getD (r .negatives) k 0 })) back)
+
+-- The place of a rule's spoiler, counted from 1 over both lists.
+module _ (M : AtomSet) (r : Rule) where
+  -- The entry at that place is the spoiler's atom.
+  pub place-entry :
+      (z : Spoiler) → Spoils M r z
+      → (k : ℕ) × (place-over r (some z) ≡ suc k) × (k < length (entries r)) × (getD (entries r) k 0 ≡ z .atom)
+  place-entry z (needs {i} {x} w) = (
+    i,
+    refl,
+    omega (arith, w .low, length-append (r .positives) (r .negatives)),
+    List·getD-append (r .positives) (r .negatives) 0 i (w .low) ∙ w .there,
+  )
+  place-entry z (blocked {i} {x} p w) = (
+    length (r .positives) + i,
+    refl,
+    omega (arith, w .low, length-append (r .positives) (r .negatives)),
+    getD-append-add (r .positives) (r .negatives) i 0 ∙ w .there,
+  )
+
+  -- It is 0 exactly if the rule is valid.
+  pub place-valid : (place-over r (spoiler M r) ≡ 0) ↔ (valid M r ≡ true)
+  place-valid = (λ e. go (spoiler M r) refl e, λ v. ap (place-over r) (valid-no-spoiler M r v))
+    where
+      go : (o : Option Spoiler) → spoiler M r ≡ o → place-over r o ≡ 0 → valid M r ≡ true
+      go none s e = no-spoiler-valid M r s
+      go (some z) s e = absurd (let w = place-entry z (spoils M r z s) in omega (arith, w .1))
+
+  -- The spoiler is read off it.
+  pub spoiler-read : spoiler-at r (place-over r (spoiler M r)) ≡ spoiler M r
+  unfolding spoiler-at
+  spoiler-read = go (spoiler M r) refl
+    where
+      told : (z : Spoiler) → Spoils M r z → spoiler-at r (place-over r (some z)) ≡ some z
+      told z (needs {i} {x} w) =
+          at-positive r i (w .low) ∙ ap (λ y. some (record { side = positive; place = i; atom = y })) (w .there)
+      told z (blocked {i} {x} p w) =
+          at-negative r i ∙ ap (λ y. some (record { side = negative; place = i; atom = y })) (w .there)
+
+      go : (o : Option Spoiler) → spoiler M r ≡ o → spoiler-at r (place-over r o) ≡ o
+      go none s = refl
+      go (some z) s = told z (spoils M r z s)
 
 -- A depth is not 0.
 pub depth-some : {P : Program} {M : AtomSet} {a d : ℕ} → Depth P M a d → d ≡ 0 → ⊥

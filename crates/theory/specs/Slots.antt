@@ -1,16 +1,17 @@
 -- What a table keeps of each slot (specification 1.9), and the label of an atom read off it. Assumes nothing.
-use Prim.Native.Nat.{ℕ, zero, suc}
+use Prim.Native.Nat.{ℕ, zero, suc, _-_}
 use mathlib.Core.Path.{_≡_}
 use mathlib.Core.Bool.{Bool, true, false, not, _&&_, cond}
 use mathlib.Core.List.{[], _∷_}
 use mathlib.Core.Option.{Option, none, some}
-use lib.Dec.{eqb}
-use lib.ListN.{getD}
+use lib.Dec.{eqb, ltb}
+use lib.ListN.{getD, length}
 use Rattle.theory.specs.Lists.{any}
 use Rattle.theory.specs.Rules.{Rule, Program, Held, Pages, all, active, entries, any-rule}
 use Rattle.theory.specs.Models.{AtomSet}
 use Rattle.theory.specs.Derivations.{Depth}
 use Rattle.theory.specs.Labels.{Supporting, spoiler, place-over, Label, absent, out, in-at}
+use Rattle.theory.specs.Labels.{positive, negative, Spoiler}
 
 -- The depth that slot s keeps: that of the atom whose supporting rule it holds, else 0.
 pub data SlotDepth (B : Pages) (M : AtomSet) (s : ℕ) : ℕ → Type 0 where
@@ -25,6 +26,18 @@ place-kept M (some r) = place-over r (spoiler M r)
 
 abbrev pub slot-spoiler : Pages → AtomSet → ℕ → ℕ
 slot-spoiler B M s = place-kept M (getD (active B) s none)
+
+-- And back: the spoiler that a kept place tells of a rule.
+unfoldable pub spoiler-at : Rule → ℕ → Option Spoiler
+spoiler-at r zero = none
+spoiler-at r (suc k) = elim (ltb k (length (r .positives))) [
+  | true ↦ some (record { side = positive; place = k; atom = getD (r .positives) k 0 })
+  | false ↦ some (record {
+    side = negative;
+    place = k - length (r .positives);
+    atom = getD (r .negatives) (k - length (r .positives)) 0;
+  })
+]
 
 -- Does a slot that keeps this depth hold a rule with the head a, and is the depth one?
 abbrev pub keeps? : ℕ → ℕ → Option Rule → Bool

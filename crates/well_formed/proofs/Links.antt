@@ -12,12 +12,19 @@ use Rattle.theory.specs.Rules.{Rule, Program, Held, entries}
 use Rattle.theory.proofs.Lists.{le-or-lt}
 use Rattle.table.specs.declared.Atom.{Atom}
 use Rattle.table.specs.Sets.{number}
-use Rattle.table.specs.Rules.{numbers, noAtom}
+use Rattle.table.specs.declared.Rule as table
+use Rattle.table.specs.Rules.{numbers, noAtom, pastRule, programOf, slotOf}
+use Rattle.table.proofs.Programs.{program-at}
 use Rattle.table.proofs.Entries.{part-over, part-next}
 use Rattle.table.proofs.Members.{number-same, number-other}
 use Rattle.well_formed.specs.Slots.{Single}
 use Rattle.well_formed.specs.Keys.{keys, modulus, factor, mixed, key, slot-key}
 use Rattle.questions.proofs.Passes.{equal?}
+
+-- A rule that was read of a slot is what the program has there.
+pub read-at : (rows : List table.Rule) (s : ℕ) (r : table.Rule) → r ≡ getD rows s pastRule
+    → getD (programOf rows) s none ≡ slotOf r
+read-at rows s r read = program-at rows s ∙ ap slotOf (sym read)
 
 -- k is 1 more than the last slot below `end` that holds a rule of the key h; 0 if there is none.
 pub record Link (P : Program) (h k end : ℕ) : Type 0 where

@@ -1,12 +1,11 @@
-// Slots and labels by themselves: each well formed, and no two rules equal, muted or not.
-use questions::clean::clean_label;
+// Slots by themselves: each well formed, and no two rules equal, muted or not.
 use questions::clean::well_formed;
 use rule::equal;
 use rule::negative_end;
 use table::Atom;
-use table::Label;
 use table::Rule;
 use table::Table;
+use table::slots::rule_at;
 ghost use mathlib.Core.Path.{_≡_};
 ghost use mathlib.Core.Bool.{true};
 ghost use mathlib.Core.Logic.{_↔_};
@@ -15,8 +14,8 @@ ghost use lib.ListN.{getD, set};
 ghost use Rattle.theory.specs.Limits.{document};
 ghost use Rattle.table.specs.Sets.{number};
 ghost use Rattle.table.specs.Rules.{slotOf, ruleOf, programOf, pastRule};
-ghost use Rattle.table.specs.Labels.{absentLabel};
-ghost use Rattle.table.specs.Clean.{WellFormed, CleanLabel};
+ghost use Rattle.table.specs.Words.{rulesOf};
+ghost use Rattle.table.specs.Clean.{WellFormed};
 ghost use Rattle.well_formed.specs.Slots.{Single};
 ghost use Rattle.well_formed.specs.Keys.{modulus, key, slot-key};
 
@@ -28,31 +27,17 @@ const MODULUS: usize = KEYS * KEYS;
 const FACTOR: usize = 8121;
 
 // Is every slot one that a sound table can have?
-pub fn slots_well_formed(rules: [Rule; Table::SLOTS]) -> bool
-    ensures { λ r. ⌜ (r ≡ true) ↔ ((s : ℕ) → s < document .slots → WellFormed (getD rules s pastRule)) ⌝ }
+pub fn slots_well_formed(table: &[u16; Table::WORDS]) -> bool
+    ensures { λ r. ⌜ (r ≡ true)
+        ↔ ((s : ℕ) → s < document .slots → WellFormed (getD (rulesOf (now (table .entry))) s pastRule)) ⌝ }
 {
     let mut i: usize = 0;
     while i < Table::SLOTS {
-        let rule = rules[i];
+        let rule = rule_at(table, i);
         if !well_formed(rule) {
             return false;
         }
         i += 1;
-    }
-    true
-}
-
-// Does every atom that is not in keep no depth and no slot?
-pub fn labels_clean(labels: [Label; Table::ATOMS]) -> bool
-    ensures { λ r. ⌜ (r ≡ true) ↔ ((a : ℕ) → a < document .atoms → CleanLabel (getD labels a absentLabel)) ⌝ }
-{
-    let mut a: usize = 0;
-    while a < Table::ATOMS {
-        let label = labels[a];
-        if !clean_label(label) {
-            return false;
-        }
-        a += 1;
     }
     true
 }
@@ -110,19 +95,19 @@ fn note(k: usize, last: &mut [u16; KEYS], next: u16)
 
 // Are no two rules equal? Rules of one key are linked: `last` has 1 more than the last slot of a key so far,
 // `before` for a slot 1 more than the one before it that has the same key, and 0 says that there is none.
-pub fn no_two_equal(rules: [Rule; Table::SLOTS]) -> bool
-    ensures { λ r. ⌜ (r ≡ true) ↔ Single (programOf rules) ⌝ }
+pub fn no_two_equal(table: &[u16; Table::WORDS]) -> bool
+    ensures { λ r. ⌜ (r ≡ true) ↔ Single (programOf (rulesOf (now (table .entry)))) ⌝ }
 {
     let mut last: [u16; KEYS] = [0; KEYS];
     let mut before: [u16; Table::SLOTS] = [0; Table::SLOTS];
     let mut i: usize = 0;
     while i < Table::SLOTS {
-        let rule = rules[i];
+        let rule = rule_at(table, i);
         let k = slot_key(rule);
         let start = last_of(k, &last);
         let mut link = start as usize;
         while link > 0 {
-            let other = rules[link - 1];
+            let other = rule_at(table, link - 1);
             if equal(rule, other) {
                 return false;
             }

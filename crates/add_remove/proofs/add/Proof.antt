@@ -1,6 +1,6 @@
 -- `add_remove::add` ends as its contract says: question 15 first. Assumes nothing.
 use borrow.Author.Needs.{needs}
-use Rattle.theory.proofs.Lists.{clash, not-true, not-false}
+use Rattle.questions.proofs.Passes.{refused, granted}
 use Rattle.calls.specs.Contracts as contract
 use Rattle.add_remove.proofs.Adding.{handed-back}
 use Rattle.add_remove.proofs.add.Statement.{statement}
@@ -14,12 +14,12 @@ refuse-requires c κs = tt
 
 returns : tie.Need-returns
 returns c =
-    let asked = c .before .before in
+    let asked = c .before in
     handed-back _ _ _ _ (c .refuse .ensures)
-    (contract.unsound (λ S. clash (asked .sound .ensures .1 S) (not-true _ (c .before .if1 .taken))))
+    (contract.unsound (refused _ (asked .before .sound .ensures) (asked .if1 .taken)))
 
 add-to-sound-requires : tie.Need-add-to-sound-requires
-add-to-sound-requires c κs = c .before .sound .ensures .0 (not-false _ (c .if1 .left))
+add-to-sound-requires c κs = granted _ (c .before .sound .ensures) (c .if1 .left)
 
 returns-2 : tie.Need-returns-2
 returns-2 c = search needs

@@ -15,8 +15,6 @@ use Rattle.new_rule.proofs.Slots.{lowest-at, lowest-none}
 use Rattle.add_remove.proofs.Putting.{same-told}
 use Rattle.add_remove.proofs.Adding.{refused-early, refused-same, refused-full, refused-cycle, bounded-changed}
 use Rattle.add_remove.proofs.Adding.{add-ends, handed-back}
-use Rattle.calls.proofs.Sizes.{table-sized, rule-sized}
-use Rattle.labels.proofs.Sizes.{labels-sized}
 use borrow.Author.Needs.{needs}
 use Rattle.add_remove.proofs.add_to_sound.Statement.{statement}
 use Rattle.add_remove.proofs.add_to_sound.Tie as tie
@@ -32,21 +30,21 @@ abbrev asked-of : tie.After-enum-told → tie.After-ask-rule
 asked-of c = c .before .before
 
 abbrev made-of : tie.After-holds-rule → tie.After-make-rule
-made-of c = c .before .before
+made-of c = c .before .before .before
 
 abbrev start : tie.After-holds-rule → tie.Start
 start c = start-of (asked-of (made-of c .before))
 
-abbrev lowest-of : tie.After-with-rule → tie.After-lowest
-lowest-of c = c .before .before
-
 abbrev holds-of : tie.After-lowest-free → tie.After-holds-rule
-holds-of c = c .before .before
+holds-of c = c .before .before .before .before
 
-abbrev found-of : tie.After-with-rule → tie.After-lowest-free
+abbrev lowest-of : tie.After-put-rule → tie.After-lowest
+lowest-of c = c .before .before .before .before
+
+abbrev found-of : tie.After-put-rule → tie.After-lowest-free
 found-of c = lowest-of c .before .before
 
-abbrev begun : tie.After-with-rule → tie.Start
+abbrev begun : tie.After-put-rule → tie.Start
 begun c = start (holds-of (found-of c))
 
 -- The rule passes questions 1 to 4; whether a slot holds it.
@@ -55,16 +53,16 @@ pass c = sym (asked-of c .ask-rule .ensures) ∙ ap firstNoTold (c .enum-told .g
 
 told :
     (c : tie.After-holds-rule) (v : Bool) → c .holds-rule .result ≡ v
-    → any-rule (same (named (start c))) (all (held (start c .args .table))) ≡ v
+    → any-rule (same (named (start c))) (all (held (start c .args .t1))) ≡ v
 told c v e =
     let made = made-of c in
-    same-told (all (held (start c .args .table))) (start c .pre .labels .ascending) (named (start c))
+    same-told (all (held (start c .args .t1))) (start c .pre .rules .ascending) (named (start c))
     (pass (made .before)) (made .make-rule .result) (made .make-rule .ensures) _ v (c .holds-rule .ensures) e
 
 other :
     (c : tie.After-lowest-free)
-    → any-rule (same (named (start (holds-of c)))) (all (held (start (holds-of c) .args .table))) ≡ false
-other c = told (holds-of c) false (c .before .if1 .left)
+    → any-rule (same (named (start (holds-of c)))) (all (held (start (holds-of c) .args .t1))) ≡ false
+other c = told (holds-of c) false (c .before .before .before .if1 .left)
 
 ask-rule-requires : tie.Need-ask-rule-requires
 ask-rule-requires c κs = tt
@@ -80,8 +78,8 @@ returns c =
     let no = c .before .before in
     let ask = no .before .before in
     let s = start-of ask in
-    handed-back (s .args .table) (named s) _ _ (c .refuse .ensures)
-    (refused-early (s .args .table) (s .pre) (named s) _
+    handed-back (s .args .t1) (named s) _ _ (c .refuse .ensures)
+    (refused-early (s .args .t1) (s .pre) (named s) _
     (ap firstNoTold (sym (no .asked .given .1)) ∙ ask .ask-rule .ensures))
 
 enum-told : tie.Need-enum-told
@@ -100,8 +98,8 @@ returns-2 : tie.Need-returns-2
 returns-2 c =
     let holds = c .before .before in
     let s = start holds in
-    handed-back (s .args .table) (named s) _ _ (c .refuse2 .ensures)
-    (refused-same (s .args .table) (s .pre) (named s) (pass (made-of holds .before))
+    handed-back (s .args .t1) (named s) _ _ (c .refuse2 .ensures)
+    (refused-same (s .args .t1) (s .pre) (named s) (pass (made-of holds .before))
     (told holds _ (c .before .if1 .taken)))
 
 lowest-free-requires : tie.Need-lowest-free-requires
@@ -122,51 +120,50 @@ returns-3 c =
     let low = full .before .before in
     let holds = holds-of low in
     let s = start holds in
-    handed-back (s .args .table) (named s) _ _ (c .refuse3 .ensures)
-    (refused-full (s .args .table) (s .pre) (named s) (pass (made-of holds .before)) (other low)
+    handed-back (s .args .t1) (named s) _ _ (c .refuse3 .ensures)
+    (refused-full (s .args .t1) (s .pre) (named s) (pass (made-of holds .before)) (other low)
     (lowest-none _ _ (low .lowest-free .ensures) (full .enum-told2 .given .1)))
 
-with-rule-requires : tie.Need-with-rule-requires
-with-rule-requires c κs = tt
+put-rule-requires : tie.Need-put-rule-requires
+put-rule-requires c κs = tt
 
-labels-of-requires : tie.Need-labels-of-requires
-labels-of-requires c κs =
-    let low = found-of c in
-    let free = lowest-at _ _ (low .lowest-free .ensures) _ (lowest-of c .lowest .given .1) in
+relabel-requires : tie.Need-relabel-requires
+relabel-requires c κs =
+    let put = c .before in
+    let low = found-of put in
+    let free = lowest-at _ _ (low .lowest-free .ensures) _ (lowest-of put .lowest .given .1) in
     let made = made-of (holds-of low) in
-    let s = begun c in
-    bounded-changed (s .args .table) (s .pre) (named s) (pass (made .before)) (other low) _ (free .0) (free .1)
-    (made .make-rule .result) (made .make-rule .ensures) _ (c .with-rule .ensures)
+    let s = begun put in
+    bounded-changed (s .args .t1) (s .pre) (named s) (pass (made .before)) (other low) _ (free .0) (free .1)
+    (made .make-rule .result) (made .make-rule .ensures) _ (put .put-rule .ensures)
 
 refuse-requires-4 : tie.Need-refuse-requires-4
 refuse-requires-4 c κs = tt
 
 returns-4 : tie.Need-returns-4
 returns-4 c =
-    let labelled = c .before .before .before in
-    let put = labelled .before in
+    let found = c .before .before in
+    let put = found .before .before in
     let low = found-of put in
     let free = lowest-at _ _ (low .lowest-free .ensures) _ (lowest-of put .lowest .given .1) in
     let made = made-of (holds-of low) in
     let s = begun put in
-    handed-back (s .args .table) (named s) _ _ (c .refuse4 .ensures)
-    (refused-cycle (s .args .table) (s .pre) (named s) (pass (made .before)) (other low) _ (free .0) (free .1)
-    (made .make-rule .result) (made .make-rule .ensures) _ (put .with-rule .ensures)
-    (labelled .labels-of .result) (labelled .labels-of .ensures) (not-true _ (c .before .if2 .taken)))
+    handed-back (s .args .t1) (named s) _ _ (c .refuse4 .ensures)
+    (refused-cycle (s .args .t1) (s .pre) (named s) (pass (made .before)) (other low) _ (free .0) (free .1)
+    (made .make-rule .result) (made .make-rule .ensures) _ (put .put-rule .ensures) _ _ (found .relabel .ensures)
+    (not-true _ (c .before .if2 .taken)))
 
 returns-5 : tie.Need-returns-5
 returns-5 c =
-    let labelled = c .before .before .before in
-    let put = labelled .before in
+    let found = c .before in
+    let put = found .before .before in
     let low = found-of put in
     let free = lowest-at _ _ (low .lowest-free .ensures) _ (lowest-of put .lowest .given .1) in
     let made = made-of (holds-of low) in
     let s = begun put in
-    add-ends (s .args .table) (s .pre) (named s) (pass (made .before)) (other low) _ (free .0) (free .1)
-    (made .make-rule .result) (made .make-rule .ensures) _ (put .with-rule .ensures)
-    (labelled .labels-of .result) (labelled .labels-of .ensures) (not-false _ (c .before .if2 .left))
-    (table-sized _ _ (s .good .0)) (rule-sized (made .make-rule .result) _ (made .make-rule .ok))
-    (labels-sized (labelled .labels-of .result) _ (labelled .labels-of .ok))
+    add-ends (s .args .t1) (s .pre) (named s) (pass (made .before)) (other low) _ (free .0) (free .1)
+    (made .make-rule .result) (made .make-rule .ensures) _ (put .put-rule .ensures) _ _ (found .relabel .ensures)
+    (not-false _ (c .if2 .left))
 
 pub add-to-sound-spec : {M : Type 1} → statement M
 add-to-sound-spec =
@@ -186,8 +183,8 @@ add-to-sound-spec =
     enum-told-2
     refuse-requires-3
     returns-3
-    with-rule-requires
-    labels-of-requires
+    put-rule-requires
+    relabel-requires
     refuse-requires-4
     returns-4
     returns-5)

@@ -6,7 +6,9 @@ use lib.ListN.{length}
 use Rattle.theory.specs.Limits.{document}
 use Rattle.table.specs.Rules.{activeOf}
 use Rattle.table.specs.Sets.{member}
+use Rattle.table.specs.Words.{rulesOf}
 use Rattle.table.specs.Turns.{slotAt}
+use Rattle.table.proofs.Words.{rules-length}
 use Rattle.table.proofs.SlotsInTurn.{slot-at-below}
 use Rattle.depths.proofs.Relaxing.{Pass, Outer, rounds-start, pass-start, pass-next, round-end}
 use Rattle.depths.proofs.Relaxing.{rounds-few, rounds-end}
@@ -15,19 +17,19 @@ use Rattle.depths.proofs.depths.Statement.{statement}
 use Rattle.depths.proofs.depths.Tie as tie
 
 abbrev Inv-loop2 : tie.InvT-loop2
-Inv-loop2 model rules found₀ round lowered₀ down i₀ found lowered i =
+Inv-loop2 table model found₀ round lowered₀ down i₀ found lowered i =
     (i ≤ document .slots)
-    × Pass (activeOf rules) (member model) (slotAt (document .slots) down) (document .atoms) round i found lowered
+    × Pass (activeOf (rulesOf table)) (member model) (slotAt (document .slots) down) (document .atoms) round i found lowered
 
 abbrev μ-loop2 : tie.MeasureT-loop2
-μ-loop2 model rules found₀ round lowered₀ down i₀ found lowered i = document .slots - i
+μ-loop2 table model found₀ round lowered₀ down i₀ found lowered i = document .slots - i
 
 abbrev Inv-loop : tie.InvT-loop
-Inv-loop model rules found₀ round₀ lowered₀ found round lowered =
-    Outer (activeOf rules) (member model) (document .atoms) round found lowered
+Inv-loop table model found₀ round₀ lowered₀ found round lowered =
+    Outer (activeOf (rulesOf table)) (member model) (document .atoms) round found lowered
 
 abbrev μ-loop : tie.MeasureT-loop
-μ-loop model rules found₀ round₀ lowered₀ found round lowered = document .atoms + 1 - round
+μ-loop table model found₀ round₀ lowered₀ found round lowered = document .atoms + 1 - round
 
 loop-holds : tie.Need-loop-holds Inv-loop2 μ-loop2 Inv-loop μ-loop
 loop-holds c = rounds-start _ _ _
@@ -44,11 +46,8 @@ slot-at-requires c κs = tt
 below : (c : tie.After-slot-at Inv-loop2 μ-loop2 Inv-loop μ-loop) → c .slot-at .result < document .slots
 below c = slot-at-below _ _ _ _ (c .slot-at .ensures) (c .before .loop2-test .taken)
 
-mul-rule : tie.Need-mul-rule Inv-loop2 μ-loop2 Inv-loop μ-loop
-mul-rule c = (let l = below c in search needs)
-
-array-copy-out-rule : tie.Need-array-copy-out-rule Inv-loop2 μ-loop2 Inv-loop μ-loop
-array-copy-out-rule c = (let l = below c in search needs)
+rule-at-requires : tie.Need-rule-at-requires Inv-loop2 μ-loop2 Inv-loop μ-loop
+rule-at-requires c κs = below c
 
 lower-requires : tie.Need-lower-requires Inv-loop2 μ-loop2 Inv-loop μ-loop
 lower-requires c κs = tt
@@ -65,8 +64,8 @@ loop2-again c =
     let t = w .before .before in
     let s = t .before .before .before in (
       omega arith,
-      pass-next (s .args .t1) _ _ (s .pre .0) (s .pre .1) _ _ (t .loop2 .i) _ (t .loop2 .lowered) (t .loop2 .inv .1) _
-          (w .slot-at .ensures) _ _ (c .lower .ensures) _ refl,
+      pass-next (rulesOf (s .args .table .now)) _ _ (s .pre .0) (s .pre .1) _ _ (t .loop2 .i) _ (t .loop2 .lowered)
+          (t .loop2 .inv .1) _ (w .slot-at .ensures) _ (c .before .before .rule-at .ensures) _ _ (c .lower .ensures) _ refl,
     )
 
 add-round : tie.Need-add-round Inv-loop2 μ-loop2 Inv-loop μ-loop
@@ -85,8 +84,8 @@ loop-again : tie.Need-loop-again Inv-loop2 μ-loop2 Inv-loop μ-loop
 loop-again c =
     let s = c .before .before .before .before in
     let at = c .before .loop2 in
-    let len : length (s .args .t1) ≡ document .slots = search needs in
-    round-end (s .args .t1) _ _ (s .pre .0) (s .pre .1) _ len _ _ (at .i) _ (c .loop2-test .left) _ (at .inv .1)
+    round-end (rulesOf (s .args .table .now)) _ _ (s .pre .0) (s .pre .1) _ (rules-length _) _ _ (at .i) _
+    (c .loop2-test .left) _ (at .inv .1)
 
 returns : tie.Need-returns Inv-loop2 μ-loop2 Inv-loop μ-loop
 returns c = rounds-end _ _ _ _ _ (c .before .loop .lowered) (c .loop-test .left) (c .before .loop .inv)
@@ -102,8 +101,7 @@ depths-spec =
     loop-holds
     loop2-holds
     slot-at-requires
-    mul-rule
-    array-copy-out-rule
+    rule-at-requires
     lower-requires
     add-i
     loop2-less

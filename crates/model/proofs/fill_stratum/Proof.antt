@@ -4,12 +4,14 @@
 use Prim.Native.Nat.{suc, _-_, _≤_}
 use native.Mathlib.Omega.{arith}
 use mathlib.Core.Path.{_≡_, refl, sym, _∙_}
-use lib.ListN.{length, getD}
+use lib.ListN.{length}
 use Rattle.theory.specs.Limits.{document}
 use Rattle.theory.proofs.Lists.{not-true, not-false}
 use Rattle.theory.proofs.Found.{found-filled}
-use Rattle.table.specs.Rules.{activeOf, pastRule}
+use Rattle.table.specs.Rules.{activeOf}
+use Rattle.table.specs.Words.{rulesOf}
 use Rattle.table.specs.Sets.{member, number}
+use Rattle.table.proofs.Words.{rules-length}
 use Rattle.model.proofs.Visits.{Left, left-start, left-idle, left-stop, left-add, left-rest, waits-sought}
 use Rattle.model.proofs.Visits.{NoneFrom, Seen, seen-start, seen-over, seen-here, seen-mark, seen-end}
 use Rattle.model.proofs.Rounds.{Going, going-start, going-few, room-of, head-below}
@@ -19,20 +21,20 @@ use Rattle.model.proofs.fill_stratum.Statement.{statement}
 use Rattle.model.proofs.fill_stratum.Tie as tie
 
 abbrev Inv-loop2 : tie.InvT-loop2
-Inv-loop2 strata k found₀ rules rounds end adds₀ last₀ i₀ found adds last i =
-    Left (number strata) k rules found₀ i found adds × Seen (number strata) k rules found end last i
+Inv-loop2 table strata k found₀ rounds end adds₀ last₀ i₀ found adds last i =
+    Left (number strata) k (rulesOf table) found₀ i found adds × Seen (number strata) k (rulesOf table) found end last i
     × (end ≤ document .slots)
 
 abbrev μ-loop2 : tie.MeasureT-loop2
-μ-loop2 strata k found₀ rules rounds end adds₀ last₀ i₀ found adds last i = end - i
+μ-loop2 table strata k found₀ rounds end adds₀ last₀ i₀ found adds last i = end - i
 
 abbrev Inv-loop : tie.InvT-loop
-Inv-loop strata k found₀ rules rounds₀ end₀ found rounds end =
-    Going (activeOf rules) (number strata) k (member found₀) (member found) rounds
-    × (length found ≡ length found₀) × NoneFrom (number strata) k rules found end × (end ≤ document .slots)
+Inv-loop table strata k found₀ rounds₀ end₀ found rounds end =
+    Going (activeOf (rulesOf table)) (number strata) k (member found₀) (member found) rounds
+    × (length found ≡ length found₀) × NoneFrom (number strata) k (rulesOf table) found end × (end ≤ document .slots)
 
 abbrev μ-loop : tie.MeasureT-loop
-μ-loop strata k found₀ rules rounds₀ end₀ found rounds end = suc (document .slots) - rounds
+μ-loop table strata k found₀ rounds₀ end₀ found rounds end = suc (document .slots) - rounds
 
 -- from a visit to the start of its round
 abbrev round-of : (c : tie.At-loop2 Inv-loop2 μ-loop2 Inv-loop μ-loop) → tie.At-loop Inv-loop2 μ-loop2 Inv-loop μ-loop
@@ -40,29 +42,20 @@ round-of c = c .before
 
 loop-holds : tie.Need-loop-holds Inv-loop2 μ-loop2 Inv-loop μ-loop
 loop-holds c =
-    let len : length (c .args .t1) ≡ document .slots = search needs in
-    let L = strata-given (c .args .t1) _ (c .pre .stratified) in
+    let len = rules-length (c .args .table .now) in
+    let L = strata-given (rulesOf (c .args .table .now)) _ (c .pre .stratified) in
     (going-start _ _ _ _ (found-filled _ _ L (c .pre .below)), refl, λ z l r. absurd (omega (arith, len)), omega arith)
 
 loop2-holds : tie.Need-loop2-holds Inv-loop2 μ-loop2 Inv-loop μ-loop
 loop2-holds c =
     let t = c .loop .inv in
-    (left-start _ _ _ _, seen-start _ _ (c .before .args .t1) _ _ (t .2), t .3)
+    (left-start _ _ _ _, seen-start _ _ (rulesOf (c .before .args .table .now)) _ _ (t .2), t .3)
 
 add-i : tie.Need-add-i Inv-loop2 μ-loop2 Inv-loop μ-loop
 add-i c = search needs
 
-mul-waits : tie.Need-mul-waits Inv-loop2 μ-loop2 Inv-loop μ-loop
-mul-waits c = (let l = c .before .loop2 .inv .2 in search needs)
-
-element-copy-out-waits : tie.Need-element-copy-out-waits Inv-loop2 μ-loop2 Inv-loop μ-loop
-element-copy-out-waits c = (let l = c .before .loop2 .inv .2 in search needs)
-
-mul-waits-2 : tie.Need-mul-waits-2 Inv-loop2 μ-loop2 Inv-loop μ-loop
-mul-waits-2 c = (let l = c .before .loop2 .inv .2 in search needs)
-
-element-copy-out-waits-2 : tie.Need-element-copy-out-waits-2 Inv-loop2 μ-loop2 Inv-loop μ-loop
-element-copy-out-waits-2 c = (let l = c .before .loop2 .inv .2 in search needs)
+rule-at-requires : tie.Need-rule-at-requires Inv-loop2 μ-loop2 Inv-loop μ-loop
+rule-at-requires c κs = (let l = c .before .loop2 .inv .2 in search needs)
 
 waits-requires : tie.Need-waits-requires Inv-loop2 μ-loop2 Inv-loop μ-loop
 waits-requires c κs = tt
@@ -72,20 +65,15 @@ loop2-less c = search needs
 
 loop2-again : tie.Need-loop2-again Inv-loop2 μ-loop2 Inv-loop μ-loop
 loop2-again c =
-    let at = c .before .before .before .before in
+    let read = c .before .before .before .rule-at .ensures in
+    let at = c .before .before .before .before .before in
     let s = round-of at .before in
-    let len : length (s .args .t1) ≡ document .slots = search needs in
+    let len = rules-length (s .args .table .now) in
     let no = sym (c .before .waits .ensures) ∙ not-true _ (c .if1 .taken) in (
-      left-idle _ _ (s .args .t1) _ (at .loop2 .i) _ _ (omega (arith, at .loop2 .inv .2)) (at .loop2 .inv .0) no,
-      seen-over _ _ (s .args .t1) _ _ _ (at .loop2 .i) (at .loop2 .inv .1) no,
+      left-idle _ _ (rulesOf (s .args .table .now)) _ (at .loop2 .i) _ _ (omega (arith, at .loop2 .inv .2)) (at .loop2 .inv .0) _ read no,
+      seen-over _ _ (rulesOf (s .args .table .now)) _ _ _ (at .loop2 .i) (at .loop2 .inv .1) _ read no,
       at .loop2 .inv .2,
     )
-
-mul-rule : tie.Need-mul-rule Inv-loop2 μ-loop2 Inv-loop μ-loop
-mul-rule c = (let l = c .before .before .before .before .loop2 .inv .2 in search needs)
-
-array-copy-out-rule : tie.Need-array-copy-out-rule Inv-loop2 μ-loop2 Inv-loop μ-loop
-array-copy-out-rule c = (let l = c .before .before .before .before .loop2 .inv .2 in search needs)
 
 holds-valid-requires : tie.Need-holds-valid-requires Inv-loop2 μ-loop2 Inv-loop μ-loop
 holds-valid-requires c κs = tt
@@ -97,10 +85,11 @@ loop2-again-2 : tie.Need-loop2-again-2 Inv-loop2 μ-loop2 Inv-loop μ-loop
 loop2-again-2 c =
     let at = c .before .before .before .before .before .before .before .before in
     let s = round-of at .before in
-    let len : length (s .args .t1) ≡ document .slots = search needs in (
-      left-stop _ _ (s .args .t1) _ (at .loop2 .i) _ _ (omega (arith, at .loop2 .inv .2)) (at .loop2 .inv .0)
+    let len = rules-length (s .args .table .now) in (
+      left-stop _ _ (rulesOf (s .args .table .now)) _ (at .loop2 .i) _ _ (omega (arith, at .loop2 .inv .2)) (at .loop2 .inv .0)
+          _ (c .before .before .before .before .before .before .rule-at .ensures)
           (sym (c .before .holds-valid .ensures) ∙ not-true _ (c .if2 .taken)),
-      seen-here _ _ (s .args .t1) _ _ _ (at .loop2 .i) (at .loop2 .inv .1),
+      seen-here _ _ (rulesOf (s .args .table .now)) _ _ _ (at .loop2 .i) (at .loop2 .inv .1),
       at .loop2 .inv .2,
     )
 
@@ -113,20 +102,21 @@ loop2-less-3 c = search needs
 loop2-again-3 : tie.Need-loop2-again-3 Inv-loop2 μ-loop2 Inv-loop μ-loop
 loop2-again-3 c =
     let good = c .before .before in
-    let new = good .before .before .before .before in
-    let at = new .before .before .before .before in
+    let new = good .before .before .before in
+    let here = new .before .before .before .rule-at in
+    let at = new .before .before .before .before .before in
     let s = round-of at .before in
-    let len : length (s .args .t1) ≡ document .slots = search needs in
-    let here = getD (s .args .t1) (at .loop2 .i) pastRule in
+    let rules = rulesOf (s .args .table .now) in
+    let len = rules-length (s .args .table .now) in
     let size : length (at .loop2 .found) ≡ document .atoms =
     at .loop2 .inv .0 .size ∙ (round-of at .loop .inv .1 ∙ s .pre .size) in (
-      left-add _ _ (s .args .t1) _ (at .loop2 .i) _ _ (omega (arith, at .loop2 .inv .2)) (at .loop2 .inv .0)
-          (rw size (head-below (s .args .t1) (document .atoms) _ (s .pre .stratified .bounded)))
-          (waits-sought (number (s .args .strata .now)) (s .args .k) (member (at .loop2 .found)) (here .state)
-          (here .head .0) (sym (new .before .waits .ensures) ∙ not-false _ (new .if1 .left)))
+      left-add _ _ rules _ (at .loop2 .i) _ _ (omega (arith, at .loop2 .inv .2)) (at .loop2 .inv .0) _ (here .ensures)
+          (rw size (head-below rules (document .atoms) _ _ (here .ensures) (s .pre .stratified .bounded)))
+          (waits-sought (number (s .args .strata .now)) (s .args .k) (member (at .loop2 .found)) (here .result .state)
+          (here .result .head .0) (sym (new .before .waits .ensures) ∙ not-false _ (new .if1 .left)))
           (sym (good .before .holds-valid .ensures) ∙ not-false _ (good .if2 .left)) _ (c .mark .ensures),
-      seen-mark _ _ (s .args .t1) _ _ _ _ _ _ (c .mark .ensures)
-          (seen-here _ _ (s .args .t1) _ _ _ (at .loop2 .i) (at .loop2 .inv .1)),
+      seen-mark _ _ rules _ _ _ _ _ _ (c .mark .ensures)
+          (seen-here _ _ rules _ _ _ (at .loop2 .i) (at .loop2 .inv .1)),
       at .loop2 .inv .2,
     )
 
@@ -134,21 +124,21 @@ add-rounds : tie.Need-add-rounds Inv-loop2 μ-loop2 Inv-loop μ-loop
 add-rounds c =
     let s = c .before .before .before in
     let few = going-few _ _ _ _ _ _ (c .before .before .loop .inv .0) in
-    let len : length (s .args .t1) ≡ document .slots = search needs in
-    let room = room-of (s .args .t1) (document .slots) len in
+    let len = rules-length (s .args .table .now) in
+    let room = room-of (rulesOf (s .args .table .now)) (document .slots) len in
     search needs
 
 returns : tie.Need-returns Inv-loop2 μ-loop2 Inv-loop μ-loop
 returns c =
     let s = c .before .before .before .before in
-    let len : length (s .args .t1) ≡ document .slots = search needs in
+    let len = rules-length (s .args .table .now) in
     let G = c .before .before .before .loop .inv in
     let t = c .before .before .loop2 in
     let past = c .before .loop2-test .left in
-    let R = left-rest _ _ (s .args .t1) _ (t .i) _ _ (λ z l r. t .inv .1 .outer z (omega arith) r) (t .inv .0) in
+    let R = left-rest _ _ (rulesOf (s .args .table .now)) _ (t .i) _ _ (λ z l r. t .inv .1 .outer z (omega arith) r) (t .inv .0) in
     let over = not-true _ (c .if3 .taken) in
     record {
-      rounds = stratum-end (s .args .t1) _ _ _ _ _ _ _ (G .0) R over;
+      rounds = stratum-end (rulesOf (s .args .table .now)) _ _ _ _ _ _ _ (G .0) R over;
       size = R .size ∙ G .1;
     }
 
@@ -156,22 +146,22 @@ loop-less : tie.Need-loop-less Inv-loop2 μ-loop2 Inv-loop μ-loop
 loop-less c =
     let s = c .before .before .before .before in
     let few = going-few _ _ _ _ _ _ (c .before .before .before .loop .inv .0) in
-    let len : length (s .args .t1) ≡ document .slots = search needs in
-    let room = room-of (s .args .t1) (document .slots) len in
+    let len = rules-length (s .args .table .now) in
+    let room = room-of (rulesOf (s .args .table .now)) (document .slots) len in
     omega arith
 
 loop-again : tie.Need-loop-again Inv-loop2 μ-loop2 Inv-loop μ-loop
 loop-again c =
     let s = c .before .before .before .before in
-    let len : length (s .args .t1) ≡ document .slots = search needs in
+    let len = rules-length (s .args .table .now) in
     let G = c .before .before .before .loop .inv in
     let t = c .before .before .loop2 in
     let past = c .before .loop2-test .left in
-    let R = left-rest _ _ (s .args .t1) _ (t .i) _ _ (λ z l r. t .inv .1 .outer z (omega arith) r) (t .inv .0) in
+    let R = left-rest _ _ (rulesOf (s .args .table .now)) _ (t .i) _ _ (λ z l r. t .inv .1 .outer z (omega arith) r) (t .inv .0) in
     let more = not-false _ (c .if3 .left) in (
-      stratum-next (s .args .t1) _ _ _ _ _ _ _ (G .0) R (strata-given (s .args .t1) _ (s .pre .stratified)) more,
+      stratum-next (rulesOf (s .args .table .now)) _ _ _ _ _ _ _ (G .0) R (strata-given (rulesOf (s .args .table .now)) _ (s .pre .stratified)) more,
       R .size ∙ G .1,
-      seen-end _ _ (s .args .t1) _ _ _ (t .i) (t .inv .1) past,
+      seen-end _ _ (rulesOf (s .args .table .now)) _ _ _ (t .i) (t .inv .1) past,
       omega (arith, t .inv .1 .low, t .inv .0 .place),
     )
 
@@ -186,15 +176,10 @@ fill-stratum-spec =
     loop-holds
     loop2-holds
     add-i
-    mul-waits
-    element-copy-out-waits
-    mul-waits-2
-    element-copy-out-waits-2
+    rule-at-requires
     waits-requires
     loop2-less
     loop2-again
-    mul-rule
-    array-copy-out-rule
     holds-valid-requires
     loop2-less-2
     loop2-again-2

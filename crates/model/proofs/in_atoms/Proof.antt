@@ -6,25 +6,27 @@ use mathlib.Core.Path.{_≡_, refl}
 use lib.ListN.{length}
 use Rattle.theory.specs.Limits.{document}
 use Rattle.table.specs.Rules.{bookOf}
+use Rattle.table.specs.Words.{rulesOf}
 use Rattle.table.specs.Sets.{number}
+use Rattle.table.proofs.Words.{rules-length}
 use Rattle.model.proofs.Rounds.{Between, between-start, between-next, between-end, stratum-room}
 use borrow.Author.Needs.{needs}
 use Rattle.model.proofs.in_atoms.Statement.{statement}
 use Rattle.model.proofs.in_atoms.Tie as tie
 
 abbrev Inv-loop : tie.InvT-loop
-Inv-loop rules strata top found₀ rounds₀ k₀ found rounds k =
-    Between (bookOf rules) (number strata) top k found rounds
+Inv-loop table strata top found₀ rounds₀ k₀ found rounds k =
+    Between (bookOf (rulesOf table)) (number strata) top k found rounds
 
 abbrev μ-loop : tie.MeasureT-loop
-μ-loop rules strata top found₀ rounds₀ k₀ found rounds k = top - k
+μ-loop table strata top found₀ rounds₀ k₀ found rounds k = top - k
 
 highest-requires : tie.Need-highest-requires Inv-loop μ-loop
 highest-requires c κs = tt
 
 loop-holds : tie.Need-loop-holds Inv-loop μ-loop
 loop-holds c =
-    between-start (c .before .args .rules) _ (c .before .pre) _ (c .highest .ensures) (document .atoms)
+    between-start (rulesOf (c .before .args .table .now)) _ (c .before .pre) _ (c .highest .ensures) (document .atoms)
     (suc (document .slots)) refl refl
 
 fill-stratum-requires : tie.Need-fill-stratum-requires Inv-loop μ-loop
@@ -34,8 +36,8 @@ fill-stratum-requires c κs = c .before .loop .inv .ready
 room : (c : tie.After-fill-stratum Inv-loop μ-loop) → c .before .before .before .highest .result < suc (document .slots)
 room c =
     let s = c .before .before .before .before in
-    let len : length (s .args .rules) ≡ document .slots = search needs in
-    stratum-room (s .args .rules) _ (s .pre) _ (c .before .before .before .highest .ensures) len
+    let len = rules-length (s .args .table .now) in
+    stratum-room (rulesOf (s .args .table .now)) _ (s .pre) _ (c .before .before .before .highest .ensures) len
 
 cast-rounds : tie.Need-cast-rounds Inv-loop μ-loop
 cast-rounds c = search needs
@@ -49,9 +51,9 @@ array-write-rounds c = (let r = room c in search needs)
 returns : tie.Need-returns Inv-loop μ-loop
 returns c =
     let s = c .before .before .before .before .before in
-    let len : length (s .args .rules) ≡ document .slots = search needs in
+    let len = rules-length (s .args .table .now) in
     let told = c .before .before .before .before .highest .ensures in
-    between-end (s .args .rules) _ (s .pre) _ told len _ _ _ _ _ (c .before .before .before .loop .inv)
+    between-end (rulesOf (s .args .table .now)) _ (s .pre) _ told len _ _ _ _ _ (c .before .before .before .loop .inv)
     (c .before .fill-stratum .ensures) (c .if1 .taken)
 
 add-k : tie.Need-add-k Inv-loop μ-loop
@@ -63,9 +65,9 @@ loop-less c = search needs
 loop-again : tie.Need-loop-again Inv-loop μ-loop
 loop-again c =
     let s = c .before .before .before .before .before in
-    let len : length (s .args .rules) ≡ document .slots = search needs in
+    let len = rules-length (s .args .table .now) in
     let told = c .before .before .before .before .highest .ensures in
-    between-next (s .args .rules) _ (s .pre) _ told len _ _ _ _ _ (c .before .before .before .loop .inv)
+    between-next (rulesOf (s .args .table .now)) _ (s .pre) _ told len _ _ _ _ _ (c .before .before .before .loop .inv)
     (c .before .fill-stratum .ensures) (omega (arith, c .if1 .left))
 
 pub in-atoms-spec : {M : Type 1} → statement M

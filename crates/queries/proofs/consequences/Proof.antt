@@ -1,9 +1,11 @@
 -- `queries::consequences` meets its contract. Assumes nothing.
 use Rattle.theory.specs.Rules.{all}
 use Rattle.theory.specs.Explanations.{Consequence}
+use Rattle.table.specs.Words.{tableOf}
 use Rattle.calls.specs.Contracts.{held}
 use Rattle.calls.proofs.Asking.{ask-passed}
-use Rattle.queries.proofs.Ends.{sound-bounded, set-refused, set-ends}
+use Rattle.reading.proofs.SoundArrays.{sound-bounded}
+use Rattle.queries.proofs.Ends.{set-refused, set-ends}
 use borrow.Author.Needs.{needs}
 use Rattle.queries.proofs.consequences.Statement.{statement}
 use Rattle.queries.proofs.consequences.Tie as tie
@@ -19,9 +21,9 @@ enum-known-asked-2 c = search needs
 
 following-requires : tie.Need-following-requires
 following-requires c κs =
-    let asked = c .before .before in
+    let asked = c .before in
     let ask = asked .before .before in
-    let t = ask .before .before .args .table in
+    let t = tableOf (ask .before .before .args .table .now) in
     sound-bounded t (ask-passed t _ _ (ask .ask-atom .ensures) _ (asked .asked2 .given .1) .sound)
 
 slice-aggregate-write-marked : tie.Need-slice-aggregate-write-marked
@@ -35,7 +37,7 @@ returns c =
     let asked = c .before in
     let ask = asked .before .before in
     let s = ask .before .before in
-    let t = s .args .table in
+    let t = tableOf (s .args .table .now) in
     set-refused t (s .args .atom) _ (ask .ask-atom .ensures) (λ M. Consequence (all (held t))) _
     (asked .asked .given .1) _
 
@@ -46,14 +48,14 @@ returns-2 : tie.Need-returns-2
 returns-2 c =
     let write = c .before .before in
     let find = write .before .before .before in
-    let asked = find .before .before .before in
+    let asked = find .before .before in
     let ask = asked .before .before in
     let s = ask .before .before in
-    let t = s .args .table in
+    let t = tableOf (s .args .table .now) in
     let passes = ask-passed t (s .args .atom) _ (ask .ask-atom .ensures) _ (asked .asked2 .given .1) in
     set-ends t (s .args .atom) _ (ask .ask-atom .ensures) (λ M. Consequence (all (held t))) _
     (asked .asked2 .given .1) _
-    (passes .sound .labels .admissible) (find .following .result) (find .following .ensures) _ _ _
+    (passes .sound .kept .admissible) (find .following .result) (find .following .ensures) _ _ _
     (write .write-marked .ensures)
 
 pub consequences-spec : {M : Type 1} → statement M

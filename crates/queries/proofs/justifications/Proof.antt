@@ -1,6 +1,7 @@
 -- `queries::justifications` meets its contract. Assumes nothing.
 use Rattle.theory.specs.Rules.{all}
 use Rattle.theory.specs.Explanations.{Justification}
+use Rattle.table.specs.Words.{tableOf}
 use Rattle.calls.specs.Contracts.{held}
 use Rattle.calls.proofs.Asking.{ask-passed}
 use Rattle.queries.proofs.Ends.{set-refused, set-ends}
@@ -31,7 +32,7 @@ returns c =
     let asked = c .before in
     let ask = asked .before .before in
     let s = ask .before .before in
-    let t = s .args .table in
+    let t = tableOf (s .args .table .now) in
     set-refused t (s .args .atom) _ (ask .ask-atom .ensures) (λ M. Justification (all (held t))) _
     (asked .asked .given .1) _
 
@@ -42,14 +43,14 @@ returns-2 : tie.Need-returns-2
 returns-2 c =
     let write = c .before .before in
     let find = write .before .before .before in
-    let asked = find .before .before .before in
+    let asked = find .before .before in
     let ask = asked .before .before in
     let s = ask .before .before in
-    let t = s .args .table in
+    let t = tableOf (s .args .table .now) in
     let passes = ask-passed t (s .args .atom) _ (ask .ask-atom .ensures) _ (asked .asked2 .given .1) in
     set-ends t (s .args .atom) _ (ask .ask-atom .ensures) (λ M. Justification (all (held t))) _
     (asked .asked2 .given .1) _
-    (passes .sound .labels .admissible) (find .justifying .result) (find .justifying .ensures) _ _ _
+    (passes .sound .kept .admissible) (find .justifying .result) (find .justifying .ensures) _ _ _
     (write .write-marked .ensures)
 
 pub justifications-spec : {M : Type 1} → statement M

@@ -1,4 +1,5 @@
 -- `queries::label` meets its contract. Assumes nothing.
+use Rattle.table.specs.Words.{tableOf}
 use Rattle.calls.proofs.Asking.{ask-passed, label-refused}
 use Rattle.queries.proofs.Ends.{label-ends}
 use borrow.Author.Needs.{needs}
@@ -25,15 +26,15 @@ returns c =
     let asked = c .before in
     let ask = asked .before .before in
     let s = ask .before in
-    label-refused (s .args .table) (s .args .atom) _ (ask .ask-atom .ensures) _ (asked .asked .given .1)
+    label-refused (tableOf (s .args .table .now)) (s .args .atom) _ (ask .ask-atom .ensures) _ (asked .asked .given .1)
 
 returns-2 : tie.Need-returns-2
 returns-2 c =
     let read = c .before in
-    let asked = read .before .before .before in
+    let asked = read .before .before in
     let ask = asked .before .before in
     let s = ask .before in
-    label-ends (s .args .table) (s .args .atom) _ _ _
+    label-ends (tableOf (s .args .table .now)) (s .args .atom) _ (read .label-of .result) _
     (ask-passed _ _ _ (ask .ask-atom .ensures) _ (asked .asked2 .given .1)) (read .label-of .ensures)
     (c .tell-label .ensures)
 

@@ -1,22 +1,13 @@
 -- `queries::repercussions` meets its contract. Assumes nothing.
-use mathlib.Core.Path.{_≡_}
-use lib.ListN.{length, length-map}
-use Rattle.theory.specs.Limits.{document}
 use Rattle.theory.specs.Rules.{active}
 use Rattle.theory.specs.Explanations.{Repercussion}
+use Rattle.table.specs.Words.{tableOf}
 use Rattle.calls.specs.Contracts.{held}
 use Rattle.calls.proofs.Asking.{ask-passed}
-use Rattle.queries.proofs.Ends.{active-low, flags-model, flags-supports, set-refused, set-ends}
+use Rattle.queries.proofs.Ends.{active-low, flags-admissible, flags-supports, set-refused, set-ends}
 use borrow.Author.Needs.{needs}
 use Rattle.queries.proofs.repercussions.Statement.{statement}
 use Rattle.queries.proofs.repercussions.Tie as tie
-
--- what owning the table tells of its arrays
-rules-long : (s : tie.Start) → length (s .args .table .rules) ≡ document .slots
-rules-long s = simp length-map at (s .good .0 .1 .1 .0 .1 .0 .1)
-
-labels-long : (s : tie.Start) → length (s .args .table .labels) ≡ document .atoms
-labels-long s = simp length-map at (s .good .0 .1 .1 .1 .0 .1 .0 .1)
 
 ask-atom-requires : tie.Need-ask-atom-requires
 ask-atom-requires c κs = tt
@@ -33,12 +24,12 @@ arrays-of-requires c κs = tt
 reached-requires : tie.Need-reached-requires
 reached-requires c κs =
     let arrays-of = c .before .before .before .before in
-    let asked = arrays-of .before .before .before .before in
+    let asked = arrays-of .before .before in
     let ask = asked .before .before in
     let s = ask .before .before in
-    let t = s .args .table in
+    let t = tableOf (s .args .table .now) in
     let is-sound = ask-passed t (s .args .atom) _ (ask .ask-atom .ensures) _ (asked .asked2 .given .1) .sound in
-    (active-low t is-sound, flags-supports t (rules-long s) (labels-long s) is-sound _ (arrays-of .arrays-of .ensures))
+    (active-low t is-sound, flags-supports t is-sound (arrays-of .arrays-of .result) (arrays-of .arrays-of .ensures))
 
 slice-aggregate-write-marked : tie.Need-slice-aggregate-write-marked
 slice-aggregate-write-marked c = search needs
@@ -51,7 +42,7 @@ returns c =
     let asked = c .before in
     let ask = asked .before .before in
     let s = ask .before .before in
-    let t = s .args .table in
+    let t = tableOf (s .args .table .now) in
     set-refused t (s .args .atom) _ (ask .ask-atom .ensures) (λ M. Repercussion (active (held t)) M) _
     (asked .asked .given .1) _
 
@@ -63,14 +54,14 @@ returns-2 c =
     let write = c .before .before in
     let find = write .before .before .before in
     let arrays-of = find .before .before .before .before .before in
-    let asked = arrays-of .before .before .before .before in
+    let asked = arrays-of .before .before in
     let ask = asked .before .before in
     let s = ask .before .before in
-    let t = s .args .table in
+    let t = tableOf (s .args .table .now) in
     let passes = ask-passed t (s .args .atom) _ (ask .ask-atom .ensures) _ (asked .asked2 .given .1) in
     set-ends t (s .args .atom) _ (ask .ask-atom .ensures) (λ M. Repercussion (active (held t)) M) _
     (asked .asked2 .given .1) _
-    (flags-model t (rules-long s) (labels-long s) (passes .sound) _ (arrays-of .arrays-of .ensures))
+    (flags-admissible t (passes .sound) (arrays-of .arrays-of .result) (arrays-of .arrays-of .ensures))
     (find .reached .result) (find .reached .ensures) _ _ _ (write .write-marked .ensures)
 
 pub repercussions-spec : {M : Type 1} → statement M

@@ -1,19 +1,13 @@
 -- `queries::spoiler` meets its contract. Assumes nothing.
-use mathlib.Core.Path.{_≡_}
-use lib.ListN.{length, length-map}
+use Prim.Native.Nat.{_<_}
+use mathlib.Core.Path.{sym, subst}
 use Rattle.theory.specs.Limits.{document}
-use Rattle.calls.proofs.Asking.{slot-passed, spoiler-refused}
-use Rattle.queries.proofs.Ends.{spoiler-ends}
+use Rattle.table.specs.Words.{tableOf}
+use Rattle.calls.proofs.Asking.{slot-low, slot-passed, spoiler-refused}
+use Rattle.queries.proofs.Ends.{spoiler-ends, spoiler-low}
 use borrow.Author.Needs.{needs}
 use Rattle.queries.proofs.spoiler.Statement.{statement}
 use Rattle.queries.proofs.spoiler.Tie as tie
-
--- what owning the table tells of its arrays
-rules-long : (s : tie.Start) → length (s .args .table .rules) ≡ document .slots
-rules-long s = simp length-map at (s .good .0 .1 .1 .0 .1 .0 .1)
-
-labels-long : (s : tie.Start) → length (s .args .table .labels) ≡ document .atoms
-labels-long s = simp length-map at (s .good .0 .1 .1 .1 .0 .1 .0 .1)
 
 ask-slot-requires : tie.Need-ask-slot-requires
 ask-slot-requires c κs = tt
@@ -27,29 +21,47 @@ enum-known-asked-2 c = search needs
 rule-in-requires : tie.Need-rule-in-requires
 rule-in-requires c κs = tt
 
-arrays-of-requires : tie.Need-arrays-of-requires
-arrays-of-requires c κs = tt
+cast-i : tie.Need-cast-i
+cast-i c = search needs
+
+spoiler-at-requires : tie.Need-spoiler-at-requires
+spoiler-at-requires c κs =
+    let asked = c .before .before .before in
+    let ask = asked .before .before in
+    let s = ask .before in
+    let t = tableOf (s .args .table .now) in
+    let passes = slot-passed t (s .args .slot) _ (ask .ask-slot .ensures) _ (asked .asked2 .given .1) in
+    subst (λ k. k < document .slots) (sym (passes .slot)) (slot-low t (s .args .slot) _ passes)
 
 tell-rule-requires : tie.Need-tell-rule-requires
-tell-rule-requires c κs = tt
+tell-rule-requires c κs =
+    let read = c .before .before in
+    let asked = read .before .before in
+    let ask = asked .before .before in
+    let s = ask .before in
+    let t = tableOf (s .args .table .now) in
+    let passes = slot-passed t (s .args .slot) _ (ask .ask-slot .ensures) _ (asked .asked2 .given .1) in
+    spoiler-low t (s .args .slot) _ passes (read .rule-in .result) (read .rule-in .ensures) _ (c .spoiler-at .ensures)
 
 returns : tie.Need-returns
 returns c =
     let asked = c .before in
     let ask = asked .before .before in
     let s = ask .before in
-    spoiler-refused (s .args .table) (s .args .slot) _ (ask .ask-slot .ensures) _ (asked .asked .given .1)
+    spoiler-refused (tableOf (s .args .table .now)) (s .args .slot) _ (ask .ask-slot .ensures) _
+    (asked .asked .given .1)
 
 returns-2 : tie.Need-returns-2
 returns-2 c =
-    let arrays-of = c .before .before .before in
-    let read = arrays-of .before .before in
-    let asked = read .before .before .before in
+    let place = c .before in
+    let read = place .before .before in
+    let asked = read .before .before in
     let ask = asked .before .before in
     let s = ask .before in
-    let passes = slot-passed (s .args .table) (s .args .slot) _ (ask .ask-slot .ensures) _ (asked .asked2 .given .1) in
-    spoiler-ends (s .args .table) (rules-long s) (labels-long s) (passes .sound) (arrays-of .arrays-of .result)
-    (arrays-of .arrays-of .ensures) (s .args .slot) _ passes _ (read .rule-in .ensures) _ (c .tell-rule .ensures)
+    let t = tableOf (s .args .table .now) in
+    let passes = slot-passed t (s .args .slot) _ (ask .ask-slot .ensures) _ (asked .asked2 .given .1) in
+    spoiler-ends t (s .args .slot) _ passes (read .rule-in .result) (read .rule-in .ensures) _
+    (place .spoiler-at .ensures) _ (c .tell-rule .ensures)
 
 pub spoiler-spec : {M : Type 1} → statement M
 spoiler-spec =
@@ -59,7 +71,8 @@ spoiler-spec =
     enum-known-asked
     enum-known-asked-2
     rule-in-requires
-    arrays-of-requires
+    cast-i
+    spoiler-at-requires
     tell-rule-requires
     returns
     returns-2)

@@ -2,42 +2,38 @@
 -- Assumes nothing.
 use Prim.Native.Nat.{_-_}
 use native.Mathlib.Omega.{arith}
-use mathlib.Core.Path.{_≡_, refl}
-use lib.ListN.{length, getD}
+use mathlib.Core.Path.{refl}
 use Rattle.theory.specs.Limits.{document}
-use Rattle.table.specs.Rules.{pastRule}
-use Rattle.table.specs.Labels.{absentLabel}
+use Rattle.table.specs.Sets.{member, number}
+use Rattle.table.specs.Words.{rulesOf}
 use Rattle.reason_atoms.specs.SupportEntries.{positivesAt}
 use Rattle.reason_atoms.proofs.SupportEntries.{CopiedBelow, entries-start, entries-room, entries-next}
-use Rattle.reason_atoms.proofs.SupportEntries.{entries-end, past-positives, positive-at}
+use Rattle.reason_atoms.proofs.SupportEntries.{entries-end, past-positives, count-read, entry-read}
 use borrow.Author.Needs.{needs}
 use Rattle.reason_atoms.proofs.support_entries.Statement.{statement}
 use Rattle.reason_atoms.proofs.support_entries.Tie as tie
 
 abbrev Inv-loop : tie.InvT-loop
-Inv-loop rules labels counts₀ entries₀ i₀ counts entries i =
-    CopiedBelow (positivesAt rules labels) (document .atoms) i counts entries
+Inv-loop table flags slots counts₀ entries₀ i₀ counts entries i =
+    CopiedBelow (positivesAt (rulesOf table) (member flags) (number slots)) (document .atoms) i counts entries
 
 abbrev μ-loop : tie.MeasureT-loop
-μ-loop rules labels counts₀ entries₀ i₀ counts entries i = document .atoms - i
+μ-loop table flags slots counts₀ entries₀ i₀ counts entries i = document .atoms - i
 
 loop-holds : tie.Need-loop-holds Inv-loop μ-loop
 loop-holds c = entries-start _ _
 
-mul-label : tie.Need-mul-label Inv-loop μ-loop
-mul-label c = search needs
+cast-k : tie.Need-cast-k Inv-loop μ-loop
+cast-k c = search needs
 
-array-copy-out-label : tie.Need-array-copy-out-label Inv-loop μ-loop
-array-copy-out-label c = search needs
+has-requires : tie.Need-has-requires Inv-loop μ-loop
+has-requires c κs = tt
 
-cast-s : tie.Need-cast-s Inv-loop μ-loop
-cast-s c = search needs
+slot-of-requires : tie.Need-slot-of-requires Inv-loop μ-loop
+slot-of-requires c κs = tt
 
-mul-rule : tie.Need-mul-rule Inv-loop μ-loop
-mul-rule c = omega (arith, c .before .before .before .before .pre (c .before .before .before .loop .i))
-
-array-copy-out-rule : tie.Need-array-copy-out-rule Inv-loop μ-loop
-array-copy-out-rule c = c .before .before .before .before .pre (c .before .before .before .loop .i)
+rule-in-requires : tie.Need-rule-in-requires Inv-loop μ-loop
+rule-in-requires c κs = tt
 
 entry-count-requires : tie.Need-entry-count-requires Inv-loop μ-loop
 entry-count-requires c κs = tt
@@ -67,20 +63,30 @@ loop-less c = search needs
 
 loop-again : tie.Need-loop-again Inv-loop μ-loop
 loop-again c =
-    let s = c .before .before .before .before .before .before .before .before in
-    let at = c .before .before .before .before .before .before .before .loop in
-    let count = c .before .before .entry-count in
-    let label = getD (s .args .t2) (at .i) absentLabel in
-    let rule = getD (s .args .t1) (label .slot .0) pastRule in
-    entries-next _ _ (at .i) (omega arith) _ _ (at .inv) (rule .entries) _ _ (count .ensures .0) (count .ensures .1)
-    (positive-at label rule) (c .copy-entries .ensures)
+    let count = c .before .before in
+    let r = count .before in
+    let k = r .before in
+    let h = k .before in
+    let at = h .before .before .loop in
+    let s = h .before .before .before in
+    let rows = rulesOf (s .args .table .now) in
+    let flags = member (s .args .flags .now) in
+    let slots = number (s .args .slots .now) in
+    let rule = r .rule-in .result in
+    entries-next _ _ (at .i) (omega arith) _ _ (at .inv) (rule .entries) _ _
+    (count-read rows flags slots (at .i) _ _ rule (h .has .ensures) (k .slot-of .ensures) (r .rule-in .ensures) _
+    (count .entry-count .ensures .0))
+    (count .entry-count .ensures .1)
+    (entry-read rows flags slots (at .i) _ _ rule (h .has .ensures) (k .slot-of .ensures) (r .rule-in .ensures))
+    (c .copy-entries .ensures)
 
 returns : tie.Need-returns Inv-loop μ-loop
 returns c =
     let s = c .before .before in
     let at = c .before .loop in
-    let long : length (s .args .t2) ≡ document .atoms = search needs in
-    entries-end _ _ (at .i) _ _ (omega arith) (past-positives (s .args .t2) _ long (s .args .t1)) (at .inv)
+    entries-end _ _ (at .i) _ _ (omega arith)
+    (past-positives (rulesOf (s .args .table .now)) (s .args .flags .now) (number (s .args .slots .now)) _ (s .pre))
+    (at .inv)
 
 pub support-entries-spec : {M : Type 1} → statement M
 support-entries-spec =
@@ -89,11 +95,10 @@ support-entries-spec =
     Inv-loop
     μ-loop
     loop-holds
-    mul-label
-    array-copy-out-label
-    cast-s
-    mul-rule
-    array-copy-out-rule
+    cast-k
+    has-requires
+    slot-of-requires
+    rule-in-requires
     entry-count-requires
     mul-copy-entries
     copy-entries-requires

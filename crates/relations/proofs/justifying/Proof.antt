@@ -2,12 +2,14 @@
 -- The loop keeps: the places below `i` are filled.
 use Prim.Native.Nat.{_-_}
 use native.Mathlib.Omega.{arith}
-use mathlib.Core.Path.{_≡_, sym}
+use mathlib.Core.Path.{sym, _∙_, ap}
 use lib.Dec.{eqb}
-use lib.ListN.{length}
 use Rattle.theory.specs.Rules.{passes}
 use Rattle.theory.specs.Limits.{document}
+use Rattle.table.specs.declared.Rule.{Rule}
 use Rattle.table.specs.Rules.{slotOf, pastRule}
+use Rattle.table.specs.Words.{rulesOf}
+use Rattle.table.proofs.Words.{rules-length}
 use Rattle.table.proofs.Copies.{Copied, copied-start, copied-next, copied-all}
 use Rattle.relations.proofs.Passes.{justified}
 use borrow.Author.Needs.{needs}
@@ -15,21 +17,16 @@ use Rattle.relations.proofs.justifying.Statement.{statement}
 use Rattle.relations.proofs.justifying.Tie as tie
 
 abbrev Inv-loop : tie.InvT-loop
-Inv-loop a rules flags₀ i₀ flags i = Copied (λ r. passes (λ q. eqb (q .head) (a .0)) (slotOf r)) rules flags i
+Inv-loop table a flags₀ i₀ flags i = Copied (λ r. passes (λ q. eqb (q .head) (a .0)) (slotOf r)) (rulesOf table) flags i
 
 abbrev μ-loop : tie.MeasureT-loop
-μ-loop a rules flags₀ i₀ flags i = document .slots - i
+μ-loop table a flags₀ i₀ flags i = document .slots - i
 
 loop-holds : tie.Need-loop-holds Inv-loop μ-loop
-loop-holds c =
-    let l : length (c .args .t1) ≡ document .slots = search needs in
-    copied-start _ _ _ (sym l)
+loop-holds c = copied-start _ _ _ (sym (rules-length (c .args .table .now)))
 
-mul-rule : tie.Need-mul-rule Inv-loop μ-loop
-mul-rule c = search needs
-
-array-copy-out-rule : tie.Need-array-copy-out-rule Inv-loop μ-loop
-array-copy-out-rule c = search needs
+rule-at-requires : tie.Need-rule-at-requires Inv-loop μ-loop
+rule-at-requires c κs = search needs
 
 has-head-requires : tie.Need-has-head-requires Inv-loop μ-loop
 has-head-requires c κs = tt
@@ -45,17 +42,18 @@ loop-less c = search needs
 
 loop-again : tie.Need-loop-again Inv-loop μ-loop
 loop-again c =
-    let s = c .before .before .before .before in
-    let at = c .before .before .before .loop in
-    let long : length (s .args .t1) ≡ document .slots = search needs in
-    copied-next _ _ _ (at .i) pastRule _ (omega arith) (at .inv) (c .has-head .ensures)
+    let r = c .before in
+    let at = r .before .before .loop in
+    let s = r .before .before .before in
+    copied-next _ _ _ (at .i) pastRule _ (omega (arith, rules-length (s .args .table .now))) (at .inv)
+    (c .has-head .ensures
+    ∙ ap (λ (z : Rule). passes (λ q. eqb (q .head) (s .args .a .0)) (slotOf z)) (r .rule-at .ensures))
 
 returns : tie.Need-returns Inv-loop μ-loop
 returns c =
-    let s = c .before .before in
+    let table = c .before .before .args .table .now in
     let at = c .before .loop in
-    let long : length (s .args .t1) ≡ document .slots = search needs in
-    justified (s .args .t1) _ _ (copied-all _ _ _ (at .i) (omega arith) (at .inv))
+    justified (rulesOf table) _ _ (copied-all _ _ _ (at .i) (omega (arith, rules-length table)) (at .inv))
 
 pub justifying-spec : {M : Type 1} → statement M
 justifying-spec =
@@ -64,8 +62,7 @@ justifying-spec =
     Inv-loop
     μ-loop
     loop-holds
-    mul-rule
-    array-copy-out-rule
+    rule-at-requires
     has-head-requires
     array-write-flags
     add-i

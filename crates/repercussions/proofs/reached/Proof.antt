@@ -2,33 +2,31 @@
 -- The loop keeps: the slots below `i` have their edges.
 use Prim.Native.Nat.{_-_, _≤_, _*_}
 use native.Mathlib.Omega.{arith}
-use mathlib.Core.Path.{_≡_}
-use lib.ListN.{length}
+use mathlib.Core.Path.{sym, _∙_, ap}
 use Rattle.theory.specs.Limits.{document}
 use Rattle.table.specs.Sets.{member, number}
-use Rattle.table.specs.Rules.{activeOf}
+use Rattle.table.specs.Rules.{activeIn, activeOf}
+use Rattle.table.specs.Words.{rulesOf}
 use Rattle.table.proofs.Programs.{active-place, active-length}
+use Rattle.table.proofs.Words.{rules-length}
 use Rattle.repercussions.proofs.Edges.{Giving, giving-start, giving-next, giving-over}
 use borrow.Author.Needs.{needs}
 use Rattle.repercussions.proofs.reached.Statement.{statement}
 use Rattle.repercussions.proofs.reached.Tie as tie
 
 abbrev Inv-loop : tie.InvT-loop
-Inv-loop flags slots a rules from₀ to₀ count₀ i₀ from to count i =
+Inv-loop table flags slots a from₀ to₀ count₀ i₀ from to count i =
     (i ≤ document .slots)
-    × Giving (activeOf rules) (member flags) (number slots) (document .slots * document .entries) i from to count
+    × Giving (activeOf (rulesOf table)) (member flags) (number slots) (document .slots * document .entries) i from to count
 
 abbrev μ-loop : tie.MeasureT-loop
-μ-loop flags slots a rules from₀ to₀ count₀ i₀ from to count i = document .slots - i
+μ-loop table flags slots a from₀ to₀ count₀ i₀ from to count i = document .slots - i
 
 loop-holds : tie.Need-loop-holds Inv-loop μ-loop
 loop-holds c = (omega arith, giving-start _ _ _ _ _ _ (search needs) (search needs))
 
-mul-rule : tie.Need-mul-rule Inv-loop μ-loop
-mul-rule c = search needs
-
-array-copy-out-rule : tie.Need-array-copy-out-rule Inv-loop μ-loop
-array-copy-out-rule c = search needs
+rule-at-requires : tie.Need-rule-at-requires Inv-loop μ-loop
+rule-at-requires c κs = search needs
 
 cast-s : tie.Need-cast-s Inv-loop μ-loop
 cast-s c = search needs
@@ -46,10 +44,12 @@ loop-less c = search needs
 
 loop-again : tie.Need-loop-again Inv-loop μ-loop
 loop-again c =
-    let at = c .before .before .before .before .before .loop in
-    let s = c .before .before .before .before .before .before in (
+    let r = c .before .before .before in
+    let at = r .before .before .loop in
+    let rows = rulesOf (r .before .before .before .args .table .now) in (
       omega arith,
-      giving-next _ _ _ _ (at .i) (at .inv .1) (rw (active-place (s .args .t1) (at .i)) (c .add-slot .ensures)),
+      giving-next _ _ _ _ (at .i) (at .inv .1)
+          (rw (active-place rows (at .i) ∙ ap activeIn (sym (r .rule-at .ensures))) (c .add-slot .ensures)),
     )
 
 slice-aggregate-reach : tie.Need-slice-aggregate-reach Inv-loop μ-loop
@@ -65,9 +65,9 @@ returns : tie.Need-returns Inv-loop μ-loop
 returns c =
     let l = c .before .before .before .before in
     let s = l .before in
-    let len : length (s .args .t1) ≡ document .slots = search needs in
+    let table = s .args .table .now in
     giving-over _ _ _ _ (s .pre .0) (s .pre .1) (l .loop .i) (c .reach .result)
-    (omega (arith, active-length (s .args .t1))) (omega (arith, l .loop .inv .1 .few)) (l .loop .inv .1)
+    (omega (arith, active-length (rulesOf table), rules-length table)) (omega (arith, l .loop .inv .1 .few)) (l .loop .inv .1)
     (c .reach .ensures)
 
 pub reached-spec : {M : Type 1} → statement M
@@ -77,8 +77,7 @@ reached-spec =
     Inv-loop
     μ-loop
     loop-holds
-    mul-rule
-    array-copy-out-rule
+    rule-at-requires
     cast-s
     add-slot-requires
     add-i

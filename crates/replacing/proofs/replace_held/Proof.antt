@@ -9,12 +9,10 @@ use Rattle.theory.specs.Rules as theory
 use Rattle.theory.specs.Questions.{first-no, rule-questions}
 use Rattle.theory.specs.Limits.{document}
 use Rattle.theory.proofs.Lists.{not-true, not-false}
-use Rattle.table.specs.declared.Rule.{Rule}
+use Rattle.table.specs.Words.{rulesOf}
 use Rattle.table.specs.Questions.{ruleFrom}
 use Rattle.questions.specs.Asked.{firstNoTold}
 use Rattle.calls.specs.Contracts.{held}
-use Rattle.calls.proofs.Sizes.{table-sized, rule-sized}
-use Rattle.labels.proofs.Sizes.{labels-sized}
 use Rattle.replacing.proofs.Ends.{handed-back, refused-early, rest-told, put-behind, refused-same}
 use Rattle.replacing.proofs.Ends.{bounded-changed, refused-cycle, replace-ends}
 use borrow.Author.Needs.{needs}
@@ -34,8 +32,14 @@ asked-of c = c .before .before
 pass : (c : tie.After-enum-told) → first-no (rule-questions document (named (start-of (asked-of c)))) ≡ none
 pass c = sym (asked-of c .ask-rule .ensures) ∙ ap firstNoTold (c .enum-told .given .1)
 
+abbrev freed-of : tie.After-holds-rule → tie.After-put-rule
+freed-of c = c .before .before
+
+abbrev free-of : tie.After-holds-rule → tie.After-free
+free-of c = freed-of c .before .before .before
+
 abbrev made : tie.After-holds-rule → tie.After-make-rule
-made c = c .before .before .before .before
+made c = free-of c .before
 
 abbrev start : tie.After-holds-rule → tie.Start
 start c = start-of (asked-of (made c .before))
@@ -46,19 +50,22 @@ held-elsewhere :
 held-elsewhere c v e =
     let s = start c in
     rest-told (s .args .table) (s .pre .0) (s .args .slot .0) (s .pre .1) (named s) (pass (made c .before)) _
-    (c .before .before .free .ensures) _ (c .before .with-rule .ensures) (made c .make-rule .result)
+    (free-of c .free .ensures) _ (freed-of c .put-rule .ensures) (made c .make-rule .result)
     (made c .make-rule .ensures) _ v (c .holds-rule .ensures) e
 
--- The slots with the new rule.
+-- The numbers with the new rule.
+abbrev holds-of : tie.After-put-rule2 → tie.After-holds-rule
+holds-of c = c .before .before .before
+
 put-there :
-    (c : tie.After-with-rule2) → c .with-rule2 .result
-    ≡ set (start (c .before .before) .args .table .rules) (start (c .before .before) .args .slot .0)
-    (made (c .before .before) .make-rule .result)
+    (c : tie.After-put-rule2) → rulesOf (c .put-rule2 .last .0)
+    ≡ set (rulesOf (start (holds-of c) .args .table .words)) (start (holds-of c) .args .slot .0)
+    (made (holds-of c) .make-rule .result)
 put-there c =
-    let holds = c .before .before in
+    let holds = holds-of c in
     let s = start holds in
     put-behind (s .args .table) (s .pre .0) (s .args .slot .0) (s .pre .1) (named s) (pass (made holds .before)) _
-    (holds .before .before .free .ensures) _ (holds .before .with-rule .ensures) _ _ (c .with-rule2 .ensures)
+    (free-of holds .free .ensures) _ (freed-of holds .put-rule .ensures) _ _ (c .put-rule2 .ensures)
 
 ask-rule-requires : tie.Need-ask-rule-requires
 ask-rule-requires c κs = tt
@@ -87,8 +94,8 @@ make-rule-requires c κs = pass c
 free-requires : tie.Need-free-requires
 free-requires c κs = tt
 
-with-rule-requires : tie.Need-with-rule-requires
-with-rule-requires c κs = tt
+put-rule-requires : tie.Need-put-rule-requires
+put-rule-requires c κs = tt
 
 holds-rule-requires : tie.Need-holds-rule-requires
 holds-rule-requires c κs = tt
@@ -104,44 +111,42 @@ returns-2 c =
     (refused-same (s .args .table) (s .pre .0) (s .args .slot .0) (s .pre .1) (named s) (pass (made holds .before))
     (held-elsewhere holds _ (c .before .if1 .taken)))
 
-with-rule-requires-2 : tie.Need-with-rule-requires-2
-with-rule-requires-2 c κs = tt
+put-rule-requires-2 : tie.Need-put-rule-requires-2
+put-rule-requires-2 c κs = tt
 
-labels-of-requires : tie.Need-labels-of-requires
-labels-of-requires c κs =
-    let holds = c .before .before in
+relabel-requires : tie.Need-relabel-requires
+relabel-requires c κs =
+    let put = c .before in
+    let holds = holds-of put in
     let s = start holds in
     bounded-changed (s .args .table) (s .pre .0) (s .args .slot .0) (s .pre .1) (named s) (pass (made holds .before))
-    (held-elsewhere holds false (c .before .if1 .left)) (made holds .make-rule .result)
-    (made holds .make-rule .ensures) _ (put-there c)
+    (held-elsewhere holds false (put .before .before .if1 .left)) (made holds .make-rule .result)
+    (made holds .make-rule .ensures) _ (put-there put)
 
 refuse-requires-3 : tie.Need-refuse-requires-3
 refuse-requires-3 c κs = tt
 
 returns-3 : tie.Need-returns-3
 returns-3 c =
-    let cyclic = c .before .before .before in
-    let put = cyclic .before in
-    let holds = put .before .before in
+    let found = c .before .before in
+    let put = found .before .before in
+    let holds = holds-of put in
     let s = start holds in
     handed-back (s .args .table) (s .args .slot .0) (named s) _ _ (c .refuse3 .ensures)
     (refused-cycle (s .args .table) (s .pre .0) (s .args .slot .0) (s .pre .1) (named s) (pass (made holds .before))
-    (held-elsewhere holds false (put .before .if1 .left)) (made holds .make-rule .result)
-    (made holds .make-rule .ensures) _ (put-there put) (cyclic .labels-of .result) (cyclic .labels-of .ensures)
+    (held-elsewhere holds false (put .before .before .if1 .left)) (made holds .make-rule .result)
+    (made holds .make-rule .ensures) _ (put-there put) _ _ (found .relabel .ensures)
     (not-true _ (c .before .if2 .taken)))
 
 returns-4 : tie.Need-returns-4
 returns-4 c =
-    let told = c .before .before .before in
-    let put = told .before in
-    let holds = put .before .before in
+    let found = c .before in
+    let put = found .before .before in
+    let holds = holds-of put in
     let s = start holds in
     replace-ends (s .args .table) (s .pre .0) (s .args .slot .0) (s .pre .1) (named s) (pass (made holds .before))
-    (held-elsewhere holds false (put .before .if1 .left)) (made holds .make-rule .result)
-    (made holds .make-rule .ensures) _ (put-there put) (told .labels-of .result) (told .labels-of .ensures)
-    (not-false _ (c .before .if2 .left)) (table-sized _ _ (s .good .0))
-    (rule-sized (made holds .make-rule .result) _ (made holds .make-rule .ok))
-    (labels-sized (told .labels-of .result) _ (told .labels-of .ok))
+    (held-elsewhere holds false (put .before .before .if1 .left)) (made holds .make-rule .result)
+    (made holds .make-rule .ensures) _ (put-there put) _ _ (found .relabel .ensures) (not-false _ (c .if2 .left))
 
 pub replace-held-spec : {M : Type 1} → statement M
 replace-held-spec =
@@ -154,12 +159,12 @@ replace-held-spec =
     enum-told
     make-rule-requires
     free-requires
-    with-rule-requires
+    put-rule-requires
     holds-rule-requires
     refuse-requires-2
     returns-2
-    with-rule-requires-2
-    labels-of-requires
+    put-rule-requires-2
+    relabel-requires
     refuse-requires-3
     returns-3
     returns-4)

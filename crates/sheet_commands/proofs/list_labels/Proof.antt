@@ -49,7 +49,7 @@ returns-2 c =
     let S = granted _ (test .before .sound .ensures) (test .if1 .left) in
     record {
       printed = _;
-      prints = prints.labels (S .labels .model) _ e S (S .labels .admissible) (S .labels .labels);
+      prints = prints.labels (S .kept .model) _ e S (S .kept .admissible) (S .labels .labels);
       wrote = write .write-labels .ensures .fits (omega arith);
     }
 

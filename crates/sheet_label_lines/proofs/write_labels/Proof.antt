@@ -5,7 +5,7 @@ use native.Mathlib.Omega.{arith}
 use mathlib.Core.Path.{_≡_}
 use lib.ListN.{getD}
 use borrow.Author.Needs.{needs}
-use Rattle.table.specs.Labels.{labelAt, absentLabel}
+use Rattle.table.specs.Labels.{labelFrom, absentLabel}
 use Rattle.sheet_label_lines.specs.LabelLines.{labelLines}
 use Rattle.fields.specs.Written.{Wrote}
 use Rattle.fields.proofs.Wrote.{wrote-all, wrote-none, wrote-nothing, wrote-length}
@@ -16,7 +16,7 @@ use Rattle.sheet_label_lines.proofs.write_labels.Tie as tie
 
 abbrev Inv-loop : tie.InvT-loop
 Inv-loop out₀ at labels next₀ atom₀ out next atom =
-    (atom ≤ 256) × (next ≤ at + 32 * atom) × Wrote (labelLines (labelAt labels) atom) out₀ at out next
+    (atom ≤ 256) × (next ≤ at + 32 * atom) × Wrote (labelLines (labelFrom labels) atom) out₀ at out next
 
 abbrev μ-loop : tie.MeasureT-loop
 μ-loop out₀ at labels next₀ atom₀ out next atom = 256 - atom
@@ -63,7 +63,7 @@ loop-again c =
     let same = wrote-length (l .loop .inv .2) in (
       omega arith,
       omega arith,
-      wrote-next-label (labelAt labels) atom (l .loop .inv .2) (line .write-label .ensures),
+      wrote-next-label (labelFrom labels) atom (l .loop .inv .2) (line .write-label .ensures),
     )
 
 same-length : tie.Need-same-length Inv-loop μ-loop

@@ -8,7 +8,9 @@ use Rattle.theory.specs.Limits.{document}
 use Rattle.theory.proofs.Lists.{not-true, not-false}
 use Rattle.table.specs.Sets.{number}
 use Rattle.table.specs.Rules.{programOf}
+use Rattle.table.specs.Words.{rulesOf}
 use Rattle.table.specs.Turns.{slotAt}
+use Rattle.table.proofs.Words.{rules-length}
 use Rattle.table.proofs.SlotsInTurn.{slot-at-below}
 use Rattle.strata.proofs.Rounds.{Rounds, Slots}
 use Rattle.strata.proofs.Numbers.{raised-length}
@@ -21,30 +23,30 @@ use Rattle.strata.proofs.needed.Reads as needed-reads
 use Rattle.strata.proofs.raise.Reads as raise-reads
 
 abbrev Inv-loop2 : tie.InvT-loop2
-Inv-loop2 rules of₀ round down raised₀ i₀ of raised i =
+Inv-loop2 table of₀ round down raised₀ i₀ of raised i =
     (i ≤ document .slots) × (length of ≡ document .atoms)
-    × Slots (programOf rules) (slotAt (document .slots) down) (document .slots) round i (number of) raised
+    × Slots (programOf (rulesOf table)) (slotAt (document .slots) down) (document .slots) round i (number of) raised
 
 abbrev μ-loop2 : tie.MeasureT-loop2
-μ-loop2 rules of₀ round down raised₀ i₀ of raised i = document .slots - i
+μ-loop2 table of₀ round down raised₀ i₀ of raised i = document .slots - i
 
 abbrev Inv-loop : tie.InvT-loop
-Inv-loop rules of₀ round₀ of round =
+Inv-loop table of₀ round₀ of round =
     (round ≤ document .slots + 1) × (length of ≡ document .atoms)
-    × Rounds (programOf rules) (document .slots) round (number of)
+    × Rounds (programOf (rulesOf table)) (document .slots) round (number of)
 
 abbrev μ-loop : tie.MeasureT-loop
-μ-loop rules of₀ round₀ of round = document .slots + 1 - round
+μ-loop table of₀ round₀ of round = document .slots + 1 - round
 
 loop-holds : tie.Need-loop-holds Inv-loop2 μ-loop2 Inv-loop μ-loop
 loop-holds c =
-    (omega arith, refl, start (c .args .t1) (document .slots) (search needs) (document .atoms))
+    (omega arith, refl, start (rulesOf (c .args .table .now)) (document .slots) (rules-length _) (document .atoms))
 
 loop2-holds : tie.Need-loop2-holds Inv-loop2 μ-loop2 Inv-loop μ-loop
 loop2-holds c = (
   omega arith,
   c .before .loop .inv .1,
-  begin (c .before .before .args .t1) (document .slots) (search needs) _ _ (c .before .loop .of)
+  begin (rulesOf (c .before .before .args .table .now)) (document .slots) (rules-length _) _ _ (c .before .loop .of)
       (c .before .loop .inv .2),
 )
 
@@ -55,24 +57,21 @@ slot-at-requires c κs = tt
 below : (c : tie.After-slot-at Inv-loop2 μ-loop2 Inv-loop μ-loop) → c .slot-at .result < document .slots
 below c = slot-at-below _ _ _ _ (c .slot-at .ensures) (omega (arith, c .before .loop2-test .taken))
 
-mul-rule : tie.Need-mul-rule Inv-loop2 μ-loop2 Inv-loop μ-loop
-mul-rule c = (let l = below c in search needs)
-
-array-copy-out-rule : tie.Need-array-copy-out-rule Inv-loop2 μ-loop2 Inv-loop μ-loop
-array-copy-out-rule c = (let l = below c in search needs)
+rule-at-requires : tie.Need-rule-at-requires Inv-loop2 μ-loop2 Inv-loop μ-loop
+rule-at-requires c κs = below c
 
 needed-requires : tie.Need-needed-requires Inv-loop2 μ-loop2 Inv-loop μ-loop
 needed-requires c κs =
     let s = c .before .before .before .before .before .before .before in
-    entries-below (s .args .t1) _ _ (s .pre)
+    entries-below (rulesOf (s .args .table .now)) _ _ (c .before .rule-at .ensures) _ (s .pre)
 
 returns : tie.Need-returns Inv-loop2 μ-loop2 Inv-loop μ-loop
 returns c =
     let w = c .before .before .before .before in
     let t = w .before .before .loop2 in
     let a = w .before .before .before .before .before .args in
-    passed (a .t1) (document .slots) (search needs) _ _ (t .i) (t .of) (t .raised) (t .inv .2) _ _
-    (w .slot-at .ensures) (c .before .needed .ensures) (c .if1 .taken)
+    passed (rulesOf (a .table .now)) (document .slots) (rules-length _) _ _ (t .i) (t .of) (t .raised) (t .inv .2) _ _ _
+    (w .slot-at .ensures) (c .before .before .before .rule-at .ensures) (c .before .needed .ensures) (c .if1 .taken)
 
 cast-raise : tie.Need-cast-raise Inv-loop2 μ-loop2 Inv-loop μ-loop
 cast-raise c = search needs
@@ -81,7 +80,8 @@ raise-requires : tie.Need-raise-requires Inv-loop2 μ-loop2 Inv-loop μ-loop
 raise-requires c κs =
     let w = c .before .before .before .before .before in
     let s = w .before .before .before .before .before in
-    head-below (s .args .t1) _ _ _ _ (s .pre) (c .before .before .needed .ensures)
+    head-below (rulesOf (s .args .table .now)) _ _ (c .before .before .before .before .rule-at .ensures) _ _ _ (s .pre)
+    (c .before .before .needed .ensures)
 
 add-i : tie.Need-add-i Inv-loop2 μ-loop2 Inv-loop μ-loop
 add-i c = search needs
@@ -96,15 +96,15 @@ loop2-again c =
     let s = w .before .before .before .before .before in (
       omega arith,
       raised-length _ _ _ _ _ (c .raise .ensures) ∙ t .inv .1,
-      next (s .args .t1) (document .slots) (search needs) _ _ (t .i) (t .of) (t .raised) (t .inv .2) (document .atoms)
-          (t .inv .1) (s .pre) _ _ _ _ (w .slot-at .ensures) (c .before .before .before .needed .ensures)
-          (c .raise .ensures),
+      next (rulesOf (s .args .table .now)) (document .slots) (rules-length _) _ _ (t .i) (t .of) (t .raised) (t .inv .2) (document .atoms)
+          (t .inv .1) (s .pre) _ _ _ _ _ (w .slot-at .ensures) (c .before .before .before .before .before .rule-at .ensures)
+          (c .before .before .before .needed .ensures) (c .raise .ensures),
     )
 
 returns-2 : tie.Need-returns-2 Inv-loop2 μ-loop2 Inv-loop μ-loop
 returns-2 c =
     let t = c .before .before .loop2 in
-    rest (c .before .before .before .before .before .args .t1) (document .slots) (search needs) _ _ (t .i) (t .of)
+    rest (rulesOf (c .before .before .before .before .before .args .table .now)) (document .slots) (rules-length _) _ _ (t .i) (t .of)
     (t .raised) (t .inv .2) (not-true _ (c .if2 .taken)) (c .before .loop2-test .left)
 
 add-round : tie.Need-add-round Inv-loop2 μ-loop2 Inv-loop μ-loop
@@ -118,13 +118,13 @@ loop-again c =
     let t = c .before .before .loop2 in (
       omega arith,
       t .inv .1,
-      more (c .before .before .before .before .before .args .t1) (document .slots) (search needs) _ _ (t .i) (t .of)
+      more (rulesOf (c .before .before .before .before .before .args .table .now)) (document .slots) (rules-length _) _ _ (t .i) (t .of)
           (t .raised) (t .inv .2) (not-false _ (c .if2 .left)) (c .before .loop2-test .left),
     )
 
 returns-3 : tie.Need-returns-3 Inv-loop2 μ-loop2 Inv-loop μ-loop
 returns-3 c =
-    over (c .before .before .args .t1) (document .slots) (search needs) _ _ (c .before .loop .inv .2)
+    over (rulesOf (c .before .before .args .table .now)) (document .slots) (rules-length _) _ _ (c .before .loop .inv .2)
     (c .loop-test .left)
 
 pub strata-spec : {M : Type 1} → statement M
@@ -138,8 +138,7 @@ strata-spec =
     loop-holds
     loop2-holds
     slot-at-requires
-    mul-rule
-    array-copy-out-rule
+    rule-at-requires
     needed-requires
     returns
     cast-raise

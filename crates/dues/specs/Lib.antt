@@ -1,0 +1,2 @@
+-- What a slot has to keep, and which atoms got their depths.
+pub mod Due

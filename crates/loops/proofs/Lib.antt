@@ -1,0 +1,2 @@
+-- Laws of numbers that no dependency goes against.
+pub mod Descent

@@ -1,0 +1,2 @@
+-- Numbers that no dependency goes against.
+pub mod Descent

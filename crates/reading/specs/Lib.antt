@@ -1,0 +1,2 @@
+-- What the functions of the crate tell each other.
+pub mod Assembling
