@@ -38,7 +38,7 @@ extern "C" {
 /* The layout of a table and of the answers, as this header declares them: the number changes when the size or the place
  * of a field does, or what a call takes. yeqontur_layout() is the library's; a shared library with another layout has
  * another name. Who keeps the bytes of a table keeps this number with them. */
-#define YEQONTUR_LAYOUT 1
+#define YEQONTUR_LAYOUT 2
 
 /* The compiler warns where the answer of a call is dropped that changes a table, saves or loads one, or opens a
  * checklist. */
@@ -58,38 +58,32 @@ extern "C" {
 /* The most bytes that a saved table has: 256 rules, 22 to a block, are 12 blocks of 512 bytes. */
 #define YEQONTUR_FILE_BYTES 6144
 
-/* What `state` of a slot can be. A table with any other is not sound. */
-enum { YEQONTUR_RULE_FREE = 0, YEQONTUR_RULE_HELD = 1, YEQONTUR_RULE_MUTED = 2 };
-
-/* A slot: free, or with one rule: the head is in if every positive entry is in and no negative one is. A muted rule is
- * held and gives nothing. The entries are the positive list, then the negative list, each ascending, in whatever order
- * the call named it. To be read; rules are changed by the calls. */
-typedef struct {
-    uint16_t state;
-    uint16_t head;
-    uint8_t positives;
-    uint8_t negatives;
-    uint16_t entries[YEQONTUR_ENTRIES];
-} yeqontur_rule;
+/* The most numbers that yeqontur_labels writes: four for each atom. */
+#define YEQONTUR_LABEL_NUMBERS 1024
 
 /* What `state` of a label can be: the atom stands in no rule, or is out, or in. */
 enum { YEQONTUR_LABEL_ABSENT = 0, YEQONTUR_LABEL_OUT = 1, YEQONTUR_LABEL_IN = 2 };
 
-/* What is kept of an atom; of one that is in, its depth and the supporting slot, which are 0 of any other. */
-typedef struct {
-    uint16_t state;
-    uint16_t depth;
-    uint16_t slot;
-} yeqontur_kept_label;
+/* How many numbers a table has for each slot, and in all. */
+#define YEQONTUR_SLOT_WORDS 14
+#define YEQONTUR_WORDS 3584
 
-/* A table goes in by value and comes back by value. Any bytes are a table; question 15 says whether it is sound
- * (docs/SPECIFICATION.md, 3.4). A table with a list that does not ascend is not, nor is one with the same rule in two
- * slots, muted or not. Its structs have no padding, so two sound tables with the same rules in the same slots, the same
- * of them muted, are equal byte for byte (memcmp): a table can be stored, compared and hashed as the 7,168 bytes that
- * it is. The empty table is all zero. */
-typedef struct {
-    yeqontur_rule rules[YEQONTUR_SLOTS];
-    yeqontur_kept_label labels[YEQONTUR_ATOMS];
+/* A table goes in by value and comes back by value. What it holds is asked by calls: a rule by yeqontur_rule, a label
+ * by yeqontur_label, all labels at once by yeqontur_labels. (Up to layout 1 a table had the fields `rules` and
+ * `labels`; these calls stand in their place.)
+ *
+ * Any bytes are a table; question 15 says whether it is sound (docs/SPECIFICATION.md, 3.4). A table with a list that
+ * does not ascend is not, nor is one with the same rule in two slots, muted or not. There is no padding, so two sound
+ * tables with the same rules in the same slots, the same of them muted, are equal byte for byte (memcmp): a table can
+ * be stored, compared and hashed as the 7,168 bytes that it is. The empty table is all zero.
+ *
+ * For those who check bytes: slot s has the 14 numbers from words[14 * s] on. State: 0 free, 1 with a rule, 2 with a
+ * muted one. Head. How many positive entries, and how many negative ones. Eight entries: the positive list, then the
+ * negative list, each ascending, then zeros. The depth of the head if this slot supports it, else 0. The place of the
+ * entry that spoils the rule, from 1 over both lists, else 0. All of a free slot is 0, and so are the last two of a
+ * muted rule. Another layout has other numbers: a program that reads them asks yeqontur_layout() first. */
+typedef struct yeqontur_table {
+    uint16_t words[YEQONTUR_WORDS];
 } yeqontur_table;
 
 /* In every answer `refused` is YEQONTUR_ACCEPTED, which is 0, or the number of a refusal. Where a call is refused,
@@ -142,7 +136,7 @@ typedef struct {
          "number your atoms from 0 to 255") \
     EACH(11, BUFFER_TOO_SHORT, \
          "the buffer is too short", \
-         "lend a buffer of the count that is answered; 256 entries, or 6144 bytes of a file, always do") \
+         "lend a buffer of the count that is answered; 1024 entries, or 6144 bytes of a file, always do") \
     EACH(12, ATOM_NOT_IN, \
          "the atom is not in", \
          "ask for its label first: only an in atom has a reason") \
@@ -222,6 +216,18 @@ typedef struct {
     uint32_t depth; /* of an atom that is in; else 0 */
     uint32_t slot;  /* the supporting slot of an atom that is in; else 0 */
 } yeqontur_label_answer;
+
+/* The rule of a slot: the head is in if every positive entry is in and no negative one is. A muted rule is held and
+ * gives nothing. */
+typedef struct {
+    uint32_t refused;
+    uint32_t head;
+    uint32_t muted;     /* 1 or 0 */
+    uint32_t positives; /* how many of the entries, from the start */
+    uint32_t negatives; /* how many of them behind those */
+    uint32_t entries[YEQONTUR_ENTRIES]; /* the positive list, then the negative list, each ascending, in whatever order
+                                           the call named it; then zeros */
+} yeqontur_rule_answer;
 
 /* A rule is valid; or it needs an atom, which is out; or it is blocked by one, which is in; or it is muted. */
 enum {
@@ -304,6 +310,16 @@ yeqontur_accepted yeqontur_mute(yeqontur_table table, uint32_t slot, uint32_t mu
  * rule. For an atom that is not in, `depth` and `slot` are 0, and for a refusal `state` too. Asks 15, 10. */
 yeqontur_label_answer yeqontur_label(yeqontur_table table, uint32_t atom);
 
+/* The labels of all atoms that occur, in one call: of each, ascending, four numbers, which are the atom, its state
+ * (YEQONTUR_LABEL_OUT or _IN), its depth and its supporting slot, as yeqontur_label tells them. An atom that is not
+ * among them is absent. A screen with many labels asks this once, and not each label by itself. YEQONTUR_LABEL_NUMBERS
+ * entries are never too short. Refused, `count` is 0, but with 11 it is the number of entries needed; so it is for
+ * every call with a buffer. Asks 15, 11. */
+yeqontur_list_answer yeqontur_labels(yeqontur_table table, uint32_t *buffer, size_t length);
+
+/* The rule in a slot, muted or not. Refused, every number but `refused` is 0. Asks 15, 8, 9. */
+yeqontur_rule_answer yeqontur_rule(yeqontur_table table, uint32_t slot);
+
 /* Whether the rule in a slot is valid, or its first entry that spoils it, positive list first and each list ascending:
  * a positive entry spoils if it is out ("needs"), a negative one if it is in ("blocked by"). An atom may stand in both
  * lists; the answer says which of them is meant, and the place in it. Of a muted rule it is told that it is muted, and
@@ -312,8 +328,7 @@ yeqontur_label_answer yeqontur_label(yeqontur_table table, uint32_t atom);
 yeqontur_spoiler_answer yeqontur_spoiler(yeqontur_table table, uint32_t slot);
 
 /* The slots of the rules with this head, and the heads of the rules with this entry, muted rules among them; all atoms
- * whose label rests on this one, directly or through others. Each ascending, without repeats. Refused, `count` is 0,
- * but with 11 it is the number of entries needed; so it is for every call with a buffer. Each asks 15, 10, 11. */
+ * whose label rests on this one, directly or through others. Each ascending, without repeats. Each asks 15, 10, 11. */
 yeqontur_list_answer yeqontur_justifications(yeqontur_table table, uint32_t atom, uint32_t *buffer, size_t length);
 yeqontur_list_answer yeqontur_consequences(yeqontur_table table, uint32_t atom, uint32_t *buffer, size_t length);
 yeqontur_list_answer yeqontur_repercussions(yeqontur_table table, uint32_t atom, uint32_t *buffer, size_t length);

@@ -1,5 +1,5 @@
-//! One addition, one removal and one label on each shape, question 15 included, through the Rust crate that clients
-//! use, beside plain Rust; and clingo on the same rules.
+//! One addition, one removal, one label and all labels on each shape, question 15 included, through the Rust crate that
+//! clients use, beside plain Rust; and clingo on the same rules.
 
 use crate::clock::Pair;
 use crate::{clingo, plain, shapes};
@@ -68,6 +68,18 @@ impl Case {
             || plain::label(self.full.as_raw(), black_box(head)),
         )
     }
+
+    /// All labels, into a lent buffer.
+    fn labels(&self) -> Pair {
+        let (mut ours, mut others) = ([0; raw::LABEL_NUMBERS], [0; raw::LABEL_NUMBERS]);
+        let table = self.full.as_raw();
+        let count = raw::labels(table, &mut ours).count;
+        assert!(plain::all_labels(table, &mut others) == Ok(count) && ours == others);
+        Pair::timed(
+            || raw::labels(black_box(table), black_box(&mut ours)),
+            || plain::all_labels(black_box(table), black_box(&mut others)),
+        )
+    }
 }
 
 /// clingo's time, how many additions fit in it, and how many in what it takes beyond its start.
@@ -83,20 +95,27 @@ pub fn bench() {
     println!("Calls through the Rust crate: microseconds, and the ratio to plain Rust. clingo (none: not installed):");
     println!("microseconds of a run, its ratio to an addition, and the same less its run without a rule.");
     println!(
-        "{:32}{:>9}{:>7}{:>9}{:>7}{:>9}{:>7}{:>10}{:>7}{:>7}",
-        "table", "add", "ratio", "remove", "ratio", "label", "ratio", "clingo", "ratio", "less"
+        "{:32}{:>9}{:>7}{:>9}{:>7}{:>9}{:>7}{:>9}{:>7}{:>10}{:>7}{:>7}",
+        "table",
+        "add",
+        "ratio",
+        "remove",
+        "ratio",
+        "label",
+        "ratio",
+        "labels",
+        "ratio",
+        "clingo",
+        "ratio",
+        "less"
     );
     let start = clingo::time(&Table::new());
     for (name, fields) in shapes::all() {
         let case = Case::of(&fields);
-        let (add, remove, label) = (case.add(), case.remove(), case.label());
+        let add = case.add();
+        let calls = [add, case.remove(), case.label(), case.labels()];
         let other = other(&case.full, start, add.proved);
-        println!(
-            "{name:32}{}{}{}{other}",
-            add.shown(),
-            remove.shown(),
-            label.shown()
-        );
+        println!("{name:32}{}{other}", calls.map(Pair::shown).concat());
     }
 }
 
@@ -107,7 +126,7 @@ mod tests {
     use oracle::generate::calls::Calls;
     use oracle::random::Random;
     use oracle::table::RawTable;
-    use yeqontur::{raw, Label, Table};
+    use yeqontur::{raw, Table};
 
     /// The same call on both sides: the same answer, and the same table after it.
     fn same(call: &Call, table: &mut Table) {
@@ -128,9 +147,24 @@ mod tests {
                 assert_eq!(told, expected.map_err(|r| r.number()), "{call:?}");
             }
             Call::Label { atom } => {
-                let told = plain::label(&other, *atom).map(|label| Label::from(&label));
-                let expected = table.label(*atom);
-                assert_eq!(told, expected.map_err(|r| r.number()), "{call:?}");
+                let told =
+                    plain::label(&other, *atom).unwrap_or_else(|refused| [refused as u16; 3]);
+                let expected = raw::label(table.as_raw(), *atom);
+                let numbers = match expected.refused {
+                    0 => [expected.state, expected.depth, expected.slot],
+                    refused => [refused; 3],
+                };
+                assert_eq!(told.map(u32::from), numbers, "{call:?}");
+            }
+            Call::Labels => {
+                for room in [raw::LABEL_NUMBERS, 100, 7] {
+                    let (mut ours, mut others) = (vec![9; room], vec![9; room]);
+                    let expected = raw::labels(table.as_raw(), &mut ours);
+                    let told = plain::all_labels(&other, &mut others);
+                    let told = told.map_or_else(|refusal| refusal, |count| (0, count));
+                    assert_eq!(told, (expected.refused, expected.count), "room {room}");
+                    assert_eq!(ours, others);
+                }
             }
             Call::Mute { slot, mark } => {
                 let told = plain::mute(&mut other, *slot, *mark);

@@ -108,7 +108,8 @@ mod tests {
 
     /// Both save the table, with as much room as it needs, more and less, and load it again.
     fn kept(table: &Table) {
-        let rules = table.rules.iter().filter(|rule| rule.state != 0).count();
+        let slots = plain::slots(table).iter();
+        let rules = slots.filter(|slot| slot[plain::STATE] != 0).count();
         let needed = 512 * rules.div_ceil(22).max(1);
         let (refused, file) = saved(table, needed);
         assert_eq!(refused, 0);

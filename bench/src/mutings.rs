@@ -28,8 +28,7 @@ fn plain_marked(table: &Table, slot: u32, mark: u32) -> Table {
 
 impl Case {
     fn of(table: Table) -> Case {
-        let slot = table.rules.iter().rposition(|rule| rule.state != 0);
-        let slot = slot.expect("a rule") as u32;
+        let slot = plain::last_held(&table) as u32;
         let muted = marked(&table, slot, 1);
         Case { table, slot, muted }
     }

@@ -1,4 +1,5 @@
-//! The engine's phases: the labels of a list of rules, and question 15; and how many rounds find the in atoms.
+//! The engine's phases: what the slots of a table keep, found anew, and question 15; and how many rounds find the in
+//! atoms.
 
 use crate::clock::Pair;
 use crate::{plain, shapes};
@@ -26,7 +27,11 @@ pub fn bench() {
         assert!(boundary::sound(&table) && plain::sound(&table));
         let labels = Pair::timed(
             || boundary::labels(black_box(&table)),
-            || plain::labels(black_box(&table.rules)),
+            || {
+                let mut table = *black_box(&table);
+                plain::relabel(plain::slots_mut(&mut table));
+                table
+            },
         );
         let sound = Pair::timed(
             || boundary::sound(black_box(&table)),

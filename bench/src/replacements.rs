@@ -18,19 +18,19 @@ struct Case {
 
 /// The greatest atom that is the head of no rule: it is out, and a rule that negates it closes no loop.
 fn headless(table: &Table) -> u32 {
-    let heads: Vec<u16> = table.rules.iter().map(|rule| rule.head).collect();
+    let heads: Vec<usize> = plain::slots(table).iter().map(plain::head).collect();
     let mut atoms = (0..=255).rev();
-    let free = atoms.find(|atom| !heads.contains(atom));
-    free.expect("an atom without a rule").into()
+    let free = atoms.find(|&atom| !heads.contains(&(atom as usize)));
+    free.expect("an atom without a rule")
 }
 
 impl Case {
     /// The new rule has an entry more than the old one, or where there is no room one in the place of the last. Its
     /// lists come shuffled, not as they are kept.
     fn of(table: Table) -> Case {
-        let slot = table.rules.iter().rposition(|rule| rule.state != 0);
-        let slot = slot.expect("a rule");
-        let rule = &table.rules[slot];
+        let slot = plain::last_held(&table);
+        let rule = &plain::slots(&table)[slot];
+        let head = plain::head(rule) as u32;
         let list = |list: &[u16]| list.iter().map(|&atom| u32::from(atom)).collect::<Vec<_>>();
         let (mut positives, mut negatives) =
             (list(plain::positives(rule)), list(plain::negatives(rule)));
@@ -43,7 +43,7 @@ impl Case {
         random.shuffle(&mut negatives);
         Case {
             slot: slot as u32,
-            head: rule.head.into(),
+            head,
             positives,
             negatives,
             table,

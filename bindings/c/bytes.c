@@ -1,4 +1,5 @@
-/* The bytes of a table from C: sizes and offsets, the empty table, and equal bytes for equal rules. */
+/* The bytes of a table from C: sizes and offsets, the numbers of each slot, the empty table, and equal bytes for equal
+ * rules. */
 #include "yeqontur.h"
 
 #include "expect.h"
@@ -9,21 +10,9 @@
 #define SIZE(type, bytes) _Static_assert(sizeof(type) == (bytes), #type)
 #define AT(type, field, offset) _Static_assert(offsetof(type, field) == (offset), #type " " #field)
 
-SIZE(yeqontur_rule, 22);
-AT(yeqontur_rule, state, 0);
-AT(yeqontur_rule, head, 2);
-AT(yeqontur_rule, positives, 4);
-AT(yeqontur_rule, negatives, 5);
-AT(yeqontur_rule, entries, 6);
-
-SIZE(yeqontur_kept_label, 6);
-AT(yeqontur_kept_label, state, 0);
-AT(yeqontur_kept_label, depth, 2);
-AT(yeqontur_kept_label, slot, 4);
-
 SIZE(yeqontur_table, 7168);
-AT(yeqontur_table, rules, 0);
-AT(yeqontur_table, labels, 256 * 22);
+AT(yeqontur_table, words, 0);
+_Static_assert(YEQONTUR_WORDS == YEQONTUR_SLOTS * YEQONTUR_SLOT_WORDS, "a table is its slots");
 
 SIZE(yeqontur_change, 7176);
 AT(yeqontur_change, refused, 0);
@@ -35,6 +24,14 @@ AT(yeqontur_label_answer, refused, 0);
 AT(yeqontur_label_answer, state, 4);
 AT(yeqontur_label_answer, depth, 8);
 AT(yeqontur_label_answer, slot, 12);
+
+SIZE(yeqontur_rule_answer, 52);
+AT(yeqontur_rule_answer, refused, 0);
+AT(yeqontur_rule_answer, head, 4);
+AT(yeqontur_rule_answer, muted, 8);
+AT(yeqontur_rule_answer, positives, 12);
+AT(yeqontur_rule_answer, negatives, 16);
+AT(yeqontur_rule_answer, entries, 20);
 
 SIZE(yeqontur_spoiler_answer, 16);
 AT(yeqontur_spoiler_answer, refused, 0);
@@ -131,8 +128,29 @@ static void equal_rules(void) {
     expect(memcmp(&one, &other, sizeof one) == 0, "the same bytes again after a removal and an addition");
 }
 
+/* The numbers that the header says each slot has: of a rule that supports its head, of one that an entry spoils, of a
+ * muted one, and of a free slot. */
+static void slot_numbers(void) {
+    static const uint16_t right[][YEQONTUR_SLOT_WORDS] = {
+        {1, 7, 0, 1, 3, 0, 0, 0, 0, 0, 0, 0, 1, 0}, /* 7 < not 3: in at depth 1 */
+        {1, 200, 2, 2, 7, 9, 3, 7, 0, 0, 0, 0, 0, 2}, /* 200 < 7, 9, not 3, not 7: needs 9 */
+        {1, 9, 1, 2, 7, 3, 7, 0, 0, 0, 0, 0, 0, 3}, /* 9 < 7, not 3, not 7: blocked by 7 */
+        {2, 5, 1, 0, 9, 0, 0, 0, 0, 0, 0, 0, 0, 0}, /* 5 < 9, muted */
+        {1, 255, 1, 0, 7, 0, 0, 0, 0, 0, 0, 0, 2, 0}, /* 255 < 7: in at depth 2 */
+        {0, 0, 0, 0, 0, 0, 0, 0, 0, 0, 0, 0, 0, 0},
+    };
+    static const uint32_t three = 3, seven = 7, nine = 9, both[] = {9, 7}, neither[] = {7, 3};
+    yeqontur_table table = yeqontur_add(yeqontur_empty(), 7, NULL, 0, &three, 1).table;
+    table = yeqontur_add(table, 200, both, 2, neither, 2).table;
+    table = yeqontur_add(table, 9, &seven, 1, neither, 2).table;
+    table = yeqontur_mute(yeqontur_add(table, 5, &nine, 1, NULL, 0).table, 3, 1).table;
+    table = yeqontur_add(table, 255, &seven, 1, NULL, 0).table;
+    expect(memcmp(table.words, right, sizeof right) == 0, "fourteen numbers to a slot, in the order of the header");
+}
+
 int main(void) {
     empty_table();
+    slot_numbers();
     equal_rules();
     return counted("a table's bytes from C");
 }

@@ -184,13 +184,13 @@ static void marks_by_hand(void) {
     }
     no_checklist(table);
     table = fact(table, YEQONTUR_SKIPPED(1));
-    expect(table.rules[255].state == 1, "every slot is taken");
+    expect(yeqontur_rule(table, 255).refused == 0, "every slot is taken");
     for (uint32_t slot = 5; slot < 255; slot++) {
         table = yeqontur_remove(table, slot).table;
     }
     lacks(table, &first, 1);
     table = accepted(yeqontur_checklist_withdraw, table, 1);
-    expect(table.rules[255].state == 0, "the skip is withdrawn from the slot that has it");
+    expect(yeqontur_rule(table, 255).refused == 9, "the skip is withdrawn from the slot that has it");
     lacks(table, NULL, 0);
 }
 
@@ -252,8 +252,9 @@ static void muted_rules(void) {
         expect(mended.refused == 0 && same(&mended.table, &table), "unmuted, it is the checklist that it was");
     }
     yeqontur_table by_hand = table;
-    by_hand.rules[3].state = 2;
-    expect(yeqontur_label(by_hand, 0).refused == 0, "a rule that gives nothing is muted by its state alone");
+    *word(&by_hand, 3, STATE) = 2;
+    *word(&by_hand, 3, SPOILER) = 0;
+    expect(yeqontur_label(by_hand, 0).refused == 0, "a rule that gives nothing is muted by its own numbers alone");
     no_checklist(by_hand);
 }
 
@@ -265,10 +266,10 @@ static void any_bytes(void) {
     memset(&table, 0xFF, sizeof table);
     no_checklist(table);
     table = opened(2);
-    table.labels[YEQONTUR_GOOD(2)].state = 2; /* a label that says "complete" and is not right */
+    *word(&table, 2, DEPTH) = 1; /* which says "complete" and is not right */
     no_checklist(table);
     table = opened(2);
-    table.rules[255].head = YEQONTUR_SENT(1); /* bytes in a free slot */
+    *word(&table, 255, HEAD) = YEQONTUR_SENT(1); /* a number in a free slot */
     no_checklist(table);
 }
 

@@ -104,6 +104,27 @@ static void no_room_to_save(void) {
     expect(answer.refused == 15 && answer.count == 0, "a table that is not sound");
 }
 
+/* The labels of a full table fill the most numbers, and one entry less is too short. */
+static void no_room_for_labels(void) {
+    static uint32_t buffer[YEQONTUR_LABEL_NUMBERS + 1];
+    yeqontur_table table = yeqontur_empty();
+    expect(yeqontur_labels(table, NULL, 0).refused == 0, "the labels of the empty table need no buffer");
+    for (uint32_t atom = 0; atom < YEQONTUR_ATOMS; atom++) {
+        expect(yeqontur_add_to(&table, atom, NULL, 0, NULL, 0, NULL) == 0, "a fact");
+    }
+    buffer[0] = 91;
+    yeqontur_list_answer answer = yeqontur_labels(table, buffer, YEQONTUR_LABEL_NUMBERS - 1);
+    expect(answer.refused == 11 && answer.count == YEQONTUR_LABEL_NUMBERS && buffer[0] == 91, "one entry too short");
+    buffer[YEQONTUR_LABEL_NUMBERS] = 92;
+    answer = yeqontur_labels(table, buffer, YEQONTUR_LABEL_NUMBERS + 1);
+    expect(answer.refused == 0 && answer.count == YEQONTUR_LABEL_NUMBERS, "the most numbers");
+    expect(buffer[YEQONTUR_LABEL_NUMBERS - 4] == 255 && buffer[YEQONTUR_LABEL_NUMBERS] == 92, "and no more");
+    memset(&table, 0xA5, sizeof table);
+    answer = yeqontur_labels(table, NULL, 0);
+    expect(answer.refused == 15 && answer.count == 0, "a table that is not sound");
+    expect(yeqontur_rule(table, 256).refused == 15, "which is asked before the slot");
+}
+
 /* Numbers of 2^32 - 1, and of 2^16 and 2^8 more than a good one, wrap nowhere. */
 static void numbers(void) {
     const uint32_t most[] = {256, 257, 65536, 65537, 0xFFFFFFFF};
@@ -121,6 +142,7 @@ static void numbers(void) {
         expect(yeqontur_replace(table, 0, 2, NULL, 0, &n, 1).refused == 3, "a negative entry past the limit");
         expect(yeqontur_mute(table, n, n).refused == 8, "a slot number past the limit");
         expect(yeqontur_mute(table, 0, n).refused == 0, "any number mutes");
+        expect(yeqontur_rule(table, n).refused == 8, "a slot number past the limit");
         expect(yeqontur_spoiler(table, n).refused == 8, "a slot number past the limit");
         expect(yeqontur_label(table, n).refused == 10, "an atom number past the limit");
         for (int j = 0; j < 4; j++) {
@@ -139,6 +161,8 @@ static void nothing_else(void) {
     const yeqontur_label_answer out = yeqontur_label(table, 1), absent = yeqontur_label(table, 3);
     expect(out.state == YEQONTUR_LABEL_OUT && out.depth == 0 && out.slot == 0, "an atom that is out");
     expect(absent.state == YEQONTUR_LABEL_ABSENT && absent.depth == 0 && absent.slot == 0, "an absent atom");
+    const yeqontur_rule_answer free = yeqontur_rule(table, 1), none = {.refused = 9};
+    expect(memcmp(&free, &none, sizeof none) == 0, "a refused rule");
     const yeqontur_spoiler_answer spoiler = yeqontur_spoiler(table, 1);
     expect(spoiler.refused == 9 && spoiler.spoiled == 0 && spoiler.atom == 0 && spoiler.place == 0,
            "a refused spoiler");
@@ -161,6 +185,7 @@ int main(void) {
     numbers();
     file_lengths();
     no_room_to_save();
+    no_room_for_labels();
     nothing_else();
     return counted("the worst arguments from C");
 }

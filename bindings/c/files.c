@@ -249,7 +249,7 @@ static void order(void) {
 static void unsound(void) {
     uint8_t buffer[YEQONTUR_FILE_BYTES], blank[YEQONTUR_FILE_BYTES];
     yeqontur_table table = one_rule();
-    table.labels[9].depth++;
+    (*word(&table, 0, DEPTH))++;
     memset(buffer, 0xA5, sizeof buffer);
     memset(blank, 0xA5, sizeof blank);
     const yeqontur_list_answer answer = yeqontur_save(table, buffer, sizeof buffer);

@@ -79,9 +79,9 @@ static void show(const yeqontur_table *table, uint32_t atom, int indent, char *t
     }
     told[atom] = 1;
     if (label.state == YEQONTUR_LABEL_IN) { /* what its supporting rule rests on */
-        const yeqontur_rule *rule = &table->rules[label.slot];
-        for (int i = 0; i < rule->positives; i++) {
-            show(table, rule->entries[i], indent + 2, told);
+        const yeqontur_rule_answer rule = yeqontur_rule(*table, label.slot);
+        for (uint32_t i = 0; i < rule.positives; i++) {
+            show(table, rule.entries[i], indent + 2, told);
         }
         return;
     }
@@ -139,12 +139,11 @@ static void try_without(yeqontur_table *table) {
 
 int main(void) {
     yeqontur_table table = scanned();
-    for (uint32_t atom = 0; atom < YEQONTUR_ATOMS; atom++) {
-        yeqontur_label_answer label = yeqontur_label(table, atom);
-        if (label.state != YEQONTUR_LABEL_ABSENT) {
-            print_name(atom);
-            printf(": %s\n", states[label.state]);
-        }
+    uint32_t labels[YEQONTUR_LABEL_NUMBERS]; /* of each atom that occurs: atom, state, depth, slot */
+    const yeqontur_list_answer all = yeqontur_labels(table, labels, YEQONTUR_LABEL_NUMBERS);
+    for (size_t i = 0; i < all.count; i += 4) {
+        print_name(labels[i]);
+        printf(": %s\n", states[labels[i + 1]]);
     }
     show_why(&table, COMPLETE);
 

@@ -31,23 +31,27 @@ static void versions(void) {
     expect(strcmp(text, YEQONTUR_VERSION_TEXT) == 0, "the version in words");
 }
 
-/* Each named state is the one that the calls leave or tell: of slots, of labels, and of what is said of a rule. */
+/* Each named state is the one that the calls leave or tell: of labels, of rules, and of what is said of a rule. */
 static void states(void) {
     const uint32_t two = 2, three = 3, four = 4;
     yeqontur_table table = added(yeqontur_empty(), 1, &two, 1, &three, 1);
-    expect(table.rules[0].state == YEQONTUR_RULE_HELD, "a held rule");
-    expect(table.rules[1].state == YEQONTUR_RULE_FREE, "a free slot");
+    expect(yeqontur_rule(table, 0).refused == YEQONTUR_ACCEPTED, "a held rule");
+    expect(yeqontur_rule(table, 1).refused == YEQONTUR_REFUSED_SLOT_FREE, "a free slot");
     expect(yeqontur_spoiler(table, 0).spoiled == YEQONTUR_SPOILER_NEEDS, "a rule that needs an atom");
     table = fact(table, 2);
     expect(yeqontur_spoiler(table, 0).spoiled == YEQONTUR_SPOILER_NONE, "a valid rule");
     expect(yeqontur_label(table, 1).state == YEQONTUR_LABEL_IN, "an atom that is in");
     expect(yeqontur_label(table, 3).state == YEQONTUR_LABEL_OUT, "an atom that is out");
     expect(yeqontur_label(table, four).state == YEQONTUR_LABEL_ABSENT, "an atom of no rule");
-    expect(table.labels[1].state == YEQONTUR_LABEL_IN && table.labels[3].state == YEQONTUR_LABEL_OUT, "kept labels");
+    uint32_t labels[YEQONTUR_LABEL_NUMBERS];
+    const yeqontur_list_answer all = yeqontur_labels(table, labels, YEQONTUR_LABEL_NUMBERS);
+    expect(all.refused == YEQONTUR_ACCEPTED && all.count == 12, "three labels");
+    expect(labels[0] == 1 && labels[1] == YEQONTUR_LABEL_IN && labels[2] == 2 && labels[3] == 0, "the label of 1");
+    expect(labels[8] == 3 && labels[9] == YEQONTUR_LABEL_OUT && labels[10] == 0 && labels[11] == 0, "the label of 3");
     table = fact(table, 3);
     expect(yeqontur_spoiler(table, 0).spoiled == YEQONTUR_SPOILER_BLOCKED_BY, "a rule that is blocked");
     expect(yeqontur_mute_in(&table, 0, 1) == YEQONTUR_ACCEPTED, "a muting");
-    expect(table.rules[0].state == YEQONTUR_RULE_MUTED, "a muted rule");
+    expect(yeqontur_rule(table, 0).muted == 1, "a muted rule");
     expect(yeqontur_spoiler(table, 0).spoiled == YEQONTUR_SPOILER_MUTED, "what is said of it");
 }
 

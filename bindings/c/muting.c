@@ -12,7 +12,7 @@
 static yeqontur_table set(yeqontur_table table, uint32_t slot, uint32_t muted) {
     const yeqontur_accepted answer = yeqontur_mute(table, slot, muted);
     expect(answer.refused == 0, "an accepted muting");
-    expect(answer.table.rules[slot].state == (muted == 0 ? 1 : 2), "0 unmutes, and any other number mutes");
+    expect(yeqontur_rule(answer.table, slot).muted == (muted != 0), "0 unmutes, and any other number mutes");
     return answer.table;
 }
 
@@ -66,9 +66,12 @@ static void there_and_back(void) {
     is(&muted, 4, 2, 1, 3);
     is(&muted, 9, 1, 0, 0);
     is(&muted, 8, 0, 0, 0);
-    yeqontur_table by_hand = muted;
-    by_hand.rules[1].state = 1;
-    expect(memcmp(by_hand.rules, table.rules, sizeof table.rules) == 0, "of the rules one state alone is changed");
+    for (uint32_t slot = 0; slot < 4; slot++) {
+        yeqontur_rule_answer one = yeqontur_rule(table, slot), other = yeqontur_rule(muted, slot);
+        expect(one.muted == 0 && other.muted == (slot == 1), "one rule alone is muted");
+        one.muted = other.muted;
+        expect(memcmp(&one, &other, sizeof one) == 0, "and of it nothing else is changed");
+    }
     const yeqontur_table after = set(muted, 1, 0);
     expect(same(&after, &table), "muted and unmuted, the same table byte for byte");
 }
@@ -99,15 +102,15 @@ static void numbers(void) {
 static void in_order(void) {
     const yeqontur_table table = set(four_rules(), 1, 1);
     yeqontur_table unsound = table;
-    unsound.labels[1].depth = 2;
+    *word(&unsound, 0, DEPTH) = 2;
     refused(unsound, 15, 256);
     refused(unsound, 15, 4);
     refused(unsound, 15, 1);
     unsound = table;
-    unsound.rules[1].state = 3;
+    *word(&unsound, 1, STATE) = 3;
     refused(unsound, 15, 1);
     unsound = table;
-    unsound.rules[1].state = 1; /* its labels are those of the muted rule */
+    *word(&unsound, 1, STATE) = 1; /* it keeps what a muted rule does */
     refused(unsound, 15, 1);
     memset(&unsound, 0xA5, sizeof unsound);
     refused(unsound, 15, 0);
@@ -177,14 +180,16 @@ static void new_rules(void) {
     const uint32_t one = 1;
     const yeqontur_table table = four_rules(), muted = set(set(table, 1, 1), 2, 1);
     yeqontur_accepted replaced = yeqontur_replace(muted, 1, 2, &one, 1, NULL, 0);
-    expect(replaced.refused == 0 && replaced.table.rules[1].state == 1, "replaced by itself, it is unmuted");
-    expect(replaced.table.rules[2].state == 2, "another slot stays muted");
+    expect(replaced.refused == 0 && yeqontur_rule(replaced.table, 1).muted == 0, "replaced by itself, it is unmuted");
+    expect(yeqontur_rule(replaced.table, 2).muted == 1, "another slot stays muted");
     replaced = yeqontur_replace(muted, 4, 2, NULL, 0, NULL, 0);
-    expect(replaced.refused == 9 && replaced.table.rules[1].state == 2, "refused, it stays muted");
+    expect(replaced.refused == 9 && yeqontur_rule(replaced.table, 1).muted == 1, "refused, it stays muted");
     const yeqontur_change removed = yeqontur_remove(muted, 1);
-    expect(removed.refused == 0 && removed.table.rules[1].state == 0, "a muted rule's slot is freed");
+    expect(removed.refused == 0 && yeqontur_rule(removed.table, 1).refused == 9, "a muted rule's slot is freed");
     const yeqontur_change again = yeqontur_add(removed.table, 2, &one, 1, NULL, 0);
-    expect(again.refused == 0 && again.slot == 1 && again.table.rules[1].state == 1, "an added rule is not muted");
+    expect(again.refused == 0 && again.slot == 1, "an added rule takes its slot");
+    const yeqontur_rule_answer rule = yeqontur_rule(again.table, 1);
+    expect(rule.refused == 0 && rule.muted == 0, "and is not muted");
     const yeqontur_table after = set(again.table, 2, 0);
     expect(same(&after, &table), "the table that was never muted");
 }

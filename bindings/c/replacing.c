@@ -32,10 +32,10 @@ static void same_slot(void) {
     yeqontur_table table = added(fact(fact(yeqontur_empty(), 9), 1), 2, &one, 1, NULL, 0);
     table = yeqontur_remove(table, 0).table;
     table = replaced(table, 2, 3, &one, 1, &five, 1);
-    const yeqontur_rule *rule = &table.rules[2];
-    expect(rule->state == 1 && rule->head == 3 && rule->positives == 1 && rule->negatives == 1, "the new rule");
-    expect(rule->entries[0] == 1 && rule->entries[1] == 5, "and its entries");
-    expect(table.rules[0].state == 0 && table.rules[1].head == 1, "every other slot is as it was");
+    const yeqontur_rule_answer rule = yeqontur_rule(table, 2);
+    expect(rule.refused == 0 && rule.muted == 0 && rule.head == 3, "the new rule");
+    expect(rule.positives == 1 && rule.negatives == 1 && rule.entries[0] == 1 && rule.entries[1] == 5, "its entries");
+    expect(yeqontur_rule(table, 0).refused == 9 && yeqontur_rule(table, 1).head == 1, "every other slot is as it was");
     is(&table, 1, 2, 1, 1);
     is(&table, 2, 0, 0, 0);
     is(&table, 3, 2, 2, 2);
@@ -64,7 +64,7 @@ static void in_order(void) {
     const uint32_t large[] = {256, 256, 256, 256, 256, 256, 256, 256, 256};
     const yeqontur_table table = added(fact(yeqontur_empty(), 9), 2, &one, 1, NULL, 0);
     yeqontur_table unsound = table;
-    unsound.labels[9].depth = 2;
+    *word(&unsound, 0, DEPTH) = 2;
     refused(unsound, 15, 256, 256, large, 9, NULL, 0);
     refused(unsound, 15, 0, 9, NULL, 0, NULL, 0);
     refused(table, 8, 256, 256, large, 9, NULL, 0);
@@ -96,8 +96,12 @@ static void full(void) {
     refused(table, 5, 255, 0, NULL, 0, NULL, 0);
     refused(table, 7, 255, 0, NULL, 0, &zero, 1);
     const yeqontur_table after = replaced(table, 255, 0, &one, 1, NULL, 0);
-    expect(memcmp(after.rules, table.rules, 255 * sizeof *after.rules) == 0, "every other slot keeps its rule");
-    expect(after.rules[255].head == 0 && after.rules[255].entries[0] == 1, "the new rule is in its slot");
+    for (uint32_t slot = 0; slot < 255; slot++) {
+        const yeqontur_rule_answer one = yeqontur_rule(table, slot), other = yeqontur_rule(after, slot);
+        expect(memcmp(&one, &other, sizeof one) == 0, "every other slot keeps its rule");
+    }
+    const yeqontur_rule_answer last = yeqontur_rule(after, 255);
+    expect(last.head == 0 && last.positives == 1 && last.entries[0] == 1, "the new rule is in its slot");
     is(&after, 0, 2, 1, 0);
     is(&after, 255, 0, 0, 0);
 }

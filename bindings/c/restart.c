@@ -232,8 +232,8 @@ static yeqontur_table opened(const char *path) {
         return begun();
     }
     int rules = 0;
-    for (int slot = 0; slot < YEQONTUR_SLOTS; slot++) {
-        rules += loaded.table.rules[slot].state != YEQONTUR_RULE_FREE;
+    for (uint32_t slot = 0; slot < YEQONTUR_SLOTS; slot++) {
+        rules += yeqontur_rule(loaded.table, slot).refused == YEQONTUR_ACCEPTED;
     }
     printf("loaded: %d rules\n", rules);
     return loaded.table;

@@ -1,4 +1,4 @@
-/* Tables made by additions, and compared, for the tests in C. */
+/* Tables made by additions, compared and damaged, for the tests in C. */
 #ifndef TABLES_H
 #define TABLES_H
 
@@ -18,6 +18,13 @@ static inline yeqontur_table added(yeqontur_table table, uint32_t head, const ui
 
 static inline yeqontur_table fact(yeqontur_table table, uint32_t atom) {
     return added(table, atom, NULL, 0, NULL, 0);
+}
+
+/* Which of a slot's numbers is meant, for tests that damage a table: programs ask the calls. */
+enum { STATE = 0, HEAD = 1, POSITIVES = 2, NEGATIVES = 3, ENTRIES = 4, DEPTH = 12, SPOILER = 13 };
+
+static inline uint16_t *word(yeqontur_table *table, uint32_t slot, int place) {
+    return &table->words[YEQONTUR_SLOT_WORDS * slot + (uint32_t)place];
 }
 
 /* Are all bytes of the two tables equal? */

@@ -36,8 +36,8 @@ static void sides(yeqontur_table table) {
 
 static size_t held(const yeqontur_table *table) {
     size_t count = 0;
-    for (int slot = 0; slot < YEQONTUR_SLOTS; slot++) {
-        count += table->rules[slot].state != 0;
+    for (uint32_t slot = 0; slot < YEQONTUR_SLOTS; slot++) {
+        count += yeqontur_rule(*table, slot).refused == 0;
     }
     return count;
 }
@@ -46,8 +46,8 @@ static size_t held(const yeqontur_table *table) {
 static void orders(void) {
     const uint32_t given[] = {3, 1, 2}, other[] = {2, 3, 1}, kept[] = {1, 2, 3}, twice[] = {3, 1, 3};
     const yeqontur_table table = added(yeqontur_empty(), 5, given, 3, NULL, 0, 0);
-    const yeqontur_rule *rule = &table.rules[0];
-    expect(rule->positives == 3 && rule->entries[0] == 1 && rule->entries[1] == 2 && rule->entries[2] == 3,
+    const yeqontur_rule_answer rule = yeqontur_rule(table, 0);
+    expect(rule.positives == 3 && rule.entries[0] == 1 && rule.entries[1] == 2 && rule.entries[2] == 3,
            "5 < 3, 1, 2 is kept as 1, 2, 3");
     yeqontur_change change = yeqontur_add(table, 5, other, 3, NULL, 0);
     expect(change.refused == 5 && held(&change.table) == 1, "the same rule in another order is refused 5");
@@ -57,8 +57,8 @@ static void orders(void) {
     change = yeqontur_add(yeqontur_empty(), 5, kept, 3, NULL, 0);
     expect(memcmp(&change.table, &table, sizeof table) == 0, "any order of a list makes the same bytes");
     yeqontur_table swapped = table;
-    swapped.rules[0].entries[1] = 3;
-    swapped.rules[0].entries[2] = 2;
+    swapped.words[5] = 3; /* of slot 0, the second entry and the third */
+    swapped.words[6] = 2;
     expect(yeqontur_label(swapped, 5).refused == 15, "a list that does not ascend is not sound");
 }
 

@@ -14,7 +14,7 @@
 /* What a thread works on: a table and a checklist of its own, a buffer, a file, and whether all answers were right. */
 typedef struct {
     yeqontur_table table, checklist;
-    uint32_t buffer[256];
+    uint32_t buffer[YEQONTUR_LABEL_NUMBERS];
     uint8_t file[YEQONTUR_FILE_BYTES];
     uint32_t number;
     int right;
@@ -57,6 +57,15 @@ typedef yeqontur_list_answer list_call(yeqontur_table, uint32_t, uint32_t *, siz
 static void list(work *w, list_call *call, uint32_t atom, size_t count, uint32_t first) {
     yeqontur_list_answer answer = call(w->table, atom, w->buffer, 256);
     w->right &= answer.refused == 0 && answer.count == count && w->buffer[0] == first;
+}
+
+/* All labels at once, and the rule of the last slot. */
+static void labels(work *w) {
+    const yeqontur_list_answer answer = yeqontur_labels(w->table, w->buffer, YEQONTUR_LABEL_NUMBERS);
+    w->right &= answer.refused == 0 && answer.count == YEQONTUR_LABEL_NUMBERS;
+    w->right &= w->buffer[4 * 7] == 7 && w->buffer[4 * 7 + 1] == (w->number % 2 == 1 ? 1 : 2);
+    const yeqontur_rule_answer rule = yeqontur_rule(w->table, LENGTH - 1);
+    w->right &= rule.refused == 0 && rule.head == LENGTH - 1 && rule.entries[0] == LENGTH - 2;
 }
 
 static void spoiler(work *w) {
@@ -140,6 +149,7 @@ static void *run(void *given) {
     for (uint32_t atom = 0; atom < LENGTH; atom++) {
         label(w, atom);
     }
+    labels(w);
     spoiler(w);
     list(w, yeqontur_justifications, 7, 1, 7);
     list(w, yeqontur_consequences, 7, 1, 8);

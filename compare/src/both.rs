@@ -1,7 +1,7 @@
 //! One call on both sides, the proved library and the slow engine: answer, table and every entry of a lent buffer.
 
 use compare::boundary::from_slow;
-use oracle::calls::{Answer, Call, Lent, Validity};
+use oracle::calls::{Answer, Call, Lent, Validity, Written};
 use oracle::labels::Label;
 use oracle::questions::Refusal;
 use oracle::random::Random;
@@ -36,6 +36,7 @@ fn slow(told: Result<Answer, Refusal>) -> Told {
         Ok(Answer::Label(Label::Absent)) => vec![0, 0, 0],
         Ok(Answer::Label(Label::Out)) => vec![1, 0, 0],
         Ok(Answer::Label(Label::In { depth, slot })) => vec![2, depth, slot],
+        Ok(Answer::Rule(rule)) => rule_numbers(&rule),
         Ok(Answer::Spoiler(Validity::Valid)) => vec![0, 0, 0],
         Ok(Answer::Spoiler(Validity::Spoiled(spoiler))) => stopper(spoiler),
         Ok(Answer::Spoiler(Validity::Muted)) => vec![3, 0, 0],
@@ -43,6 +44,13 @@ fn slow(told: Result<Answer, Refusal>) -> Told {
         Ok(Answer::Complete(complete)) => vec![complete.into()],
     };
     Told::Values(values)
+}
+
+/// A rule as the boundary has it.
+fn rule_numbers(rule: &Written) -> Vec<u32> {
+    let mut numbers = vec![rule.head, rule.muted.into(), rule.positives, rule.negatives];
+    numbers.extend(rule.entries);
+    numbers
 }
 
 /// An entry that spoils as the boundary has it: 1 for the positive list or 2 for the negative, then atom and place.
@@ -82,6 +90,10 @@ fn proved_writing(call: &Call, table: &raw::Table, lent: &mut Lent) -> Option<To
         Call::Consequences { atom } => (raw::List::Consequences, *atom),
         Call::Repercussions { atom } => (raw::List::Repercussions, *atom),
         Call::Reason { atom } => (raw::List::Reason, *atom),
+        Call::Labels => {
+            let written = raw::labels(table, &mut lent.numbers);
+            return Some(counted(written.refused, written.count));
+        }
         Call::Save => {
             let written = raw::save(table, &mut lent.bytes);
             return Some(counted(written.refused, written.count));
@@ -103,6 +115,12 @@ fn proved_question(call: &Call, table: &raw::Table) -> Option<Told> {
             let label = raw::label(table, *atom);
             let values = vec![label.state, label.depth, label.slot];
             Some(told(label.refused, values))
+        }
+        Call::Rule { slot } => {
+            let rule = raw::rule(table, *slot);
+            let mut values = vec![rule.head, rule.muted, rule.positives, rule.negatives];
+            values.extend(rule.entries);
+            Some(told(rule.refused, values))
         }
         Call::Spoiler { slot } => {
             let spoiler = raw::spoiler(table, *slot);
@@ -173,7 +191,9 @@ fn proved(call: &Call, table: &mut raw::Table, lent: &mut Lent) -> Told {
 
 /// Buffers of any length, filled with numbers that no call writes, and with random bytes.
 fn buffers(random: &mut Random) -> Lent {
-    let numbers = *random.pick(&[0, 1, 2, 3, 4, 5, 8, 20, 59, 60, 61, 100, 255, 256, 257, 300]);
+    let numbers = *random.pick(&[
+        0, 1, 2, 3, 4, 5, 8, 20, 59, 60, 61, 100, 240, 255, 256, 257, 300, 1_023, 1_024, 1_025,
+    ]);
     let bytes = *random.pick(&[0, 1, 511, 512, 513, 1_024, 6_143, 6_144, 7_000]);
     Lent {
         numbers: (0..numbers).map(|i| 1_000_000 + i).collect(),

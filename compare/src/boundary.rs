@@ -1,10 +1,10 @@
 //! The proved engine's phases, as the static library exports them. The only unsafe code here.
 
 use oracle::limits::SLOTS;
-use oracle::table::{RawLabel, RawRule, RawTable};
-use yeqontur::raw::{Label, Rule, Table};
+use oracle::table::RawTable;
+use yeqontur::raw::Table;
 
-/// The table with the labels that its rules give, or as it came: 0 where it was labelled, else the
+/// The table with what its rules give each slot to keep, or as it came: 0 where it was labelled, else the
 /// number of the question that its rules answer no (15 or 7).
 #[repr(C)]
 pub struct Labelled {
@@ -81,20 +81,8 @@ pub fn replay(words: &[u32], files: &[u8], answers: &mut [u32]) -> Replayed {
 
 /// The slow engine's table as the library has it.
 pub fn from_slow(slow: &RawTable) -> Table {
-    let rule = |r: &RawRule| Rule {
-        state: r.state,
-        head: r.head,
-        positives: r.positives,
-        negatives: r.negatives,
-        entries: r.entries,
-    };
-    let label = |l: &RawLabel| Label {
-        state: l.state,
-        depth: l.depth,
-        slot: l.slot,
-    };
+    let numbers = slow.to_numbers();
     Table {
-        rules: std::array::from_fn(|slot| rule(&slow.rules[slot])),
-        labels: std::array::from_fn(|atom| label(&slow.labels[atom])),
+        words: std::array::from_fn(|place| numbers[place]),
     }
 }

@@ -3,6 +3,7 @@
 use compare::boundary::{self, from_slow, Rounds, LAYERS};
 use oracle::atoms::AtomSet;
 use oracle::generate;
+use oracle::generate::kept_faults::{wrongs, Wrong, WRONGS};
 use oracle::labels::{Label, Labelled};
 use oracle::limits::ATOMS;
 use oracle::random::Random;
@@ -11,9 +12,10 @@ use oracle::rules::Program;
 use oracle::sound;
 use oracle::strata::layers;
 use oracle::table::{RawTable, MUTED};
+use std::collections::BTreeMap;
 use std::ops::RangeInclusive;
 
-/// What the slow engine finds of rules that are sound without labels.
+/// What the slow engine finds of rules that are sound by themselves.
 struct Expected {
     labelled: Labelled,
     layers: Vec<u32>,
@@ -86,7 +88,7 @@ fn refusal(raw: &RawTable, expected: Option<&Expected>) -> u32 {
     }
 }
 
-/// One table: the verdict, and the labels and rounds of its rules where they are sound without labels. Answers what was
+/// One table: the verdict, and the labels and rounds of its rules where they are sound by themselves. Answers what was
 /// expected of these rules, or what differs.
 fn compared(raw: &RawTable) -> Result<Option<Expected>, String> {
     let table = from_slow(raw);
@@ -140,6 +142,31 @@ impl Muted {
     }
 }
 
+/// From `MANY` tables on, each wrong way to keep a depth or a spoiler must come up once in so many tables.
+const ONCE_IN: usize = 500;
+
+/// How many tables with sound rules kept what is wrong in each way.
+#[derive(Default)]
+struct KeptWrong(BTreeMap<Wrong, usize>);
+
+impl KeptWrong {
+    fn note(&mut self, raw: &RawTable, labelled: &Labelled) {
+        for wrong in wrongs(raw, labelled) {
+            *self.0.entry(wrong).or_default() += 1;
+        }
+    }
+
+    fn is_enough(&self, count: usize) -> bool {
+        let times = |wrong| self.0.get(wrong).copied().unwrap_or(0);
+        count < MANY || WRONGS.iter().all(|wrong| ONCE_IN * times(wrong) >= count)
+    }
+
+    fn shown(&self) -> String {
+        let shown = self.0.iter().map(|(wrong, n)| format!("{wrong:?}: {n}"));
+        shown.collect::<Vec<_>>().join(", ")
+    }
+}
+
 /// How far the rounds went of the tables whose rules are not refused.
 #[derive(Default)]
 struct Reached {
@@ -159,36 +186,62 @@ impl Reached {
     }
 }
 
-/// Compares `count` tables. Answers how many differ; too few tables with a muted rule, or with a state past 2, count as
-/// one.
+/// Counts what a table showed that was compared.
+#[derive(Default)]
+struct Seen {
+    reached: Reached,
+    muted: Muted,
+    kept_wrong: KeptWrong,
+}
+
+impl Seen {
+    fn note(&mut self, raw: &RawTable, expected: &Expected) {
+        self.reached.note(&expected.rounds);
+        self.kept_wrong.note(raw, &expected.labelled);
+    }
+
+    /// Prints the counts. Answers how many kinds of tables came up too rarely.
+    fn told(&self, count: usize) -> usize {
+        let (reached, muted) = (&self.reached, &self.muted);
+        println!(
+            "rounds compared: {} layers of {} tables, at most {} layers in a table and {} rounds in a layer",
+            reached.layers, reached.tables, reached.most_layers, reached.most_rounds
+        );
+        println!(
+            "tables with a muted rule: {}, of them sound: {}; with a state past 2: {}",
+            muted.tables, muted.sound, muted.no_state
+        );
+        println!("wrong depths and spoilers: {}", self.kept_wrong.shown());
+        let mut few = 0;
+        if !muted.is_enough(count) {
+            println!("too few tables with a muted rule, or with a state past 2");
+            few += 1;
+        }
+        if !self.kept_wrong.is_enough(count) {
+            println!("too few tables with a wrong depth or spoiler of some kind");
+            few += 1;
+        }
+        few
+    }
+}
+
+/// Compares `count` tables. Answers how many differ; too few tables of a kind count as one.
 pub fn compare(seed: u64, count: usize) -> usize {
     let mut random = Random::seeded(seed);
-    let mut failed = 0;
-    let (mut reached, mut muted) = (Reached::default(), Muted::default());
+    let (mut failed, mut seen) = (0, Seen::default());
     for i in 0..count {
         let raw = generate::mixed_table(&mut random);
-        muted.note(&raw);
+        seen.muted.note(&raw);
         match compared(&raw) {
-            Ok(expected) => expected.iter().for_each(|e| reached.note(&e.rounds)),
+            Ok(expected) => expected.iter().for_each(|e| seen.note(&raw, e)),
             Err(difference) => {
                 println!("table {i} of seed {seed}: {difference}");
                 failed += 1;
             }
         }
     }
-    println!(
-        "rounds compared: {} layers of {} tables, at most {} layers in a table and {} rounds in a layer",
-        reached.layers, reached.tables, reached.most_layers, reached.most_rounds
-    );
-    println!(
-        "tables with a muted rule: {}, of them sound: {}; with a state past 2: {}",
-        muted.tables, muted.sound, muted.no_state
-    );
     let passed = count - failed;
-    if !muted.is_enough(count) {
-        println!("too few tables with a muted rule, or with a state past 2");
-        failed += 1;
-    }
+    failed += seen.told(count);
     println!("tables compared with the slow engine: {passed} passed, {failed} failed");
     failed
 }

@@ -4,7 +4,7 @@
 use crate::checklist;
 use crate::file;
 use crate::labels::{Label, Labelled};
-use crate::limits::{ATOMS, SLOTS};
+use crate::limits::{ATOMS, ENTRIES, SLOTS};
 use crate::loops::has_loop_through_negation;
 use crate::questions::{rule_from, Refusal};
 use crate::relations::{self, Spoiler};
@@ -18,6 +18,16 @@ pub enum Validity {
     Valid,
     Spoiled(Spoiler),
     Muted,
+}
+
+/// What the rule call answers: the rule's numbers, its entries as they are kept, and 0 behind them.
+#[derive(Clone, Copy, PartialEq, Eq, Debug)]
+pub struct Written {
+    pub head: u32,
+    pub muted: bool,
+    pub positives: u32,
+    pub negatives: u32,
+    pub entries: [u32; ENTRIES],
 }
 
 /// Question 15.
@@ -128,6 +138,35 @@ pub fn label(table: &RawTable, atom: u32) -> Result<Label, Refusal> {
     Ok(ask_atom(table, atom)?.label(atom))
 }
 
+/// Of each atom that occurs, ascending, four numbers: the atom, 1 if it is out or 2 if it is in, its depth and its
+/// supporting slot, which are 0 if it is out.
+pub fn labels(table: &RawTable, buffer: &mut [u32]) -> Result<u32, Refusal> {
+    let labelled = ask_sound(table)?;
+    let four = |(atom, label)| match label {
+        Label::In { depth, slot } => [atom, 2, depth, slot],
+        _ => [atom, 1, 0, 0],
+    };
+    let numbers: Vec<u32> = labelled.occurring().flat_map(four).collect();
+    lend(&numbers, buffer)
+}
+
+/// What the slot holds.
+pub fn rule(table: &RawTable, slot: u32) -> Result<Written, Refusal> {
+    let labelled = ask_sound(table)?;
+    let Page { rule, muted } = ask_held(&labelled, slot)?;
+    let mut entries = [0; ENTRIES];
+    for (place, entry) in entries.iter_mut().zip(rule.entries()) {
+        *place = entry;
+    }
+    Ok(Written {
+        head: rule.head,
+        muted: *muted,
+        positives: rule.positives.len() as u32,
+        negatives: rule.negatives.len() as u32,
+        entries,
+    })
+}
+
 /// That the rule is muted, whatever its entries are; else whether it is valid, or what spoils it.
 pub fn spoiler(table: &RawTable, slot: u32) -> Result<Validity, Refusal> {
     let labelled = ask_sound(table)?;
@@ -206,6 +245,10 @@ pub enum Call {
     Label {
         atom: u32,
     },
+    Labels,
+    Rule {
+        slot: u32,
+    },
     Spoiler {
         slot: u32,
     },
@@ -254,6 +297,7 @@ pub enum Answer {
     Slot(u32),
     Accepted,
     Label(Label),
+    Rule(Written),
     Spoiler(Validity),
     Count(u32),
     Complete(bool),
@@ -273,6 +317,8 @@ impl Call {
             Call::Replace { .. } => "replace",
             Call::Mute { .. } => "mute",
             Call::Label { .. } => "label",
+            Call::Labels => "labels",
+            Call::Rule { .. } => "rule",
             Call::Spoiler { .. } => "spoiler",
             Call::Justifications { .. } => "justifications",
             Call::Consequences { .. } => "consequences",
@@ -314,6 +360,8 @@ impl Call {
             } => accepted(replace(table, *slot, *head, positives, negatives)),
             Call::Mute { slot, mark } => accepted(mute(table, *slot, *mark)),
             Call::Label { atom } => label(table, *atom).map(Answer::Label),
+            Call::Labels => labels(table, buffer).map(Answer::Count),
+            Call::Rule { slot } => rule(table, *slot).map(Answer::Rule),
             Call::Spoiler { slot } => spoiler(table, *slot).map(Answer::Spoiler),
             Call::Justifications { atom } => {
                 justifications(table, *atom, buffer).map(Answer::Count)

@@ -1,78 +1,76 @@
-//! Raw tables as bytes: the fields in their order, numbers low byte first. A table in the memory of an x86-64 machine
-//! has the same bytes.
+//! Raw tables as bytes: the numbers of each slot in their order, each of two bytes, low byte first. A table in the memory
+//! of an x86-64 machine has the same bytes.
 
-use crate::limits::{ATOMS, ENTRIES, SLOTS};
-use crate::table::{RawLabel, RawRule, RawTable};
+use crate::limits::{ENTRIES, SLOTS};
+use crate::table::{Kept, RawRule, RawTable};
 
-const RULE_BYTES: usize = 6 + 2 * ENTRIES;
-const LABEL_BYTES: usize = 6;
+/// How many numbers a slot has: four, the entries, and the two that it keeps.
+const WIDTH: usize = 4 + ENTRIES + 2;
 
-impl RawRule {
-    fn write(&self, bytes: &mut Vec<u8>) {
-        bytes.extend(self.state.to_le_bytes());
-        bytes.extend(self.head.to_le_bytes());
-        bytes.extend([self.positives, self.negatives]);
-        bytes.extend(self.entries.iter().flat_map(|entry| entry.to_le_bytes()));
-    }
+const SLOT_BYTES: usize = 2 * WIDTH;
 
-    fn read(bytes: &[u8]) -> RawRule {
-        let mut entries = [0; ENTRIES];
-        for (entry, pair) in entries.iter_mut().zip(bytes[6..].chunks_exact(2)) {
-            *entry = low_byte_first(pair);
-        }
-        RawRule {
-            state: low_byte_first(&bytes[..2]),
-            head: low_byte_first(&bytes[2..4]),
-            positives: bytes[4],
-            negatives: bytes[5],
-            entries,
-        }
+/// The numbers of a slot.
+fn numbers(rule: &RawRule, kept: &Kept) -> [u16; WIDTH] {
+    let mut numbers = [0; WIDTH];
+    numbers[..4].copy_from_slice(&[rule.state, rule.head, rule.positives, rule.negatives]);
+    numbers[4..4 + ENTRIES].copy_from_slice(&rule.entries);
+    numbers[4 + ENTRIES..].copy_from_slice(&[kept.depth, kept.spoiler]);
+    numbers
+}
+
+/// The rule that the numbers of a slot are.
+fn rule_of(numbers: &[u16]) -> RawRule {
+    RawRule {
+        state: numbers[0],
+        head: numbers[1],
+        positives: numbers[2],
+        negatives: numbers[3],
+        entries: std::array::from_fn(|entry| numbers[4 + entry]),
     }
 }
 
-impl RawLabel {
-    fn write(&self, bytes: &mut Vec<u8>) {
-        bytes.extend(self.state.to_le_bytes());
-        bytes.extend(self.depth.to_le_bytes());
-        bytes.extend(self.slot.to_le_bytes());
+/// What the numbers of a slot keep.
+fn kept_of(numbers: &[u16]) -> Kept {
+    Kept {
+        depth: numbers[4 + ENTRIES],
+        spoiler: numbers[5 + ENTRIES],
     }
-
-    fn read(bytes: &[u8]) -> RawLabel {
-        RawLabel {
-            state: low_byte_first(&bytes[..2]),
-            depth: low_byte_first(&bytes[2..4]),
-            slot: low_byte_first(&bytes[4..]),
-        }
-    }
-}
-
-fn low_byte_first(pair: &[u8]) -> u16 {
-    u16::from_le_bytes([pair[0], pair[1]])
 }
 
 impl RawTable {
-    /// How many bytes an encoded table has: the rules by slot, then the labels by atom.
-    pub const BYTES: usize = SLOTS * RULE_BYTES + ATOMS * LABEL_BYTES;
+    /// How many numbers a table has.
+    pub const NUMBERS: usize = SLOTS * WIDTH;
+
+    /// How many bytes an encoded table has.
+    pub const BYTES: usize = SLOTS * SLOT_BYTES;
+
+    /// The numbers of all slots, in their order.
+    pub fn to_numbers(&self) -> Vec<u16> {
+        let slots = self.rules.iter().zip(&self.kept);
+        slots.flat_map(|(rule, kept)| numbers(rule, kept)).collect()
+    }
+
+    /// The table that has these numbers, or `None` if there are too few or too many.
+    pub fn from_numbers(numbers: &[u16]) -> Option<RawTable> {
+        let slots = || numbers.chunks_exact(WIDTH);
+        (numbers.len() == RawTable::NUMBERS).then(|| RawTable {
+            rules: slots().map(rule_of).collect(),
+            kept: slots().map(kept_of).collect(),
+        })
+    }
 
     pub fn to_bytes(&self) -> Vec<u8> {
-        let mut bytes = Vec::with_capacity(RawTable::BYTES);
-        self.rules.iter().for_each(|rule| rule.write(&mut bytes));
-        self.labels.iter().for_each(|label| label.write(&mut bytes));
-        bytes
+        let numbers = self.to_numbers().into_iter();
+        numbers.flat_map(u16::to_le_bytes).collect()
     }
 
     /// The table that the bytes encode, or `None` if there are too few or too many.
     pub fn from_bytes(bytes: &[u8]) -> Option<RawTable> {
-        if bytes.len() != RawTable::BYTES {
-            return None;
-        }
-        let (rules, labels) = bytes.split_at(SLOTS * RULE_BYTES);
-        Some(RawTable {
-            rules: rules.chunks_exact(RULE_BYTES).map(RawRule::read).collect(),
-            labels: labels
-                .chunks_exact(LABEL_BYTES)
-                .map(RawLabel::read)
-                .collect(),
-        })
+        let pairs = bytes.chunks_exact(2);
+        let is_even = pairs.remainder().is_empty();
+        let numbers: Vec<u16> = pairs
+            .map(|pair| u16::from_le_bytes([pair[0], pair[1]]))
+            .collect();
+        is_even.then(|| RawTable::from_numbers(&numbers)).flatten()
     }
 }

@@ -5,7 +5,7 @@ use crate::limits::ENTRIES;
 use crate::loops::has_loop_through_negation;
 use crate::questions::rule_from;
 use crate::rules::{held, Page, Program, Rule};
-use crate::table::{RawLabel, RawRule, RawTable, FREE, HELD, MUTED};
+use crate::table::{Kept, RawRule, RawTable, FREE, HELD, MUTED};
 use std::collections::HashSet;
 
 /// A slot that no sound table has.
@@ -58,15 +58,12 @@ pub fn sound_rules(table: &RawTable) -> Option<Program> {
     fitting_rules(table).filter(|program| !has_loop_through_negation(program))
 }
 
-/// The program and its labels, if the table is sound: the rules are, and each atom's label,
-/// depth and supporting slot is kept as defined, with nothing kept for an atom not in.
+/// The program and its labels, if the table is sound: the rules are, and each slot keeps what is
+/// defined: the depth of its head if it supports it, the place of its spoiler, and nothing else.
 pub fn sound_content(table: &RawTable) -> Option<Labelled> {
     let labelled = Labelled::of(sound_rules(table)?);
-    let as_defined = labelled
-        .labels
-        .iter()
-        .map(|&label| RawLabel::keeping(label))
-        .eq(table.labels.iter().copied());
+    let mut slots = (0..).zip(&table.kept);
+    let as_defined = slots.all(|(slot, &kept)| kept == Kept::of(&labelled, slot));
     as_defined.then_some(labelled)
 }
 

@@ -1,41 +1,41 @@
 //! The raw table: integers only, so that any bytes are a table.
 
 use crate::labels::{Label, Labelled};
-use crate::limits::{ATOMS, ENTRIES, SLOTS};
+use crate::limits::{ENTRIES, SLOTS};
+use crate::relations::{spoiler, Side};
 use crate::rules::Page;
 
 pub const FREE: u16 = 0;
 pub const HELD: u16 = 1;
 pub const MUTED: u16 = 2;
 
-pub const ABSENT: u16 = 0;
-pub const OUT: u16 = 1;
-pub const IN: u16 = 2;
-
+/// The rule of a slot.
 #[derive(Clone, Copy, PartialEq, Eq, Debug)]
 pub struct RawRule {
     pub state: u16,
     pub head: u16,
-    pub positives: u8,
-    pub negatives: u8,
+    pub positives: u16,
+    pub negatives: u16,
     /// The positive entries, then the negative ones, then zeros. In a sound table each list
     /// ascends.
     pub entries: [u16; ENTRIES],
 }
 
+/// What a slot keeps beside its rule.
 #[derive(Clone, Copy, PartialEq, Eq, Debug)]
-pub struct RawLabel {
-    pub state: u16,
+pub struct Kept {
+    /// The depth of the head where this slot supports it, else 0.
     pub depth: u16,
-    pub slot: u16,
+    /// The place of the entry that spoils the unmuted rule, from 1 over both lists, else 0.
+    pub spoiler: u16,
 }
 
 #[derive(Clone, PartialEq, Eq, Debug)]
 pub struct RawTable {
     /// By slot number, `SLOTS` of them.
     pub rules: Vec<RawRule>,
-    /// By atom number, `ATOMS` of them.
-    pub labels: Vec<RawLabel>,
+    /// By slot number too.
+    pub kept: Vec<Kept>,
 }
 
 impl RawRule {
@@ -58,36 +58,52 @@ impl RawRule {
         RawRule {
             state: if page.muted { MUTED } else { HELD },
             head: rule.head as u16,
-            positives: rule.positives.len() as u8,
-            negatives: rule.negatives.len() as u8,
+            positives: rule.positives.len() as u16,
+            negatives: rule.negatives.len() as u16,
             entries,
         }
     }
 }
 
-impl RawLabel {
-    /// An atom of the empty table.
-    pub const EMPTY: RawLabel = RawLabel {
-        state: ABSENT,
+impl Kept {
+    /// Of a slot of the empty table.
+    pub const NOTHING: Kept = Kept {
         depth: 0,
-        slot: 0,
+        spoiler: 0,
     };
 
-    /// The label as it is kept.
-    pub fn keeping(label: Label) -> RawLabel {
-        match label {
-            Label::Absent => RawLabel::EMPTY,
-            Label::Out => RawLabel {
-                state: OUT,
-                ..RawLabel::EMPTY
+    /// What the slot keeps: nothing where it is free or its rule is muted.
+    pub fn of(labelled: &Labelled, slot: u32) -> Kept {
+        match labelled.program.get(slot as usize) {
+            Some(Some(page)) if !page.muted => Kept {
+                depth: supported_depth(labelled, slot, page.rule.head),
+                spoiler: spoiling_place(labelled, page),
             },
-            Label::In { depth, slot } => RawLabel {
-                state: IN,
-                depth: depth as u16,
-                slot: slot as u16,
-            },
+            _ => Kept::NOTHING,
         }
     }
+}
+
+/// The depth of the atom if this slot supports it, else 0.
+fn supported_depth(labelled: &Labelled, slot: u32, atom: u32) -> u16 {
+    match labelled.label(atom) {
+        Label::In {
+            depth,
+            slot: supporting,
+        } if supporting == slot => depth as u16,
+        _ => 0,
+    }
+}
+
+/// The place of the rule's spoiler, where the positive list is read before the negative one and the first entry of all
+/// is 1; 0 for a valid rule.
+fn spoiling_place(labelled: &Labelled, page: &Page) -> u16 {
+    let before = |side| match side {
+        Side::Positive => 0,
+        Side::Negative => page.rule.positives.len() as u32,
+    };
+    let place = spoiler(labelled, &page.rule).map(|found| before(found.side) + found.place + 1);
+    place.unwrap_or(0) as u16
 }
 
 impl RawTable {
@@ -95,7 +111,7 @@ impl RawTable {
     pub fn empty() -> RawTable {
         RawTable {
             rules: vec![RawRule::EMPTY; SLOTS],
-            labels: vec![RawLabel::EMPTY; ATOMS],
+            kept: vec![Kept::NOTHING; SLOTS],
         }
     }
 
@@ -104,17 +120,15 @@ impl RawTable {
         self.rules.iter().any(|rule| rule.state == MUTED)
     }
 
-    /// The table that keeps the program and its labels. The rules must pass question 1 to 3.
+    /// The table that keeps the program and what its labels give each slot to keep. The rules must pass question 1 to 3.
     pub fn keeping(labelled: &Labelled) -> RawTable {
         let mut table = RawTable::empty();
         for (place, slot_holds) in table.rules.iter_mut().zip(&labelled.program) {
             *place = slot_holds.as_ref().map_or(RawRule::EMPTY, RawRule::holding);
         }
-        table.labels = labelled
-            .labels
-            .iter()
-            .map(|&label| RawLabel::keeping(label))
-            .collect();
+        for (slot, kept) in (0..).zip(&mut table.kept) {
+            *kept = Kept::of(labelled, slot);
+        }
         table
     }
 }

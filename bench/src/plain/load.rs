@@ -2,9 +2,10 @@
 
 use super::blocks::{sums, word, Block, BLOCK, BODY, HEAD, MARK, PLACE, PLACES};
 use super::calls::EMPTY;
-use super::labels::labels;
+use super::labels::relabel;
 use super::sound::{no_two_equal, well_formed};
-use yeqontur::raw::{Rule, Table, SLOTS};
+use super::{slots, slots_mut, Slot, FIRST_ENTRY, FREE, NEGATIVES, POSITIVES, STATE};
+use yeqontur::raw::{Table, ENTRIES, SLOTS};
 
 /// The most blocks that a file has.
 const BLOCKS: usize = 12;
@@ -43,19 +44,24 @@ fn filled(block: &Block) -> bool {
     filler.iter().all(|&x| x == 0)
 }
 
-fn rule_in(place: &[u8]) -> Rule {
-    Rule {
-        state: if place[4] < MARK { 1 } else { 2 },
-        head: word(place, 2),
-        positives: place[4] % MARK,
-        negatives: place[5],
-        entries: std::array::from_fn(|j| word(place, 6 + 2 * j)),
+fn rule_in(place: &[u8]) -> Slot {
+    let mut slot = FREE;
+    slot[STATE] = if place[4] < MARK { 1 } else { 2 };
+    slot[super::HEAD] = word(place, 2);
+    slot[POSITIVES] = (place[4] % MARK).into();
+    slot[NEGATIVES] = place[5].into();
+    for (j, entry) in slot[FIRST_ENTRY..FIRST_ENTRY + ENTRIES]
+        .iter_mut()
+        .enumerate()
+    {
+        *entry = word(place, 6 + 2 * j);
     }
+    slot
 }
 
 /// 19, of the records one by one: each rule in its slot, if the slots ascend and every rule is well formed.
-fn rules_in(blocks: &[Block]) -> Option<[Rule; SLOTS]> {
-    let mut rules = EMPTY.rules;
+fn rules_in(blocks: &[Block]) -> Option<Table> {
+    let mut table = EMPTY;
     let mut least = 0;
     for block in blocks {
         for place in block[HEAD..].chunks_exact(PLACE).take(count(block)) {
@@ -64,11 +70,11 @@ fn rules_in(blocks: &[Block]) -> Option<[Rule; SLOTS]> {
             if slot < least || slot >= SLOTS || !well_formed(&rule) {
                 return None;
             }
-            rules[slot] = rule;
+            slots_mut(&mut table)[slot] = rule;
             least = slot + 1;
         }
     }
-    Some(rules)
+    Some(table)
 }
 
 pub fn load(bytes: &[u8]) -> Result<Table, u32> {
@@ -83,10 +89,9 @@ pub fn load(bytes: &[u8]) -> Result<Table, u32> {
     if !blocks.iter().all(filled) {
         return Err(19);
     }
-    let rules = rules_in(blocks).ok_or(19_u32)?;
-    if !no_two_equal(&rules) {
+    let mut table = rules_in(blocks).ok_or(19_u32)?;
+    if !no_two_equal(slots(&table)) || !relabel(slots_mut(&mut table)) {
         return Err(19);
     }
-    let labels = labels(&rules).ok_or(19_u32)?;
-    Ok(Table { rules, labels })
+    Ok(table)
 }

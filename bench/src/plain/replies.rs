@@ -1,9 +1,9 @@
 //! The reply to a line of a sheet: what it does to the table, and what it prints.
 
-use super::calls::{add, asked, remove, replace};
+use super::calls::{add, asked, labels_in, remove, replace, Label};
 use super::lines::Line;
 use super::reason::reason;
-use yeqontur::raw::{Label, Table, ATOMS};
+use yeqontur::raw::{Table, ATOMS};
 
 /// Decimal digits.
 fn write_number(out: &mut Vec<u8>, number: u32) {
@@ -34,15 +34,15 @@ fn write_line(out: &mut Vec<u8>, word: &[u8], numbers: &[u32]) {
 }
 
 /// The line of an atom, if it occurs.
-fn write_label(out: &mut Vec<u8>, atom: usize, label: &Label) {
-    if label.state == 0 {
+fn write_label(out: &mut Vec<u8>, atom: usize, [state, depth, slot]: Label) {
+    if state == 0 {
         return;
     }
     write_number(out, atom as u32);
-    if label.state == 1 {
+    if state == 1 {
         return out.extend_from_slice(b" out\n");
     }
-    write_line(out, b" in", &[label.depth.into(), label.slot.into()]);
+    write_line(out, b" in", &[depth.into(), slot.into()]);
 }
 
 /// Does what the line says and prints what it answers, or gives the number of its refusal.
@@ -70,7 +70,7 @@ fn obey(table: &mut Table, line: Line, out: &mut Vec<u8>) -> Result<(), u32> {
         }
         Line::Labels => {
             asked(table)?;
-            let labels = table.labels.iter().enumerate();
+            let labels = labels_in(table).into_iter().enumerate();
             labels.for_each(|(atom, label)| write_label(out, atom, label));
         }
     }

@@ -2,14 +2,15 @@
 
 use super::blocks::{sums, write_word, Block, BLOCK, BODY, HEAD, MARK, PLACE, PLACES};
 use super::calls::asked;
-use yeqontur::raw::{Rule, Table};
+use super::{entries, slots, Slot, NEGATIVES, POSITIVES, STATE};
+use yeqontur::raw::Table;
 
-fn write_record(place: &mut [u8], slot: usize, rule: &Rule) {
+fn write_record(place: &mut [u8], slot: usize, rule: &Slot) {
     write_word(place, 0, slot as u16);
-    write_word(place, 2, rule.head);
-    place[4] = rule.positives + if rule.state == 2 { MARK } else { 0 };
-    place[5] = rule.negatives;
-    for (j, &x) in rule.entries.iter().enumerate() {
+    write_word(place, 2, rule[super::HEAD]);
+    place[4] = rule[POSITIVES] as u8 + if rule[STATE] == 2 { MARK } else { 0 };
+    place[5] = rule[NEGATIVES] as u8;
+    for (j, &x) in entries(rule).iter().enumerate() {
         write_word(place, 6 + 2 * j, x);
     }
 }
@@ -19,7 +20,7 @@ fn write_block<'a>(
     block: &mut Block,
     index: usize,
     blocks: usize,
-    records: &mut impl Iterator<Item = (usize, &'a Rule)>,
+    records: &mut impl Iterator<Item = (usize, &'a Slot)>,
 ) {
     let mut count = 0;
     let places = block[HEAD..HEAD + PLACES * PLACE].chunks_exact_mut(PLACE);
@@ -37,9 +38,9 @@ fn write_block<'a>(
 }
 
 /// The rules with their slots.
-fn held(table: &Table) -> impl Iterator<Item = (usize, &Rule)> {
-    let slots = table.rules.iter().enumerate();
-    slots.filter(|(_, rule)| rule.state != 0)
+fn held(table: &Table) -> impl Iterator<Item = (usize, &Slot)> {
+    let slots = slots(table).iter().enumerate();
+    slots.filter(|(_, slot)| slot[STATE] != 0)
 }
 
 /// Answers how many bytes were written; the error is the refusal's number, and with 11 how many bytes are needed.

@@ -1,8 +1,10 @@
-//! Question 15 (specification 3.4): the kept labels as a certificate.
+//! Question 15 (specification 3.4): what the slots keep as a certificate.
 
-use super::labels::{occurring, strata};
-use super::{has, negatives, number, positives, valid, Flags, Numbers};
-use yeqontur::raw::{Label, Rule, Table, ATOMS, ENTRIES, SLOTS};
+use super::labels::spoiling;
+use super::loops::acyclic;
+use super::{entries, head, level, negatives, positives, slots};
+use super::{Flags, Numbers, Slot, DEPTH, HEAD, NEGATIVES, POSITIVES, SPOILER, STATE};
+use yeqontur::raw::{Table, ATOMS, ENTRIES, SLOTS};
 
 fn ascends(list: &[u16]) -> bool {
     list.windows(2).all(|pair| pair[0] < pair[1])
@@ -10,42 +12,46 @@ fn ascends(list: &[u16]) -> bool {
 
 /// Clean, and where the slot holds a rule, muted or not, questions 1 to 4 and ascending lists. A list that ascends has
 /// no repeat.
-pub fn well_formed(rule: &Rule) -> bool {
-    let end = rule.positives as usize + rule.negatives as usize;
-    if rule.state > 2 || end > ENTRIES || rule.entries[end..].iter().any(|&x| x != 0) {
+pub fn well_formed(slot: &Slot) -> bool {
+    let end = slot[POSITIVES] as usize + slot[NEGATIVES] as usize;
+    if slot[STATE] > 2 || end > ENTRIES || entries(slot)[end..].iter().any(|&x| x != 0) {
         return false;
     }
-    if rule.state == 0 {
-        return end == 0 && rule.head == 0;
+    if slot[STATE] == 0 {
+        return end == 0 && slot[HEAD] == 0;
     }
-    (rule.head as usize) < ATOMS
-        && rule.entries[..end].iter().all(|&x| (x as usize) < ATOMS)
-        && ascends(positives(rule))
-        && ascends(negatives(rule))
+    head(slot) < ATOMS
+        && entries(slot)[..end].iter().all(|&x| (x as usize) < ATOMS)
+        && ascends(positives(slot))
+        && ascends(negatives(slot))
 }
 
 /// Entry for entry: rules with ascending lists are the same exactly if they are equal.
-pub fn equal(a: &Rule, b: &Rule) -> bool {
-    a.head == b.head && positives(a) == positives(b) && negatives(a) == negatives(b)
+pub fn equal(a: &Slot, b: &Slot) -> bool {
+    a[HEAD] == b[HEAD] && positives(a) == positives(b) && negatives(a) == negatives(b)
 }
 
 /// A number that equal rules share.
-fn key(rule: &Rule) -> usize {
-    let entries = positives(rule).iter().chain(negatives(rule));
-    let sum = entries.fold(rule.head as usize, |k, &x| (8121 * k + x as usize) % 65536);
+fn key(slot: &Slot) -> usize {
+    let entries = positives(slot).iter().chain(negatives(slot));
+    let sum = entries.fold(head(slot), |k, &x| (8121 * k + x as usize) % 65536);
     8121 * sum % 65536 / 256
 }
 
 /// Only rules of one key are compared: they are linked by the slot before.
-pub fn no_two_equal(rules: &[Rule; SLOTS]) -> bool {
+pub fn no_two_equal(slots: &[Slot; SLOTS]) -> bool {
     let mut last = [0; 256];
     let mut before = [0; SLOTS];
-    for (i, rule) in rules.iter().enumerate().filter(|(_, rule)| rule.state != 0) {
-        let key = key(rule);
+    for (i, slot) in slots
+        .iter()
+        .enumerate()
+        .filter(|(_, slot)| slot[STATE] != 0)
+    {
+        let key = key(slot);
         let start = last[key];
         let mut k = start;
         while k > 0 {
-            if equal(rule, &rules[k - 1]) {
+            if equal(slot, &slots[k - 1]) {
                 return false;
             }
             k = before[k - 1];
@@ -56,44 +62,49 @@ pub fn no_two_equal(rules: &[Rule; SLOTS]) -> bool {
     true
 }
 
-/// The kept labels as a certificate, in one pass over the slots. Muted rules have no part in it.
-fn certified(table: &Table) -> bool {
-    let flags: Flags = std::array::from_fn(|a| table.labels[a].state > 1);
-    let deep: Numbers = std::array::from_fn(|a| if flags[a] { table.labels[a].depth } else { 0 });
-    let slots: Numbers = std::array::from_fn(|a| if flags[a] { table.labels[a].slot } else { 0 });
-    let mut found = [false; ATOMS];
-    for (slot, rule) in table.rules.iter().enumerate() {
-        if rule.state != 1 || !valid(rule, &flags) {
-            continue;
-        }
-        let level = positives(rule)
-            .iter()
-            .map(|&x| number(&deep, x) as usize)
-            .max()
-            .unwrap_or(0)
-            + 1;
-        let depth = number(&deep, rule.head) as usize;
-        let kept = number(&slots, rule.head) as usize;
-        if !has(&flags, rule.head) || depth > level || (depth == level && kept > slot) {
-            return false;
-        }
-        if depth == level && kept == slot {
-            found[rule.head as usize] = true;
+/// The in atoms and their depths, as the slots keep them.
+pub fn kept(slots: &[Slot; SLOTS]) -> (Flags, Numbers) {
+    let mut deep = [0; ATOMS];
+    for slot in slots
+        .iter()
+        .filter(|slot| slot[STATE] != 0 && slot[DEPTH] != 0)
+    {
+        if deep[head(slot)] == 0 {
+            deep[head(slot)] = slot[DEPTH];
         }
     }
-    (0..ATOMS).all(|a| !flags[a] || found[a])
+    (deep.map(|depth| depth != 0), deep)
+}
+
+/// Does the slot keep what is due, by these in atoms and depths; and if it is unmuted and valid, is its head in, and not
+/// deeper than the rule's level?
+fn confirmed(slot: &Slot, flags: &Flags, deep: &Numbers, given: &mut Flags) -> bool {
+    if slot[STATE] != 1 {
+        return slot[DEPTH] == 0 && slot[SPOILER] == 0;
+    }
+    let place = spoiling(slot, flags);
+    if slot[SPOILER] != place {
+        return false;
+    }
+    if place != 0 {
+        return slot[DEPTH] == 0;
+    }
+    let (depth, level) = (deep[head(slot)], level(slot, deep));
+    let gives = depth == level && !given[head(slot)];
+    given[head(slot)] |= gives;
+    slot[DEPTH] == if gives { depth } else { 0 } && flags[head(slot)] && depth <= level
+}
+
+fn certified(slots: &[Slot; SLOTS]) -> bool {
+    let (flags, deep) = kept(slots);
+    let mut given = [false; ATOMS];
+    slots
+        .iter()
+        .all(|slot| confirmed(slot, &flags, &deep, &mut given))
 }
 
 /// Question 15.
 pub fn sound(table: &Table) -> bool {
-    let clean = |l: &Label| l.state == 2 || (l.state < 2 && l.depth == 0 && l.slot == 0);
-    table.rules.iter().all(well_formed)
-        && table.labels.iter().all(clean)
-        && no_two_equal(&table.rules)
-        && certified(table)
-        && occurring(&table.rules)
-            .iter()
-            .zip(&table.labels)
-            .all(|(&o, l)| o == (l.state != 0))
-        && strata(&table.rules).is_some()
+    let slots = slots(table);
+    slots.iter().all(well_formed) && certified(slots) && no_two_equal(slots) && acyclic(slots)
 }

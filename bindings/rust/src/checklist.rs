@@ -235,7 +235,7 @@ impl Checklist {
         files
     }
 
-    /// How many files it has: each has a rule with entries, and no other rule has any.
+    /// How many files it has: the highest atom of its rules is the last file's good.
     ///
     /// ```
     /// # use yeqontur::Checklist;
@@ -245,8 +245,8 @@ impl Checklist {
     /// ```
     #[must_use]
     pub fn files(&self) -> u32 {
-        let rules = self.0.as_raw().rules.iter();
-        rules.filter(|rule| rule.positives != 0).count() as u32
+        let last = self.0.labels().last();
+        last.map_or(0, |(good, _)| good / 3)
     }
 
     /// What the marks of a file say.

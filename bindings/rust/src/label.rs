@@ -1,5 +1,6 @@
 //! Labels, and the walk over them.
 
+use crate::table::answered;
 use crate::{raw, Table};
 use std::fmt;
 
@@ -76,24 +77,8 @@ impl fmt::Display for Label {
     }
 }
 
-/// What a sound table keeps of an atom.
-///
-/// ```
-/// # use yeqontur::{Label, Table};
-/// let mut table = Table::new();
-/// table.add(1, &[], &[])?;
-/// let kept = &table.as_raw().labels[1];
-/// assert_eq!(Label::from(kept), Label::In { depth: 1, slot: 0 });
-/// # Ok::<(), yeqontur::Refusal>(())
-/// ```
-impl From<&raw::Label> for Label {
-    fn from(kept: &raw::Label) -> Label {
-        Label::from_numbers(kept.state.into(), kept.depth.into(), kept.slot.into())
-    }
-}
-
 impl Table {
-    /// The atoms that occur, ascending, each with its label. A sound table keeps every label, so this only reads.
+    /// The atoms that occur, ascending, each with its label. The library is asked once for all of them.
     ///
     /// ```
     /// # use yeqontur::Table;
@@ -104,10 +89,16 @@ impl Table {
     /// assert_eq!(lines, ["2 is in, depth 1, by slot 1", "7 is out", "9 is in, depth 2, by slot 0"]);
     /// # Ok::<(), yeqontur::Refusal>(())
     /// ```
-    pub fn labels(&self) -> impl Iterator<Item = (u32, Label)> + '_ {
-        (0..)
-            .zip(&self.as_raw().labels)
-            .map(|(atom, kept)| (atom, Label::from(kept)))
-            .filter(|(_, label)| *label != Label::Absent)
+    pub fn labels(&self) -> impl Iterator<Item = (u32, Label)> {
+        let mut numbers = vec![0; raw::LABEL_NUMBERS];
+        let told = raw::labels(self.as_raw(), &mut numbers);
+        let count = answered(told.refused, told.count, told.count);
+        numbers.truncate(count.expect("a sound table, and room for any"));
+        let four = |i: usize| {
+            let label = Label::from_numbers(numbers[i + 1], numbers[i + 2], numbers[i + 3]);
+            (numbers[i], label)
+        };
+        let labels: Vec<(u32, Label)> = (0..numbers.len()).step_by(4).map(four).collect();
+        labels.into_iter()
     }
 }

@@ -1,8 +1,8 @@
 //! Sizes and offsets of the boundary's structs, held while the crate is built: they are those that
-//! `include/yeqontur.h` has on x86-64, and no struct of a table has padding.
+//! `include/yeqontur.h` has on x86-64, and a table has no padding.
 
-use crate::raw::{Accepted, Change, Completeness, Label, LabelAnswer};
-use crate::raw::{ListAnswer, Rule, SpoilerAnswer, Table, LAYOUT};
+use crate::raw::{Accepted, Change, Completeness, LabelAnswer};
+use crate::raw::{ListAnswer, RuleAnswer, SpoilerAnswer, Table, LAYOUT};
 use std::mem::{align_of, offset_of, size_of};
 
 /// The struct's fields stand at these offsets, and it has this size and alignment.
@@ -14,14 +14,13 @@ macro_rules! lies {
 }
 
 // The layout of these lines. Whoever changes one of them gives it the next number, in the header and the library too.
-const _: () = assert!(LAYOUT == 1);
+const _: () = assert!(LAYOUT == 2);
 
-lies!(Rule, 22, 2, state 0, head 2, positives 4, negatives 5, entries 6);
-lies!(Label, 6, 2, state 0, depth 2, slot 4);
-lies!(Table, 7168, 2, rules 0, labels 5632);
+lies!(Table, 7168, 2, words 0);
 lies!(Change, 7176, 4, refused 0, slot 4, table 8);
 lies!(Accepted, 7172, 4, refused 0, table 4);
 lies!(LabelAnswer, 16, 4, refused 0, state 4, depth 8, slot 12);
+lies!(RuleAnswer, 52, 4, refused 0, head 4, muted 8, positives 12, negatives 16, entries 20);
 lies!(SpoilerAnswer, 16, 4, refused 0, spoiled 4, atom 8, place 12);
 lies!(Completeness, 8, 4, refused 0, complete 4);
 // Four bytes between the two fields are nobody's; only this answer has such.

@@ -56,7 +56,7 @@ pub const ATOMS: usize = 256;
 /// // The library that is linked is the one that this crate was written for.
 /// assert_eq!(yeqontur::layout(), yeqontur::raw::LAYOUT);
 /// ```
-pub const LAYOUT: u32 = 1;
+pub const LAYOUT: u32 = 2;
 
 /// The most entries of a rule, both lists together.
 ///
@@ -97,77 +97,54 @@ pub const MOST_FILES: usize = 60;
 /// ```
 pub const FILE_BYTES: usize = 6144;
 
-/// A slot: free (state 0), with one rule (1), or with one that is muted (2); positives first among the entries. In a
-/// sound table each list ascends.
+/// The most numbers that [`labels`] writes: four for each atom.
 ///
 /// ```
-/// # use yeqontur::{raw, Table};
-/// let mut table = Table::new();
-/// table.add(5, &[3, 1], &[4])?;
-/// let entries = [1, 3, 4, 0, 0, 0, 0, 0];
-/// let rule = raw::Rule { state: 1, head: 5, positives: 2, negatives: 1, entries };
-/// assert_eq!(table.as_raw().rules[0], rule);
-/// # Ok::<(), yeqontur::Refusal>(())
-/// ```
-#[repr(C)]
-#[derive(Clone, Copy, PartialEq, Eq, Hash, Debug)]
-pub struct Rule {
-    /// 0 of a free slot, 1 of a rule, 2 of a muted one.
-    pub state: u16,
-    /// The atom that the rule gives.
-    pub head: u16,
-    /// How many of the entries are positive.
-    pub positives: u8,
-    /// How many of the entries behind those are negative.
-    pub negatives: u8,
-    /// The positive list, then the negative one, then zeros.
-    pub entries: [u16; ENTRIES],
-}
-
-/// What is kept of an atom: absent (state 0), out (1), or in (2) with depth and supporting slot.
+/// use yeqontur::{raw, Table};
 ///
-/// ```
-/// # use yeqontur::{raw, Table};
 /// let mut table = Table::new();
-/// table.add(1, &[], &[2])?; // 1 if not 2
-/// let labels = &table.as_raw().labels;
-/// assert_eq!(labels[1], raw::Label { state: 2, depth: 1, slot: 0 });
-/// assert_eq!(labels[2], raw::Label { state: 1, depth: 0, slot: 0 });
-/// assert_eq!(labels[3], raw::Label { state: 0, depth: 0, slot: 0 });
+/// for atom in 0..256 {
+///     table.add(atom, &[], &[])?;
+/// }
+/// let mut numbers = [0; raw::LABEL_NUMBERS];
+/// assert_eq!(raw::labels(table.as_raw(), &mut numbers).count, raw::LABEL_NUMBERS);
 /// # Ok::<(), yeqontur::Refusal>(())
 /// ```
-#[repr(C)]
-#[derive(Clone, Copy, PartialEq, Eq, Hash, Debug)]
-pub struct Label {
-    /// 0 of an absent atom, 1 of one that is out, 2 of one that is in.
-    pub state: u16,
-    /// Of an in atom its least depth.
-    pub depth: u16,
-    /// Of an in atom the supporting slot.
-    pub slot: u16,
-}
+pub const LABEL_NUMBERS: usize = 4 * ATOMS;
 
-/// Any bytes are a table; question 15 (specification 3.4) says whether it is sound. There is no padding, so two sound
-/// tables with the same rules in the same slots, the same of them muted, have the same bytes, and those of the empty
-/// table are all 0.
+/// Any numbers are a table; question 15 (specification 3.4) says whether it is sound. Two sound tables with the same
+/// rules in the same slots, the same of them muted, have the same numbers, and those of the empty table are all 0.
+///
+/// What they say is told by the calls: rules by [`rule`], labels by [`label`] and [`labels`]. A program that reads the
+/// numbers itself reads another layout wrong.
 ///
 /// ```
 /// # use yeqontur::raw;
 /// let mut table = raw::add(&raw::empty(), 1, &[], &[]).table;
 /// assert_eq!(raw::label(&table, 1).refused, 0);
-/// table.labels[1].slot = 3;
+/// table.words[0] = 3; // no slot has this state
 /// assert_eq!(raw::label(&table, 1).refused, 15);
 /// ```
 #[repr(C)]
 #[derive(Clone, Copy, PartialEq, Eq, Hash, Debug)]
 pub struct Table {
-    /// The slots, by number.
-    pub rules: [Rule; SLOTS],
-    /// What is kept of each atom, by number.
-    pub labels: [Label; ATOMS],
+    /// Fourteen numbers for each slot, in their order: state (0 free, 1 with a rule, 2 with a muted one), head, how
+    /// many positive entries, how many negative ones, eight entries (the positive list, then the negative one, then
+    /// zeros), the depth of the head if this slot supports it, and the place of the entry that spoils the rule, from 1
+    /// over both lists. What there is nothing of is 0.
+    pub words: [u16; Table::WORDS],
 }
 
 impl Table {
+    /// How many numbers a table has.
+    ///
+    /// ```
+    /// # use yeqontur::raw;
+    /// let table = raw::Table { words: [0; raw::Table::WORDS] };
+    /// assert_eq!(table, raw::empty());
+    /// ```
+    pub const WORDS: usize = 14 * SLOTS;
+
     /// How many bytes a table has.
     ///
     /// ```
@@ -189,7 +166,7 @@ impl Table {
     /// ```
     #[must_use]
     pub fn as_bytes(&self) -> &[u8; Table::BYTES] {
-        // SAFETY: a table has so many bytes, and each belongs to a field (layout.rs).
+        // SAFETY: a table has so many bytes, and each belongs to a number (layout.rs).
         unsafe { &*(self as *const Table).cast() }
     }
 
@@ -207,7 +184,7 @@ impl Table {
     /// ```
     #[must_use]
     pub fn from_bytes(bytes: &[u8; Table::BYTES]) -> Table {
-        // SAFETY: every field is a number, which any bytes are.
+        // SAFETY: a table is numbers, which any bytes are.
         unsafe { std::mem::transmute(*bytes) }
     }
 }
@@ -256,6 +233,33 @@ pub struct LabelAnswer {
     pub slot: u32,
 }
 
+/// The rule in a slot.
+///
+/// ```
+/// # use yeqontur::raw;
+/// let table = raw::add(&raw::empty(), 5, &[3, 1], &[4]).table; // 5 if 3 and 1, and not 4
+/// let entries = [1, 3, 4, 0, 0, 0, 0, 0];
+/// let told = raw::RuleAnswer { refused: 0, head: 5, muted: 0, positives: 2, negatives: 1, entries };
+/// assert_eq!(raw::rule(&table, 0), told);
+/// ```
+#[must_use = "the answer says whether the call was refused"]
+#[repr(C)]
+#[derive(Clone, Copy, PartialEq, Eq, Hash, Debug)]
+pub struct RuleAnswer {
+    /// 0, or the number of the refusal. Where refused, every other number is 0.
+    pub refused: u32,
+    /// The atom that the rule gives.
+    pub head: u32,
+    /// 1 if the rule is muted, otherwise 0.
+    pub muted: u32,
+    /// How many of the entries are positive.
+    pub positives: u32,
+    /// How many of the entries behind those are negative.
+    pub negatives: u32,
+    /// The positive list, then the negative one, each ascending, then zeros.
+    pub entries: [u32; ENTRIES],
+}
+
 /// Whether a rule is valid, or what spoils it.
 ///
 /// ```
@@ -302,7 +306,7 @@ pub struct ListAnswer {
 /// # use yeqontur::raw;
 /// let table = raw::add(&raw::empty(), 1, &[], &[]).table;
 /// let muted = raw::mute(&table, 0, 1);
-/// assert_eq!((muted.refused, muted.table.rules[0].state), (0, 2));
+/// assert_eq!((muted.refused, raw::rule(&muted.table, 0).muted), (0, 1));
 /// assert_eq!(raw::mute(&table, 1, 1), raw::Accepted { refused: 9, table });
 /// ```
 #[must_use = "the table is in the answer: one that was lent is as it was"]
@@ -358,6 +362,8 @@ extern "C" {
     ) -> Accepted;
     fn yeqontur_mute(table: Table, slot: u32, muted: u32) -> Accepted;
     fn yeqontur_label(table: Table, atom: u32) -> LabelAnswer;
+    fn yeqontur_labels(table: Table, buffer: *mut u32, length: usize) -> ListAnswer;
+    fn yeqontur_rule(table: Table, slot: u32) -> RuleAnswer;
     fn yeqontur_spoiler(table: Table, slot: u32) -> SpoilerAnswer;
     fn yeqontur_justifications(
         table: Table,
@@ -404,7 +410,7 @@ pub fn version() -> u32 {
 /// The layout of the tables and answers of the library that is linked ([`LAYOUT`]).
 ///
 /// ```
-/// assert_eq!(yeqontur::layout(), 1);
+/// assert_eq!(yeqontur::layout(), 2);
 /// ```
 #[must_use]
 pub fn layout() -> u32 {
@@ -431,7 +437,7 @@ pub fn empty() -> Table {
 /// # use yeqontur::raw;
 /// let added = raw::add(&raw::empty(), 1, &[2], &[3]); // 1 if 2, and not 3
 /// assert_eq!((added.refused, added.slot), (0, 0));
-/// assert_eq!(added.table.rules[0].head, 1);
+/// assert_eq!(raw::rule(&added.table, 0).head, 1);
 /// assert_eq!(raw::add(&added.table, 256, &[], &[]).refused, 1);
 /// ```
 #[inline(never)]
@@ -469,7 +475,7 @@ pub fn remove(table: &Table, slot: u32) -> Change {
 /// # use yeqontur::raw;
 /// let table = raw::add(&raw::empty(), 1, &[], &[]).table;
 /// let replaced = raw::replace(&table, 0, 2, &[], &[]);
-/// assert_eq!((replaced.refused, replaced.table.rules[0].head), (0, 2));
+/// assert_eq!((replaced.refused, raw::rule(&replaced.table, 0).head), (0, 2));
 /// let refused = raw::replace(&table, 0, 2, &[], &[2]); // 2 if not 2
 /// assert_eq!((refused.refused, refused.table), (7, table));
 /// ```
@@ -522,6 +528,38 @@ pub fn mute(table: &Table, slot: u32, muted: u32) -> Accepted {
 pub fn label(table: &Table, atom: u32) -> LabelAnswer {
     // SAFETY: numbers by value.
     unsafe { yeqontur_label(*table, atom) }
+}
+
+/// `yeqontur_labels`: writes of each atom that occurs, ascending, four numbers from the start of the buffer: the atom, 1
+/// if it is out or 2 if it is in, and of an in atom its depth and its supporting slot, otherwise 0 and 0. Asks 15, 11.
+///
+/// ```
+/// # use yeqontur::raw;
+/// let table = raw::add(&raw::empty(), 7, &[], &[2]).table; // 7 if not 2
+/// let mut numbers = [9; raw::LABEL_NUMBERS];
+/// let told = raw::labels(&table, &mut numbers);
+/// assert_eq!((told.refused, told.count), (0, 8));
+/// assert_eq!(numbers[..9], [2, 1, 0, 0, 7, 2, 1, 0, 9]);
+/// ```
+#[inline(never)]
+pub fn labels(table: &Table, buffer: &mut [u32]) -> ListAnswer {
+    // SAFETY: the buffer has as many entries as the length says, and is lent to this call alone.
+    unsafe { yeqontur_labels(*table, buffer.as_mut_ptr(), buffer.len()) }
+}
+
+/// `yeqontur_rule`: the rule in a slot. Asks 15, 8, 9.
+///
+/// ```
+/// # use yeqontur::raw;
+/// let table = raw::add(&raw::empty(), 1, &[2], &[]).table; // 1 if 2
+/// let rule = raw::rule(&table, 0);
+/// assert_eq!((rule.head, rule.positives, rule.entries[0]), (1, 1, 2));
+/// assert_eq!(raw::rule(&table, 1).refused, 9);
+/// ```
+#[inline(never)]
+pub fn rule(table: &Table, slot: u32) -> RuleAnswer {
+    // SAFETY: numbers by value.
+    unsafe { yeqontur_rule(*table, slot) }
 }
 
 /// `yeqontur_spoiler`: whether the rule in a slot is valid, or the first entry that spoils it. Asks 15, 8, 9.
@@ -631,7 +669,7 @@ pub fn load(bytes: &[u8]) -> Accepted {
 /// # use yeqontur::raw;
 /// let opened = raw::checklist_open(2);
 /// assert_eq!(opened.refused, 0);
-/// assert_eq!(opened.table.rules[2].head, 6);
+/// assert_eq!(raw::rule(&opened.table, 2).head, 6);
 /// assert_eq!(raw::checklist_open(0).refused, 21);
 /// ```
 #[inline(never)]

@@ -1,5 +1,6 @@
 //! Rules as a program reads them, and the walk over them.
 
+use crate::table::answered;
 use crate::{raw, Refusal, Table};
 use std::fmt;
 
@@ -165,16 +166,15 @@ impl Rule {
         }
     }
 
-    /// The rule of a slot that holds one, in a sound table.
-    fn read(slot: u32, rule: &raw::Rule) -> Rule {
-        let (positives, rest) = rule.entries.split_at(rule.positives.into());
-        let numbers = |list: &[u16]| list.iter().map(|&atom| atom.into()).collect();
+    /// What the numbers of the boundary stand for.
+    fn from_numbers(slot: u32, told: &raw::RuleAnswer) -> Rule {
+        let (positives, rest) = told.entries.split_at(told.positives as usize);
         Rule {
             slot,
-            head: rule.head.into(),
-            positives: numbers(positives),
-            negatives: numbers(&rest[..rule.negatives.into()]),
-            muted: rule.state == 2,
+            head: told.head,
+            positives: positives.to_vec(),
+            negatives: rest[..told.negatives as usize].to_vec(),
+            muted: told.muted != 0,
         }
     }
 }
@@ -200,7 +200,7 @@ impl fmt::Display for Rule {
 }
 
 impl Table {
-    /// The rules that the table holds, muted or not, by slot.
+    /// The rules that the table holds, muted or not, by slot. The library is asked of each slot.
     ///
     /// ```
     /// # use yeqontur::Table;
@@ -214,10 +214,7 @@ impl Table {
     /// # Ok::<(), yeqontur::Refusal>(())
     /// ```
     pub fn rules(&self) -> impl Iterator<Item = Rule> + '_ {
-        (0..)
-            .zip(&self.as_raw().rules)
-            .filter(|(_, rule)| rule.state != 0)
-            .map(|(slot, rule)| Rule::read(slot, rule))
+        (0..raw::SLOTS as u32).filter_map(|slot| self.rule(slot).ok())
     }
 
     /// The rule in a slot.
@@ -238,7 +235,8 @@ impl Table {
     // Not inlined, nor is what tells of an out atom (why.rs): a tree goes down 256 levels, and each has a frame.
     #[inline(never)]
     pub fn rule(&self, slot: u32) -> Result<Rule, Refusal> {
-        self.spoiler(slot)?; // asks whether the slot holds a rule
-        Ok(Rule::read(slot, &self.as_raw().rules[slot as usize]))
+        let told = raw::rule(self.as_raw(), slot);
+        answered(told.refused, 0, ())?;
+        Ok(Rule::from_numbers(slot, &told))
     }
 }

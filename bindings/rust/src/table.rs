@@ -4,7 +4,7 @@ use crate::raw::{self, List};
 use crate::{Label, Refusal, Validity};
 
 /// A table of rules with the labels of their atoms. It is always sound: it starts empty or as it was saved, calls keep
-/// it sound, and raw fields become one only if they are sound. It is a few kilobytes, so a copy is asked for by name.
+/// it sound, and raw numbers become one only if they are sound. It is a few kilobytes, so a copy is asked for by name.
 ///
 /// Two tables are equal if they have the same rules in the same slots, and the same of them muted.
 ///
@@ -45,7 +45,7 @@ impl Default for Table {
     }
 }
 
-/// Any raw fields, for instance ones that were stored: refused (15) unless they are sound.
+/// Any raw numbers, for instance ones that were stored: refused (15) unless they are sound.
 ///
 /// ```
 /// # use yeqontur::{Refusal, Table};
@@ -53,7 +53,7 @@ impl Default for Table {
 /// table.add(1, &[], &[])?;
 /// let mut fields = *table.as_raw();
 /// assert_eq!(Table::try_from(fields), Ok(table));
-/// fields.labels[1].depth = 2; // a fact has depth 1
+/// fields.words[0] = 3; // no slot has this state
 /// assert_eq!(Table::try_from(fields), Err(Refusal::TableUnsound));
 /// # Ok::<(), yeqontur::Refusal>(())
 /// ```
@@ -79,14 +79,14 @@ impl Table {
         Table(raw::empty())
     }
 
-    /// The fields, as the library has them.
+    /// The numbers, as the library has them.
     ///
     /// ```
     /// # use yeqontur::{raw, Table};
     /// let mut table = Table::new();
     /// assert_eq!(table.as_raw(), &raw::empty());
     /// table.add(5, &[], &[])?;
-    /// assert_eq!(table.as_raw().rules[0].head, 5);
+    /// assert_eq!(raw::rule(table.as_raw(), 0).head, 5);
     /// # Ok::<(), yeqontur::Refusal>(())
     /// ```
     #[must_use]

@@ -151,6 +151,7 @@ enum Told {
 
 struct Teller<'a> {
     table: &'a Table,
+    labels: [Label; raw::ATOMS],
     told: [Told; raw::ATOMS],
 }
 
@@ -185,14 +186,24 @@ impl Table {
     ///
     /// [`Refusal::AtomTooLarge`] (10).
     pub fn why(&self, atom: u32) -> Result<Why, Refusal> {
+        self.label(atom)?; // asks whether it is an atom
+        let mut labels = [Label::Absent; raw::ATOMS];
+        for (atom, label) in self.labels() {
+            labels[atom as usize] = label;
+        }
         let told = [Told::No; raw::ATOMS];
-        Teller { table: self, told }.why(atom)
+        let mut teller = Teller {
+            table: self,
+            labels,
+            told,
+        };
+        teller.why(atom)
     }
 }
 
 impl Teller<'_> {
     fn why(&mut self, atom: u32) -> Result<Why, Refusal> {
-        let label = self.table.label(atom)?;
+        let label = self.labels[atom as usize];
         let because = match self.told[atom as usize] {
             Told::No => self.because(atom, label)?,
             Told::Begun => Because::Above,

@@ -3,7 +3,7 @@
 
 mod common;
 
-use common::Random;
+use common::{word, Place, Random};
 use std::collections::BTreeSet;
 use yeqontur::raw::{self, Accepted};
 use yeqontur::{Atoms, Because, Checklist, FileState, Refusal, Side, Stop, Table, Why};
@@ -321,8 +321,8 @@ fn refused_alike(fields: &raw::Table, file: u32) -> bool {
     true
 }
 
-/// A rule of the frame or a mark, valid or spoiled. Where it is spoiled, muting changes no label, and so can be done by
-/// hand.
+/// A rule of the frame or a mark, valid or spoiled. Where it is spoiled, muting changes no other slot, and so can be done
+/// by hand.
 #[test]
 fn a_muted_rule_makes_it_no_checklist_until_it_is_unmuted() {
     let whole = marked(3, &[1, 3], &[2]);
@@ -337,7 +337,8 @@ fn a_muted_rule_makes_it_no_checklist_until_it_is_unmuted() {
         assert_eq!(Checklist::try_from(table), Ok(whole.clone()));
     }
     let mut by_hand = *whole.table().as_raw();
-    by_hand.rules[3].state = 2;
+    *word(&mut by_hand, 3, Place::State) = 2;
+    *word(&mut by_hand, 3, Place::Spoiler) = 0;
     assert!(Table::try_from(by_hand).is_ok());
     assert!(refused_alike(&by_hand, 1));
 }

@@ -34,11 +34,10 @@ fn types_have_the_usual_traits() {
     is_plain::<Atoms>();
     is_plain::<List>();
     is_plain::<raw::Table>();
-    is_plain::<raw::Rule>();
-    is_plain::<raw::Label>();
     is_plain::<raw::Change>();
     is_plain::<raw::Accepted>();
     is_plain::<raw::LabelAnswer>();
+    is_plain::<raw::RuleAnswer>();
     is_plain::<raw::SpoilerAnswer>();
     is_plain::<raw::ListAnswer>();
     is_plain::<raw::Completeness>();

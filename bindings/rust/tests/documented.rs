@@ -210,7 +210,6 @@ fn each_call_that_can_be_refused_says_so() {
             "state" | "atoms" => vec![20],
             "mute" | "unmute" => met("mute, unmute"),
             "why" => met("label"),
-            "rule" => met("spoiler"),
             "justifications" | "consequences" | "repercussions" => {
                 met("justifications, consequences, repercussions")
             }
@@ -230,7 +229,7 @@ fn no_answer_is_dropped_without_a_warning() {
     let name = |item: &Item| item.name.rsplit(' ').next().unwrap_or_default().to_string();
     let types = all.iter().filter(|item| item.kind == Kind::Type);
     let types: BTreeSet<String> = types.filter(warns).map(name).collect();
-    assert_eq!(types.len(), 6, "the answers in raw: {types:?}");
+    assert_eq!(types.len(), 7, "the answers in raw: {types:?}");
     for item in all.iter().filter(|item| item.kind == Kind::Function) {
         let (_, answer) = item.head.split_once("-> ").expect("an answer");
         let answer = answer.trim();

@@ -3,7 +3,7 @@
 
 mod common;
 
-use common::{table, Random};
+use common::{table, word, Place, Random};
 use yeqontur::raw::{self, SpoilerAnswer};
 use yeqontur::{Label, Refusal, Rule, Side, Table, Validity};
 
@@ -109,11 +109,11 @@ fn every_number_but_0_mutes() {
 fn questions_in_their_order() {
     let t = with_muted(&table(&[(1, &[], &[]), (2, &[3, 1], &[])]), &[1]);
     let mut label = *t.as_raw();
-    label.labels[1].depth = 2;
+    *word(&mut label, 0, Place::Depth) = 2;
     let mut state = *t.as_raw();
-    state.rules[1].state = 3;
+    *word(&mut state, 1, Place::State) = 3;
     let mut unmuted = *t.as_raw();
-    unmuted.rules[0].state = 2; // by hand, without its labels
+    *word(&mut unmuted, 0, Place::State) = 2; // by hand, and its depth is still there
     for (fields, slot, number) in [
         (label, 0, 15),
         (label, 256, 15),
@@ -174,10 +174,9 @@ fn the_same_rule_is_refused_in_any_order() {
     assert_eq!(t.replace(1, 5, &[1, 2], &[]), Err(Refusal::SameRule));
     assert_eq!(t, before);
     let mut twice = *t.as_raw();
-    twice.rules[1] = raw::Rule {
-        state: 1,
-        ..twice.rules[0]
-    };
+    twice.words.copy_within(..14, 14);
+    *word(&mut twice, 1, Place::State) = 1;
+    *word(&mut twice, 1, Place::Spoiler) = 1;
     assert_eq!(Table::try_from(twice), Err(Refusal::TableUnsound));
 }
 
@@ -193,12 +192,8 @@ fn loops_count_muted_rules() {
     assert_eq!(t.mute(0), Ok(()));
     assert_eq!(t.add(1, &[], &[2]), Err(Refusal::NegativeCycle));
     let mut by_hand = raw::empty();
-    by_hand.rules[0] = raw::Rule {
-        state: 2,
-        negatives: 1,
-        ..by_hand.rules[0]
-    }; // 0 < not 0
-    by_hand.labels[0].state = 1;
+    *word(&mut by_hand, 0, Place::State) = 2;
+    *word(&mut by_hand, 0, Place::Negatives) = 1; // 0 < not 0
     assert_eq!(Table::try_from(by_hand), Err(Refusal::TableUnsound));
 }
 

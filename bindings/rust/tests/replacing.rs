@@ -3,7 +3,7 @@
 
 mod common;
 
-use common::{table, Random};
+use common::{swap_entries, table, word, Place, Random};
 use yeqontur::{raw, Label, Refusal, Table};
 
 /// Replacing is refused so, and leaves the rules and labels as they were.
@@ -122,9 +122,9 @@ fn a_loop_that_only_the_old_rule_would_close_is_none() {
 fn a_damaged_table_is_handed_back() {
     let t = table(&[(1, &[], &[]), (2, &[3, 1], &[])]);
     let mut label = *t.as_raw();
-    label.labels[1].depth = 2;
+    *word(&mut label, 0, Place::Depth) = 2;
     let mut order = *t.as_raw();
-    order.rules[1].entries.swap(0, 1);
+    swap_entries(&mut order, 1, 0, 1);
     for fields in [label, order, raw::Table::from_bytes(&[0xa5; 7168])] {
         for (slot, head) in [(0, 1), (0, 256), (2, 1), (256, 256)] {
             let told = raw::replace(&fields, slot, head, &[], &[]);

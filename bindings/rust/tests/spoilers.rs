@@ -2,7 +2,7 @@
 
 mod common;
 
-use common::{table, Random};
+use common::{table, word, Place, Random};
 use yeqontur::raw::{self, SpoilerAnswer};
 use yeqontur::{Refusal, Rule, Side, Table, Validity};
 
@@ -116,6 +116,6 @@ fn with_a_valid_rule_or_a_refusal_every_other_number_is_0() {
     assert_eq!(raw::spoiler(t.as_raw(), 256), zeros(8));
     assert_eq!(raw::spoiler(t.as_raw(), 2), zeros(9));
     let mut unsound = *t.as_raw();
-    unsound.labels[1].depth = 2;
+    *word(&mut unsound, 0, Place::Depth) = 2;
     assert_eq!(raw::spoiler(&unsound, 1), zeros(15));
 }

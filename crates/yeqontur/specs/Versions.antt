@@ -9,4 +9,4 @@ version = 200
 -- The layout of tables and answers. Whoever changes the size or the place of a field, or what a call takes, gives it the
 -- next number.
 abbrev pub layout : ℕ
-layout = 1
+layout = 2

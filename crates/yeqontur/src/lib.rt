@@ -23,6 +23,7 @@ use checklist_marks::skip_withdrawn;
 use checklist_open::open;
 use file_calls::load;
 use file_calls::save;
+use label_list::labels;
 use muting::mute;
 use queries::consequences;
 use queries::justifications;
@@ -39,6 +40,7 @@ ghost use Rattle.table.specs.Clean.{emptyTable};
 ghost use Rattle.table.specs.Questions.{ruleFrom};
 ghost use Rattle.calls.specs.Contracts.{JustificationsEnd, ConsequencesEnd, RepercussionsEnd, ReasonEnds};
 ghost use Rattle.calls.specs.Contracts.{ReplaceEnds, MuteEnds, SaveEnds, LoadEnds};
+ghost use Rattle.label_list.specs.Listed.{LabelsEnd};
 ghost use Rattle.checklist_meaning.specs.Questions.{file-sent, file-skipped, skip-withdrawn};
 ghost use Rattle.checklist_meaning.specs.Contracts.{OpenEnds, FileEnds, MissingEnds};
 ghost use Rattle.yeqontur.specs.Crossing.{AddCrosses, RemoveCrosses, LabelCrosses, SpoilerCrosses, ListCrosses};
@@ -47,7 +49,7 @@ ghost use Rattle.yeqontur.specs.Versions.{version, layout};
 
 const VERSION: u32 = 200;
 
-const LAYOUT: u32 = 1;
+const LAYOUT: u32 = 2;
 
 // The version of the library that the program runs with.
 #[no_mangle]
@@ -130,15 +132,23 @@ pub extern "C" fn yeqontur_mute(table: Table, slot: u32, muted: u32) -> Accepted
 pub extern "C" fn yeqontur_label(table: Table, atom: u32) -> AtomLabel
     ensures { λ r. ⌜ LabelCrosses table atom r ⌝ }
 {
-    let answer = label(table, atom);
+    let answer = label(&table.words, atom);
     crossed_label(answer)
+}
+
+#[no_mangle]
+pub extern "C" fn yeqontur_labels(table: Table, buffer: &mut [u32]) -> Written
+    ensures { λ r. ⌜ ListCrosses (LabelsEnd table (now (buffer .entry))) (now (buffer .exit)) r ⌝ }
+{
+    let answer = labels(&table.words, buffer);
+    crossed_list(answer)
 }
 
 #[no_mangle]
 pub extern "C" fn yeqontur_spoiler(table: Table, slot: u32) -> RuleSpoiler
     ensures { λ r. ⌜ SpoilerCrosses table slot r ⌝ }
 {
-    let answer = spoiler(table, slot);
+    let answer = spoiler(&table.words, slot);
     crossed_spoiler(answer)
 }
 
@@ -146,7 +156,7 @@ pub extern "C" fn yeqontur_spoiler(table: Table, slot: u32) -> RuleSpoiler
 pub extern "C" fn yeqontur_justifications(table: Table, atom: u32, buffer: &mut [u32]) -> Written
     ensures { λ r. ⌜ ListCrosses (JustificationsEnd table atom (now (buffer .entry))) (now (buffer .exit)) r ⌝ }
 {
-    let answer = justifications(table, atom, buffer);
+    let answer = justifications(&table.words, atom, buffer);
     crossed_list(answer)
 }
 
@@ -154,7 +164,7 @@ pub extern "C" fn yeqontur_justifications(table: Table, atom: u32, buffer: &mut 
 pub extern "C" fn yeqontur_consequences(table: Table, atom: u32, buffer: &mut [u32]) -> Written
     ensures { λ r. ⌜ ListCrosses (ConsequencesEnd table atom (now (buffer .entry))) (now (buffer .exit)) r ⌝ }
 {
-    let answer = consequences(table, atom, buffer);
+    let answer = consequences(&table.words, atom, buffer);
     crossed_list(answer)
 }
 
@@ -162,7 +172,7 @@ pub extern "C" fn yeqontur_consequences(table: Table, atom: u32, buffer: &mut [u
 pub extern "C" fn yeqontur_repercussions(table: Table, atom: u32, buffer: &mut [u32]) -> Written
     ensures { λ r. ⌜ ListCrosses (RepercussionsEnd table atom (now (buffer .entry))) (now (buffer .exit)) r ⌝ }
 {
-    let answer = repercussions(table, atom, buffer);
+    let answer = repercussions(&table.words, atom, buffer);
     crossed_list(answer)
 }
 
@@ -170,7 +180,7 @@ pub extern "C" fn yeqontur_repercussions(table: Table, atom: u32, buffer: &mut [
 pub extern "C" fn yeqontur_reason(table: Table, atom: u32, buffer: &mut [u32]) -> Written
     ensures { λ r. ⌜ ListCrosses (ReasonEnds table atom (now (buffer .entry))) (now (buffer .exit)) r ⌝ }
 {
-    let answer = reason(table, atom, buffer);
+    let answer = reason(&table.words, atom, buffer);
     crossed_list(answer)
 }
 
@@ -178,7 +188,7 @@ pub extern "C" fn yeqontur_reason(table: Table, atom: u32, buffer: &mut [u32]) -
 pub extern "C" fn yeqontur_save(table: Table, bytes: &mut [u8]) -> Written
     ensures { λ r. ⌜ ListCrosses (SaveEnds table (now (bytes .entry))) (now (bytes .exit)) r ⌝ }
 {
-    let answer = save(table, bytes);
+    let answer = save(&table.words, bytes);
     crossed_list(answer)
 }
 
@@ -236,7 +246,7 @@ pub extern "C" fn yeqontur_checklist_withdraw(table: Table, file: u32) -> Accept
 pub extern "C" fn yeqontur_checklist_missing(table: Table, buffer: &mut [u32]) -> Written
     ensures { λ r. ⌜ ListCrosses (MissingEnds table (now (buffer .entry))) (now (buffer .exit)) r ⌝ }
 {
-    let answer = missing(table, buffer);
+    let answer = missing(&table.words, buffer);
     crossed_list(answer)
 }
 
@@ -244,6 +254,6 @@ pub extern "C" fn yeqontur_checklist_missing(table: Table, buffer: &mut [u32]) -
 pub extern "C" fn yeqontur_checklist_complete(table: Table) -> Completeness
     ensures { λ r. ⌜ CompleteCrosses table r ⌝ }
 {
-    let answer = complete(table);
+    let answer = complete(&table.words);
     crossed_complete(answer)
 }

@@ -181,12 +181,16 @@ impl Calls {
 
     fn drawn(&mut self, random: &mut Random) -> Call {
         let atom = self.atom(random);
-        match random.below(29) {
+        match random.below(31) {
             0..=9 => self.addition(random),
             10..=12 => self.removal(random),
             21..=24 => self.replacement(random),
             25..=28 => self.muting(random),
             13 => Call::Label { atom },
+            29 => Call::Labels,
+            30 => Call::Rule {
+                slot: self.slot(random),
+            },
             14 => Call::Spoiler {
                 slot: self.slot(random),
             },

@@ -325,11 +325,12 @@ impl Checklists {
     /// A question about an atom or a slot of the list.
     fn question(&self, random: &mut Random) -> Call {
         let atom = random.below(3 * self.files as usize + 4) as u32;
-        match random.below(7) {
+        let slot = random.below(2 * self.files as usize + 3) as u32;
+        match random.below(9) {
             0 => Call::Label { atom },
-            1 => Call::Spoiler {
-                slot: random.below(2 * self.files as usize + 3) as u32,
-            },
+            1 => Call::Spoiler { slot },
+            6 => Call::Labels,
+            7 => Call::Rule { slot },
             2 => Call::Justifications { atom },
             3 => Call::Consequences { atom },
             4 => Call::Repercussions { atom },

@@ -4,7 +4,7 @@ use crate::limits::{ATOMS, ENTRIES, SLOTS};
 use crate::random::Random;
 use crate::table::RawTable;
 
-/// A field of a rule or of a label.
+/// A field of a slot.
 #[derive(Clone, Copy, PartialEq, Eq, Debug)]
 pub enum Field {
     RuleState,
@@ -12,38 +12,34 @@ pub enum Field {
     Positives,
     Negatives,
     Entry,
-    LabelState,
     Depth,
-    SupportingSlot,
+    Spoiler,
 }
 
-pub const FIELDS: [Field; 8] = [
+pub const FIELDS: [Field; 7] = [
     Field::RuleState,
     Field::Head,
     Field::Positives,
     Field::Negatives,
     Field::Entry,
-    Field::LabelState,
     Field::Depth,
-    Field::SupportingSlot,
+    Field::Spoiler,
 ];
 
-/// The table with one field of that kind changed, in a random slot or for a random atom.
+/// The table with one field of that kind changed, in a random slot.
 pub fn damaged(random: &mut Random, table: &RawTable, field: Field) -> RawTable {
     let mut table = table.clone();
     let slot = random.below(SLOTS);
-    let atom = random.below(ATOMS);
     let place = random.below(ENTRIES);
-    let (rule, label) = (&mut table.rules[slot], &mut table.labels[atom]);
+    let (rule, kept) = (&mut table.rules[slot], &mut table.kept[slot]);
     match field {
         Field::RuleState => rule.state = other_state(random, rule.state),
         Field::Head => rule.head = other(random, rule.head),
-        Field::Positives => rule.positives = other_small(random, rule.positives),
-        Field::Negatives => rule.negatives = other_small(random, rule.negatives),
+        Field::Positives => rule.positives = other_count(random, rule.positives),
+        Field::Negatives => rule.negatives = other_count(random, rule.negatives),
         Field::Entry => rule.entries[place] = other(random, rule.entries[place]),
-        Field::LabelState => label.state = other(random, label.state),
-        Field::Depth => label.depth = other(random, label.depth),
-        Field::SupportingSlot => label.slot = other(random, label.slot),
+        Field::Depth => kept.depth = other(random, kept.depth),
+        Field::Spoiler => kept.spoiler = other(random, kept.spoiler),
     }
     table
 }
@@ -77,13 +73,14 @@ fn other(random: &mut Random, stood: u16) -> u16 {
     }
 }
 
-/// As `other`, for a field of one byte.
-fn other_small(random: &mut Random, stood: u8) -> u8 {
-    let number = match random.below(4) {
+/// As `other`, for a count; among them some that end in the byte of a fitting one.
+fn other_count(random: &mut Random, stood: u16) -> u16 {
+    let number = match random.below(5) {
         0 => stood.wrapping_add(1),
         1 => stood.wrapping_sub(1),
-        2 => *random.pick(&[0, 1, 2, 3, 8, 9, 128, 255]),
-        _ => random.word() as u8,
+        2 => *random.pick(&[0, 1, 2, 3, 8, 9, 128, 255, 256, 65_535]),
+        3 => stood.wrapping_add(256),
+        _ => random.word() as u16,
     };
     if number == stood {
         stood.wrapping_add(1)

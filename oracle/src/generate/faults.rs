@@ -4,13 +4,13 @@
 use crate::generate::marks::{any_marked, some_marked};
 use crate::generate::programs::{program, FLAVOURS};
 use crate::generate::{mark_faults, table_of};
-use crate::labels::Labelled;
+use crate::labels::{Label, Labelled};
 use crate::limits::ENTRIES;
 use crate::loops::has_loop_through_negation;
 use crate::random::Random;
 use crate::relations::spoiler;
 use crate::rules::{held, Page, Rule};
-use crate::table::{RawRule, RawTable};
+use crate::table::{Kept, RawRule, RawTable};
 
 #[derive(Clone, Copy, PartialEq, Eq, Debug)]
 pub enum Fault {
@@ -23,60 +23,54 @@ pub enum Fault {
     /// A rule stands in two slots, in one of them with two entries swapped.
     SameSwapped,
     /// The end of the positive list is moved, so that an entry stands in the other list. Where
-    /// both lists ascend still, the table is sound: its labels are those of the rule that it has.
+    /// both lists ascend still, the table is sound: it keeps what the rule that it has gives.
     MovedEnd,
     /// A rule closes a loop through a negation, yet there is one admissible model.
     Loop,
-    /// A rule is gone and the labels are those from before.
-    StaleLabels,
-    /// A rule that no entry spoils is kept as supporting, but it isn't the supporting one. It may
-    /// be muted.
+    /// A rule is gone and the other slots keep what they kept before.
+    Stale,
+    /// A rule that no entry spoils keeps the depth of its head, but it isn't the supporting one. It
+    /// may be muted.
     OtherSupport,
     /// A rule stands in two slots, and is muted in one of them or in both.
     SameMuted,
     /// A muted rule closes a loop through a negation.
     MutedLoop,
-    /// A rule is muted and the labels are those from before.
+    /// A rule is muted and every slot keeps what it kept before.
     MutedStale,
-    /// A rule is unmuted and the labels are those from before.
+    /// A rule is unmuted and every slot keeps what it kept before.
     UnmutedStale,
-    /// The labels are those that all rules would give if none were muted.
+    /// Slots keep what they would if none were muted; those of muted rules too, half of the time.
     MutedCounted,
-    /// The labels are those that the unmuted rules would give if the others were not held.
-    MutedAbsent,
     /// A held rule has a state that there is none of.
     OtherState,
-    /// A free slot has the state of a muted rule. Where its numbers make one that fits, the table
-    /// is sound.
-    MutedFree,
+    /// A free slot has the state of a rule, muted or not. Muted it is a fact, and where no other slot
+    /// holds that, the table is sound.
+    HeldFree,
 }
 
-pub const FAULTS: [Fault; 16] = [
+pub const FAULTS: [Fault; 15] = [
     Fault::SameRule,
     Fault::RepeatedEntry,
     Fault::Swapped,
     Fault::SameSwapped,
     Fault::MovedEnd,
     Fault::Loop,
-    Fault::StaleLabels,
+    Fault::Stale,
     Fault::OtherSupport,
     Fault::SameMuted,
     Fault::MutedLoop,
     Fault::MutedStale,
     Fault::UnmutedStale,
     Fault::MutedCounted,
-    Fault::MutedAbsent,
     Fault::OtherState,
-    Fault::MutedFree,
+    Fault::HeldFree,
 ];
 
 impl Fault {
     /// Does it take a muted rule?
     fn is_of_muted(self) -> bool {
-        matches!(
-            self,
-            Fault::UnmutedStale | Fault::MutedCounted | Fault::MutedAbsent
-        )
+        matches!(self, Fault::UnmutedStale | Fault::MutedCounted)
     }
 }
 
@@ -97,7 +91,7 @@ pub fn faulty(random: &mut Random, fault: Fault) -> RawTable {
         Fault::SameSwapped => same_swapped(random, &labelled),
         Fault::MovedEnd => moved_end(random, &labelled),
         Fault::Loop => closed_loop(random, &labelled),
-        Fault::StaleLabels => stale_labels(random, &labelled),
+        Fault::Stale => stale(random, &labelled),
         Fault::OtherSupport => other_support(random, &labelled),
         _ => mark_faults::faulty(random, labelled.clone(), fault),
     };
@@ -219,10 +213,11 @@ pub(super) fn closing_rule(random: &mut Random, labelled: &Labelled) -> Option<R
     Some(Rule::of(head, &[], &[negated]))
 }
 
-fn stale_labels(random: &mut Random, labelled: &Labelled) -> Option<RawTable> {
+fn stale(random: &mut Random, labelled: &Labelled) -> Option<RawTable> {
     let (slot, _) = any_of(random, held(&labelled.program).collect())?;
     let mut table = RawTable::keeping(labelled);
     table.rules[slot as usize] = RawRule::EMPTY;
+    table.kept[slot as usize] = Kept::NOTHING;
     Some(table)
 }
 
@@ -231,7 +226,14 @@ fn other_support(random: &mut Random, labelled: &Labelled) -> Option<RawTable> {
         spoiler(labelled, rule).is_none() && !labelled.supports(slot, rule.head)
     });
     let (slot, rule) = any_of(random, others.collect())?;
+    let Label::In {
+        slot: supporting, ..
+    } = labelled.label(rule.head)
+    else {
+        return None;
+    };
     let mut table = RawTable::keeping(labelled);
-    table.labels[rule.head as usize].slot = slot as u16;
+    let depth = std::mem::take(&mut table.kept[supporting as usize].depth);
+    table.kept[slot as usize].depth = depth;
     Some(table)
 }

@@ -1,12 +1,12 @@
 //! Tables with a fault about which rules are muted.
 
 use crate::generate::faults::{any_of, closing_rule, with_page, Fault};
-use crate::generate::marks::{all_unmuted, without_muted};
-use crate::labels::{Label, Labelled};
+use crate::generate::marks::all_unmuted;
+use crate::labels::Labelled;
 use crate::random::Random;
 use crate::relations::spoiler;
 use crate::rules::{held, muted, unmuted, Page};
-use crate::table::{RawLabel, RawTable, FREE, HELD, MUTED};
+use crate::table::{RawTable, FREE, HELD, MUTED};
 
 /// States that no slot of a sound table has, among them some that end in the byte of one that there is.
 const STATES: [u16; 10] = [3, 4, 128, 255, 256, 257, 258, 512, 32_768, 65_535];
@@ -21,20 +21,13 @@ pub(super) fn faulty(random: &mut Random, labelled: Labelled, fault: Fault) -> O
         }
         Fault::MutedStale => muted_stale(random, &labelled),
         Fault::UnmutedStale => unmuted_stale(random, &labelled),
-        Fault::MutedCounted => {
-            let labels = Labelled::of(all_unmuted(&labelled.program)).labels;
-            Some(labelled_as(&labelled, &labels))
-        }
-        Fault::MutedAbsent => {
-            let labels = Labelled::of(without_muted(&labelled.program)).labels;
-            Some(labelled_as(&labelled, &labels))
-        }
+        Fault::MutedCounted => Some(muted_counted(random, &labelled)),
         Fault::OtherState => {
             let slots = held(&labelled.program).map(|(slot, _)| slot);
             let slot = any_of(random, slots.collect())?;
             Some(with_state(&labelled, slot, *random.pick(&STATES)))
         }
-        Fault::MutedFree => muted_free(random, &labelled),
+        Fault::HeldFree => held_free(random, &labelled),
         _ => None,
     }
 }
@@ -45,11 +38,16 @@ fn with_state(labelled: &Labelled, slot: u32, state: u16) -> RawTable {
     table
 }
 
-/// The table of the rules with these labels.
-fn labelled_as(labelled: &Labelled, labels: &[Label]) -> RawTable {
-    let mut table = RawTable::keeping(labelled);
-    table.labels = labels.iter().copied().map(RawLabel::keeping).collect();
-    table
+/// What the slots would keep if no rule were muted; but those of muted rules keep nothing, half of the time.
+fn muted_counted(random: &mut Random, labelled: &Labelled) -> RawTable {
+    let table = RawTable::keeping(labelled);
+    let mut kept = RawTable::keeping(&Labelled::of(all_unmuted(&labelled.program))).kept;
+    if random.percent(50) {
+        for (slot, _) in muted(&labelled.program) {
+            kept[slot as usize] = table.kept[slot as usize];
+        }
+    }
+    RawTable { kept, ..table }
 }
 
 fn same_muted(random: &mut Random, mut labelled: Labelled) -> Option<RawTable> {
@@ -61,7 +59,7 @@ fn same_muted(random: &mut Random, mut labelled: Labelled) -> Option<RawTable> {
     with_page(random, &labelled, page)
 }
 
-/// Of a rule that supports its head for the most part: then the labels cannot fit.
+/// Of a rule that supports its head for the most part: then what is kept cannot fit.
 fn muted_stale(random: &mut Random, labelled: &Labelled) -> Option<RawTable> {
     let any = random.percent(20);
     let rules = unmuted(&labelled.program);
@@ -79,9 +77,9 @@ fn unmuted_stale(random: &mut Random, labelled: &Labelled) -> Option<RawTable> {
     Some(with_state(labelled, slot, HELD))
 }
 
-fn muted_free(random: &mut Random, labelled: &Labelled) -> Option<RawTable> {
+fn held_free(random: &mut Random, labelled: &Labelled) -> Option<RawTable> {
     let mut table = RawTable::keeping(labelled);
     let free = table.rules.iter_mut().filter(|raw| raw.state == FREE);
-    any_of(random, free.collect())?.state = MUTED;
+    any_of(random, free.collect())?.state = *random.pick(&[HELD, MUTED]);
     Some(table)
 }

@@ -9,6 +9,7 @@ pub mod faults;
 mod file_bytes;
 mod file_records;
 pub mod files;
+pub mod kept_faults;
 pub mod lines;
 pub mod lists;
 mod mark_faults;
@@ -43,18 +44,30 @@ pub fn sound_table(random: &mut Random) -> RawTable {
     table_of(marks::any_marked(random, program))
 }
 
-/// A table for the question of soundness: sound, damaged in one field, or with a fault.
+/// A table for the question of soundness: sound, damaged in one field, with a fault, or with sound rules and a slot that
+/// keeps what it should not.
 pub fn mixed_table(random: &mut Random) -> RawTable {
-    match random.below(10) {
+    match random.below(12) {
         0..=3 => sound_table(random),
         4..=6 => {
             let field = *random.pick(&damage::FIELDS);
             let table = sound_table(random);
             damage::damaged(random, &table, field)
         }
+        7..=8 => kept_wrong(random),
         _ => {
             let fault = *random.pick(&faults::FAULTS);
             faults::faulty(random, fault)
         }
     }
+}
+
+/// A table in which what a slot keeps is wrong in some way, where it has room for that.
+fn kept_wrong(random: &mut Random) -> RawTable {
+    let wrong = *random.pick(&kept_faults::WRONGS);
+    let flavour = *random.pick(&programs::FLAVOURS);
+    let program = programs::program(random, flavour);
+    let labelled = Labelled::of(marks::any_marked(random, program));
+    let table = kept_faults::kept_wrong(random, &labelled, wrong);
+    table.unwrap_or_else(|| RawTable::keeping(&labelled))
 }

@@ -63,6 +63,10 @@ pub enum Met {
     ToldSpoiled,
     /// The label of an atom that occurs in muted rules alone.
     Label,
+    /// An atom that occurs in muted rules alone is among the labels.
+    Labels,
+    /// The rule of a slot that is muted.
+    Rule,
     /// A muted rule is among the justifications.
     Justification,
     /// The atom is an entry of a muted rule.
@@ -88,7 +92,7 @@ pub const BY_CHANGES: [Met; 6] = [
 ];
 
 /// What the calls that know of no checklist can meet.
-pub const BY_RULES: [Met; 13] = [
+pub const BY_RULES: [Met; 15] = [
     Met::Same,
     Met::Loop,
     Met::Removed,
@@ -96,6 +100,8 @@ pub const BY_RULES: [Met; 13] = [
     Met::ToldValid,
     Met::ToldSpoiled,
     Met::Label,
+    Met::Labels,
+    Met::Rule,
     Met::Justification,
     Met::Consequence,
     Met::Repercussion,
@@ -260,6 +266,8 @@ impl Met {
             Call::Replace { slot, .. } => silent(slot).map(|_| Met::Replaced),
             Call::Spoiler { slot } => silent(slot).map(|(_, rule)| told(pages, rule)),
             Call::Label { atom } => silent_alone(pages, *atom).then_some(Met::Label),
+            Call::Labels => any_silent_alone(pages).then_some(Met::Labels),
+            Call::Rule { slot } => silent(slot).map(|_| Met::Rule),
             Call::Justifications { atom } => {
                 any(&|rule| rule.head == *atom).then_some(Met::Justification)
             }
@@ -289,6 +297,11 @@ fn told(pages: &Program, rule: &Rule) -> Met {
 /// Does the atom occur, and in muted rules alone?
 fn silent_alone(pages: &Program, atom: u32) -> bool {
     occurring(pages).contains(atom) && !occurring(&without_muted(pages)).contains(atom)
+}
+
+/// Is there such an atom?
+fn any_silent_alone(pages: &Program) -> bool {
+    occurring(pages) != occurring(&without_muted(pages))
 }
 
 /// Does the atom spoil a muted rule whose head is out and not among its repercussions?

@@ -352,8 +352,8 @@ fn a_muted_rule_is_neither_a_mark_that_stands_nor_one_that_does_not() {
 #[test]
 fn an_unsound_table_is_asked_nothing_else() {
     let mut table = opened(2);
-    table.labels[6].state = 2;
-    assert_none(&table, "a label that the rules do not give");
+    table.kept[2].depth = 1;
+    assert_none(&table, "a depth that the rules do not give");
     let mut table = opened(2);
     table.rules[255].head = 1;
     assert_none(&table, "a free slot that is not clean");

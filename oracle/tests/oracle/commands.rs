@@ -100,7 +100,7 @@ fn labels_shows_each_occurring_atom_and_refuses_half_a_table() {
         oracle(&["labels"], &bytes).stdout,
         b"sound; 1 in 1 0; 2 out\n"
     );
-    bytes[256 * 22 + 6] = 1;
+    bytes[2 * 12] = 2;
     assert_eq!(
         oracle(&["labels"], &bytes).stdout,
         b"unsound; 1 in 1 0; 2 out\n"

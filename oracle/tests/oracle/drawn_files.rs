@@ -164,7 +164,7 @@ fn calls_load_good_and_damaged_files_and_save() {
     let mut random = Random::seeded(214);
     let mut met: BTreeMap<u32, usize> = BTreeMap::new();
     let mut saves = 0;
-    for _ in 0..200 {
+    for _ in 0..250 {
         let mut calls = Calls::on(&RawTable::empty(), 20, 40);
         for _ in 0..100 {
             match calls.call(&mut random) {

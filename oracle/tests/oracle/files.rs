@@ -159,7 +159,7 @@ fn reading_what_was_written_gives_the_same_rules_in_the_same_slots() {
     }
 }
 
-/// The table of what the bytes say at the places that the counts name, without labels, if it can be made at all.
+/// The table of what the bytes say at the places that the counts name, with nothing kept, if it can be made at all.
 fn taken_as_it_stands(bytes: &[u8]) -> Option<RawTable> {
     let mut table = RawTable::empty();
     for block in bytes.chunks(512).filter(|block| block.len() == 512) {
@@ -171,8 +171,8 @@ fn taken_as_it_stands(bytes: &[u8]) -> Option<RawTable> {
             *slot = RawRule {
                 state: if muted { MUTED } else { HELD },
                 head: number(at + 2),
-                positives: block[at + 4] & 0x7f,
-                negatives: block[at + 5],
+                positives: (block[at + 4] & 0x7f).into(),
+                negatives: block[at + 5].into(),
                 entries: std::array::from_fn(|entry| number(at + 6 + 2 * entry)),
             };
         }
@@ -233,7 +233,7 @@ fn saving_asks_for_a_sound_table_and_then_for_room_and_writes_nothing_if_refused
     let needed = Refusal::BufferTooShort { needed: 512 };
     assert_eq!(calls::save(&table, &mut short), Err(needed));
     assert_eq!(calls::save(&RawTable::empty(), &mut []), Err(needed));
-    table.labels[1].depth = 2;
+    table.kept[0].depth = 2;
     assert_eq!(
         calls::save(&table, &mut short),
         Err(Refusal::TableUnsound),

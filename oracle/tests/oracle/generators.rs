@@ -127,11 +127,8 @@ fn differing_fields(one: &RawTable, other: &RawTable) -> usize {
             .filter(|(a, b)| a != b)
             .count();
     }
-    for (a, b) in one.labels.iter().zip(&other.labels) {
-        count += [a.state == b.state, a.depth == b.depth, a.slot == b.slot]
-            .iter()
-            .filter(|same| !**same)
-            .count();
+    for (a, b) in one.kept.iter().zip(&other.kept) {
+        count += usize::from(a.depth != b.depth) + usize::from(a.spoiler != b.spoiler);
     }
     count
 }

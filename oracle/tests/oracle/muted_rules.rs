@@ -8,7 +8,7 @@ use oracle::generate::table_of;
 use oracle::labels::{Label, Labelled};
 use oracle::loops::has_loop_through_negation;
 use oracle::random::Random;
-use oracle::relations::{consequences, justifications, reason, repercussions, support};
+use oracle::relations::{consequences, justifications, reason, repercussions, spoiler, support};
 use oracle::rules::{held, muted, occurring, unmuted, Program};
 use oracle::sound::{sound, sound_rules};
 use oracle::strata::layers;
@@ -138,24 +138,25 @@ fn muting_and_unmuting_gives_the_same_table_and_so_does_unmuting_and_muting() {
 }
 
 #[test]
-fn a_mark_that_is_another_is_sound_exactly_if_no_label_moves_by_it() {
+fn a_mark_that_is_another_is_sound_exactly_if_no_label_moves_by_it_and_nothing_spoils_the_rule() {
     let mut random = Random::seeded(507);
     let mut seen = [0, 0];
     for _ in 0..600 {
         let program = small_marked(&mut random, 7, 10);
         let labelled = Labelled::of(program);
         let table = table_of(labelled.program.clone());
-        for (slot, _) in held(&labelled.program) {
+        for (slot, rule) in held(&labelled.program) {
             let mut flipped = table.clone();
             let state = &mut flipped.rules[slot as usize].state;
             *state = HELD + MUTED - *state;
             let rules = sound_rules(&flipped).expect("sound rules");
-            let stays = Labelled::of(rules).labels == labelled.labels;
+            let is_valid = spoiler(&labelled, rule).is_none();
+            let stays = is_valid && Labelled::of(rules).labels == labelled.labels;
             assert_eq!(sound(&flipped), stays, "{slot} in {labelled:?}");
             seen[usize::from(stays)] += 1;
         }
     }
-    assert!(seen.iter().all(|&count| count > 500), "{seen:?}");
+    assert!(seen.iter().all(|&count| count > 150), "{seen:?}");
 }
 
 #[test]

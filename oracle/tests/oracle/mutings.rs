@@ -69,16 +69,16 @@ fn unmuting_gives_the_same_table_again() {
 }
 
 #[test]
-fn a_muted_rule_keeps_everything_but_its_state() {
-    let mut table = table(&["9 < 7 3 !6 !2"]);
-    let before = table.clone();
+fn a_muted_rule_keeps_its_slot_and_its_lists() {
+    let mut table = table(&["9 < 7 3 !6 !2", "8 <", "8 < !6 !2"]);
+    let mut expected = table.clone();
     assert_eq!(both(&mut table, 0, 1), Ok(()));
-    let mut expected = before.clone();
     expected.rules[0].state = 2;
-    assert_eq!(
-        table, expected,
-        "9 is out either way, and so are its entries"
-    );
+    expected.kept[0].spoiler = 0;
+    assert_eq!(table, expected, "and its spoiler: 9 is out either way");
+    assert_eq!(both(&mut table, 2, 1), Ok(()));
+    expected.rules[2].state = 2;
+    assert_eq!(table, expected, "8 is in either way");
 }
 
 #[test]

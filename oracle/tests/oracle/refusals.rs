@@ -62,6 +62,8 @@ fn taking_a_table(large: u32) -> Vec<Call> {
             mark: large,
         },
         Call::Label { atom: large },
+        Call::Labels,
+        Call::Rule { slot: large },
         Call::Spoiler { slot: large },
         Call::Justifications { atom: large },
         Call::Consequences { atom: large },
@@ -79,7 +81,7 @@ fn taking_a_table(large: u32) -> Vec<Call> {
 #[test]
 fn every_call_that_takes_a_table_asks_first_whether_it_is_sound() {
     let mut unsound = table(&["1 <"]);
-    unsound.labels[1].depth = 2;
+    unsound.kept[0].depth = 2;
     for call in taking_a_table(256) {
         assert_eq!(
             call.make(&mut unsound, &mut Lent::default()),

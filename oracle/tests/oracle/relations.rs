@@ -308,3 +308,41 @@ fn reasons_hold_the_supporting_slots_of_all_atoms_gathered() {
     }
     assert!(longest >= 4, "some reason is long: {longest}");
 }
+
+#[test]
+fn labels_are_four_numbers_of_each_atom_that_occurs() {
+    let table = table(&["7 <", "3 < 7 !9", "~4 < 200", "5 < 4"]);
+    let mut buffer = [99; 25];
+    assert_eq!(calls::labels(&table, &mut buffer), Ok(24));
+    assert_eq!(
+        buffer,
+        [3, 2, 2, 1, 4, 1, 0, 0, 5, 1, 0, 0, 7, 2, 1, 0, 9, 1, 0, 0, 200, 1, 0, 0, 99]
+    );
+    let mut short = [99; 23];
+    let needed = oracle::questions::Refusal::BufferTooShort { needed: 24 };
+    assert_eq!(calls::labels(&table, &mut short), Err(needed));
+    assert_eq!(short, [99; 23]);
+    assert_eq!(calls::labels(&RawTable::empty(), &mut []), Ok(0));
+}
+
+#[test]
+fn the_rule_of_a_slot_is_told_as_it_is_kept() {
+    let table = table(&["9 < 7 3 !6 !2", "~8 <"]);
+    let told = |slot| calls::rule(&table, slot).map_err(|refusal| refusal.number());
+    let whole = calls::Written {
+        head: 9,
+        muted: false,
+        positives: 2,
+        negatives: 2,
+        entries: [3, 7, 2, 6, 0, 0, 0, 0],
+    };
+    let fact = calls::Written {
+        head: 8,
+        muted: true,
+        positives: 0,
+        negatives: 0,
+        entries: [0; 8],
+    };
+    assert_eq!([told(0), told(1)], [Ok(whole), Ok(fact)]);
+    assert_eq!([told(2), told(255), told(256)], [Err(9), Err(9), Err(8)]);
+}

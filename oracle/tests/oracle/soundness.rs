@@ -3,11 +3,14 @@
 use crate::notation::table;
 use oracle::generate::damage::{damaged, Field, FIELDS};
 use oracle::generate::faults::{faulty, Fault, FAULTS};
-use oracle::generate::programs::{program, Flavour};
+use oracle::generate::kept_faults::{kept_wrong, wrongs, Wrong, WRONGS};
+use oracle::generate::marks::any_marked;
+use oracle::generate::programs::{program, Flavour, FLAVOURS};
 use oracle::generate::{sound_table, table_of};
+use oracle::labels::Labelled;
 use oracle::random::Random;
 use oracle::sound::sound;
-use oracle::table::{RawLabel, RawRule, RawTable, FREE, HELD, IN, MUTED, OUT};
+use oracle::table::{Kept, RawRule, RawTable, FREE, HELD, MUTED};
 
 #[test]
 fn the_empty_table_is_sound_and_all_zero() {
@@ -21,14 +24,21 @@ fn the_empty_table_is_sound_and_all_zero() {
 
 #[test]
 fn tables_survive_encoding_in_the_order_of_the_fields() {
-    let table = table(&["1 <", "201 < 1 !2"]);
-    let bytes = table.to_bytes();
+    let table = table(&["1 <", "201 < 1 !2", "3 < 1 201 !2 !201"]);
+    let numbers = table.to_numbers();
     assert_eq!(
-        bytes[22..44],
-        [1, 0, 201, 0, 1, 1, 1, 0, 2, 0, 0, 0, 0, 0, 0, 0, 0, 0, 0, 0, 0, 0]
+        numbers[14..28],
+        [1, 201, 1, 1, 1, 2, 0, 0, 0, 0, 0, 0, 2, 0],
+        "it supports its head, at depth 2"
     );
-    assert_eq!(bytes[256 * 22 + 201 * 6..][..6], [2, 0, 2, 0, 1, 0]);
-    assert_eq!(bytes[256 * 22 + 2 * 6..][..6], [1, 0, 0, 0, 0, 0]);
+    assert_eq!(
+        numbers[28..42],
+        [1, 3, 2, 2, 1, 201, 2, 201, 0, 0, 0, 0, 0, 4],
+        "the fourth of its entries spoils it"
+    );
+    let bytes = table.to_bytes();
+    assert_eq!(bytes[28..34], [1, 0, 201, 0, 1, 0]);
+    assert_eq!(RawTable::from_numbers(&numbers), Some(table));
     let mut random = Random::seeded(61);
     for _ in 0..50 {
         let bytes: Vec<u8> = (0..RawTable::BYTES).map(|_| random.word() as u8).collect();
@@ -39,7 +49,7 @@ fn tables_survive_encoding_in_the_order_of_the_fields() {
 /// What is changed, in words, and the change.
 type Change = (&'static str, fn(&mut RawTable));
 
-const CHANGES: [Change; 24] = [
+const CHANGES: [Change; 28] = [
     ("a rule with no such state", |table| {
         table.rules[0].state = 3
     }),
@@ -49,20 +59,20 @@ const CHANGES: [Change; 24] = [
     ("a rule's state that wraps to muted", |table| {
         table.rules[3].state = 258
     }),
-    ("a supporting rule that is muted, its label kept", |table| {
+    ("a supporting rule that is muted, its depth kept", |table| {
         table.rules[0].state = MUTED
     }),
     ("a muted rule that is unmuted and would support", |table| {
         table.rules[3].state = HELD
     }),
-    ("a free slot that holds a muted fact", |table| {
-        table.rules[9].state = MUTED
+    ("a free slot that holds a fact and keeps nothing", |table| {
+        table.rules[9].state = HELD
     }),
     ("a rule's state that wraps to held", |table| {
         table.rules[0].state = 257
     }),
-    ("a label's state that wraps to out", |table| {
-        table.labels[4].state = 257
+    ("a count that wraps to one", |table| {
+        table.rules[1].positives = 257
     }),
     ("a free slot with a head", |table| table.rules[9].head = 1),
     ("a free slot with a count", |table| {
@@ -85,33 +95,35 @@ const CHANGES: [Change; 24] = [
     ("counts that wrap to eight", |table| {
         (table.rules[0].positives, table.rules[0].negatives) = (255, 9)
     }),
-    ("an in atom called out", |table| {
-        table.labels[1] = RawLabel {
-            state: OUT,
-            depth: 0,
-            slot: 0,
-        }
+    ("counts that wrap to eight as numbers", |table| {
+        (table.rules[0].positives, table.rules[0].negatives) = (65_535, 9)
     }),
-    ("an out atom called in", |table| {
-        table.labels[4] = RawLabel {
-            state: IN,
-            depth: 1,
-            slot: 2,
-        }
+    ("an in atom without a depth", |table| {
+        table.kept[0].depth = 0
     }),
-    ("an occurring atom called absent", |table| {
-        table.labels[5].state = 0
+    ("an out atom with a depth", |table| table.kept[2].depth = 1),
+    ("a wrong depth", |table| table.kept[1].depth = 1),
+    ("a free slot with a depth", |table| table.kept[9].depth = 1),
+    ("a muted rule with a depth", |table| table.kept[3].depth = 1),
+    ("a free slot with a spoiler", |table| {
+        table.kept[255].spoiler = 1
     }),
-    ("an absent atom called out", |table| {
-        table.labels[6].state = 1
+    ("a muted rule with a spoiler", |table| {
+        table.kept[3].spoiler = 1
     }),
-    ("a wrong depth", |table| table.labels[2].depth = 1),
-    ("a wrong slot", |table| table.labels[2].slot = 0),
-    ("an out atom with a slot", |table| table.labels[4].slot = 2),
+    ("a valid rule with a spoiler", |table| {
+        table.kept[1].spoiler = 1
+    }),
+    ("a spoiled rule without one", |table| {
+        table.kept[2].spoiler = 0
+    }),
+    ("a spoiler past the lists", |table| {
+        table.kept[2].spoiler = 2
+    }),
 ];
 
 #[test]
-fn any_other_state_depth_slot_or_filler_is_unsound() {
+fn any_other_state_depth_spoiler_or_filler_is_unsound() {
     let sound_one = table(&["1 <", "2 < 1 !3", "4 < 5", "~4 <"]);
     assert!(sound(&sound_one));
     for (what, change) in CHANGES {
@@ -125,15 +137,14 @@ fn any_other_state_depth_slot_or_filler_is_unsound() {
 fn repeated_atoms_same_rules_and_loops_through_a_negation_are_unsound() {
     let mut repeated = table(&["2 <", "1 < 2 3"]);
     repeated.rules[1].entries[1] = 2;
-    repeated.labels[3] = RawLabel::EMPTY;
-    repeated.labels[1] = RawLabel {
-        state: IN,
+    repeated.kept[1] = Kept {
         depth: 2,
-        slot: 1,
+        spoiler: 0,
     };
     let mut same = table(&["1 <"]);
     same.rules[7] = same.rules[0];
     let mut negates_itself = table(&["1 <"]);
+    negates_itself.kept[1].spoiler = 1;
     negates_itself.rules[1] = RawRule {
         state: HELD,
         head: 1,
@@ -190,12 +201,12 @@ fn an_entry_moved_to_the_other_list_is_judged_by_the_order_it_comes_to_stand_in(
 #[test]
 fn the_misreadings_of_t4_are_unsound() {
     let mut first_valid_slot = table(&["1 < 2", "2 < 1", "2 <"]);
-    first_valid_slot.labels[2].slot = 1;
+    first_valid_slot.kept.swap(1, 2);
     assert!(!sound(&first_valid_slot));
     let mut both_stay_in = table(&["1 < 2", "2 < 1", "2 <"]);
     both_stay_in.rules[2] = RawRule::EMPTY;
     assert!(!sound(&both_stay_in));
-    both_stay_in.labels[2].slot = 1;
+    both_stay_in.kept.swap(1, 2);
     assert!(!sound(&both_stay_in));
 }
 
@@ -231,15 +242,63 @@ fn each_fault_is_noticed() {
 }
 
 #[test]
-fn damage_to_a_label_is_always_noticed() {
+fn damage_to_what_is_kept_is_always_noticed() {
     let mut random = Random::seeded(63);
     for _ in 0..300 {
         let sound_one = table_of(program(&mut random, Flavour::Churned));
-        for field in [Field::LabelState, Field::Depth, Field::SupportingSlot] {
+        for field in [Field::Depth, Field::Spoiler] {
             assert!(
                 !sound(&damaged(&mut random, &sound_one, field)),
                 "{field:?}"
             );
         }
     }
+}
+
+#[test]
+fn each_wrong_depth_and_spoiler_comes_up_alone_and_is_noticed() {
+    let mut random = Random::seeded(66);
+    let mut seen = [0; WRONGS.len()];
+    for round in 0..100 * WRONGS.len() {
+        let kind = round % WRONGS.len();
+        let program = program(&mut random, FLAVOURS[round % FLAVOURS.len()]);
+        let labelled = Labelled::of(any_marked(&mut random, program));
+        if let Some(table) = kept_wrong(&mut random, &labelled, WRONGS[kind]) {
+            assert!(!sound(&table), "{:?}", WRONGS[kind]);
+            let found: Vec<Wrong> = wrongs(&table, &labelled).into_iter().collect();
+            assert_eq!(found, [WRONGS[kind]]);
+            seen[kind] += 1;
+        }
+    }
+    assert!(
+        seen.iter().all(|&count| count > 30),
+        "of a hundred each: {seen:?}"
+    );
+}
+
+#[test]
+fn what_is_wrong_with_a_slot_is_told_by_its_name() {
+    let rules = ["1 <", "2 < 1", "2 < 1 4", "3 < 5 6 !1 !2", "~1 < 2"];
+    let right = table(&rules);
+    let labelled = Labelled::of(crate::notation::program(&rules));
+    let told = |slot: usize, depth: u16, spoiler: u16| {
+        let mut table = right.clone();
+        table.kept[slot] = Kept { depth, spoiler };
+        assert!(!sound(&table));
+        Vec::from_iter(wrongs(&table, &labelled))
+    };
+    assert_eq!(right.kept[3].spoiler, 1);
+    assert_eq!(told(0, 0, 0), [Wrong::NoDepth]);
+    assert_eq!(told(1, 1, 0), [Wrong::SmallDepth]);
+    assert_eq!(told(1, 3, 0), [Wrong::LargeDepth]);
+    assert_eq!(told(2, 2, 2), [Wrong::TwoDepths]);
+    assert_eq!(told(2, 0, 1), [Wrong::NotSpoiling]);
+    assert_eq!(told(3, 1, 1), [Wrong::DepthOfOut]);
+    assert_eq!(told(3, 0, 2), [Wrong::LaterSpoiler]);
+    assert_eq!(told(3, 0, 3), [Wrong::NegativeFirst]);
+    assert_eq!(told(3, 0, 4), [Wrong::LaterSpoiler]);
+    assert_eq!(told(3, 0, 5), [Wrong::PastTheLists]);
+    assert_eq!(told(3, 0, 0), [Wrong::NoSpoiler]);
+    assert_eq!(told(4, 1, 1), [Wrong::DepthInMuted, Wrong::SpoilerInMuted]);
+    assert_eq!(told(5, 1, 1), [Wrong::DepthInFree, Wrong::SpoilerInFree]);
 }

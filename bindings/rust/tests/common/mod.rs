@@ -115,23 +115,29 @@ impl Random {
 
     /// Fields of any bytes.
     pub fn fields(&mut self) -> raw::Table {
-        let mut fields = raw::empty();
-        for rule in &mut fields.rules {
-            *rule = raw::Rule {
-                state: self.word() as u16,
-                head: self.word() as u16,
-                positives: self.word() as u8,
-                negatives: self.word() as u8,
-                entries: std::array::from_fn(|_| self.word() as u16),
-            };
+        raw::Table {
+            words: std::array::from_fn(|_| self.word() as u16),
         }
-        for label in &mut fields.labels {
-            *label = raw::Label {
-                state: self.word() as u16,
-                depth: self.word() as u16,
-                slot: self.word() as u16,
-            };
-        }
-        fields
     }
+}
+
+/// Which of a slot's numbers a test damages. Programs ask the calls.
+#[derive(Clone, Copy)]
+pub enum Place {
+    State = 0,
+    Negatives = 3,
+    Entries = 4,
+    Depth = 12,
+    Spoiler = 13,
+}
+
+/// One of the numbers of a slot.
+pub fn word(fields: &mut raw::Table, slot: usize, place: Place) -> &mut u16 {
+    &mut fields.words[14 * slot + place as usize]
+}
+
+/// Two entries of a slot in each other's place.
+pub fn swap_entries(fields: &mut raw::Table, slot: usize, one: usize, other: usize) {
+    let first = 14 * slot + Place::Entries as usize;
+    fields.words.swap(first + one, first + other);
 }
