@@ -6,22 +6,24 @@ use mathlib.Core.Path.{_≡_, refl, sym, _∙_, ap, subst}
 use mathlib.Core.Bool.{Bool, true, false, _||_}
 use mathlib.Core.List.{List, [], _∷_, List·Memᴰ·head, List·Memᴰ·tail}
 use mathlib.Core.Option.{none, some}
-use lib.ListN.{length, getD, replicate}
-use Rattle.theory.specs.Rules.{Program, Bounded}
+use lib.ListN.{length, getD, replicate, List·getD-map}
+use Rattle.theory.specs.Rules.{Program, Bounded, rule-on}
 use Rattle.theory.specs.Rules as theory
 use Rattle.theory.specs.Questions.{rules}
+use Rattle.theory.proofs.Pages.{all-at}
 use Rattle.table.specs.declared.Rule.{Rule}
 use Rattle.table.specs.Sets.{number}
 use Rattle.table.specs.Turns.{slotAt}
-use Rattle.table.specs.Rules.{slotOf, ruleOf, programOf, pastRule}
+use Rattle.table.specs.Rules.{bookOf, pageOf, pastRule, programOf, ruleOf, slotOf}
+use Rattle.table.specs.Clean.{freeRule}
 use Rattle.table.proofs.Members.{all-alike}
 use Rattle.table.proofs.SlotsInTurn.{slot-at-each}
-use Rattle.table.proofs.Programs.{program-at, program-length, held-rule, slot-held, slot-free}
+use Rattle.table.proofs.Programs.{program-at, program-length, held-rule, slot-free, slot-held, slot-rule}
 use Rattle.strata.specs.Answer.{StrataOf}
-use Rattle.strata.specs.Needed.{needed, EntriesBelow, Raised}
+use Rattle.strata.specs.Needed.{EntriesBelow, Guided, needed, Raised}
 use Rattle.strata.proofs.Answer.{told-strata, told-cycle}
 use Rattle.strata.proofs.Rounds.{ComesToAll, Rounds, Slots, rounds-start, slots-start, slot-next}
-use Rattle.strata.proofs.Rounds.{slots-over, slots-rest, slots-passed}
+use Rattle.strata.proofs.Rounds.{slots-over, slots-rest, slots-passed, guided-next, rounds-guided}
 
 -- No more rules are held than there are slots.
 few-rules : (P : Program) → length (rules P) ≤ length P
@@ -30,17 +32,37 @@ few-rules [] = omega arith
 few-rules (none ∷ P) = omega (arith, few-rules P)
 few-rules (some r ∷ P) = omega (arith, few-rules P)
 
--- Of a rule r that was read from slot s: what the program says of its atoms, and what it needs.
-module _ (rows : List Rule) (s : ℕ) (r : Rule) (read : r ≡ getD rows s pastRule) where
+-- A rule that was read from a slot of the table, or from any slot, is what the program has there.
+pub read-at : (rows : List Rule) (s : ℕ) (r : Rule) → r ≡ getD rows s pastRule → getD (programOf rows) s none ≡ slotOf r
+read-at rows s r read = program-at rows s ∙ ap slotOf (sym read)
+
+pub read-in : (rows : List Rule) (s : ℕ) (r : Rule) → r ≡ getD rows s freeRule → getD (programOf rows) s none ≡ slotOf r
+read-in rows s r read =
+    all-at (bookOf rows) s ∙ ap rule-on (List·getD-map pageOf rows s freeRule) ∙ ap slotOf (sym read)
+
+-- What the program says of the atoms of such a rule, and what it needs.
+module _ (rows : List Rule) (s : ℕ) (r : Rule) (read : getD (programOf rows) s none ≡ slotOf r) where
   pub entries-below : (b : ℕ) → Bounded (programOf rows) b → EntriesBelow b (slotOf r)
-  entries-below b B q h x m = B s q (program-at rows s ∙ ap slotOf (sym read) ∙ h) x (List·Memᴰ·tail m)
+  entries-below b B q h x m = B s q (read ∙ h) x (List·Memᴰ·tail m)
 
   -- A slot that needs a number above 0 holds a rule, whose head is an atom of the program too.
   pub head-below : (b n : ℕ) (ℓ : ℕ → ℕ) → Bounded (programOf rows) b → n ≡ needed ℓ (slotOf r) → 0 < n → r .head .0 < b
   head-below b n ℓ B e l =
-      B s (ruleOf r)
-      (program-at rows s ∙ ap slotOf (sym read) ∙ slot-held r (λ z. omega (arith, e ∙ ap (needed ℓ) (slot-free r z))))
-      _ (List·Memᴰ·head refl)
+      B s (ruleOf r) (read ∙ slot-held r (λ z. omega (arith, e ∙ ap (needed ℓ) (slot-free r z)))) _
+      (List·Memᴰ·head refl)
+
+  -- It raises its head in between rounds.
+  pub guided-slot :
+      (b : ℕ) → Bounded (programOf rows) b → (xs ys zs : List ℕ) → length ys ≡ b → Guided (programOf rows) xs ys
+      → (n : ℕ) (flag : Bool) → n ≡ needed (number ys) (slotOf r) → Raised ys (r .head .0) n zs flag
+      → Guided (programOf rows) xs zs
+  guided-slot b B xs ys zs wide G n flag e R =
+      guided-next (programOf rows) xs ys zs G s (r .head .0) n flag (e ∙ ap (needed (number ys)) (sym read))
+      (λ p h. (
+      let y : p .head ≡ r .head .0 =
+      sym (ap (λ (z : theory.Rule). z .head) (slot-rule r p (sym read ∙ h))) in
+      (y, omega (arith, y, wide, B s p h (p .head) (List·Memᴰ·head refl)))))
+      R
 
 module _ (rows : List Rule) (S : ℕ) (long : length rows ≡ S) where
   few : length (rules (programOf rows)) ≤ S
@@ -50,9 +72,11 @@ module _ (rows : List Rule) (S : ℕ) (long : length rows ≡ S) where
   pub start : (b : ℕ) → Rounds (programOf rows) S 0 (number (replicate b 0))
   start b = rounds-start (programOf rows) S few (number (replicate b 0)) (λ a. all-alike b a 0)
 
-  pub begin : (down : Bool) (k : ℕ) (xs : List ℕ) → Rounds (programOf rows) S k (number xs)
-      → Slots (programOf rows) (slotAt S down) S k 0 (number xs) false
-  begin down k xs R = slots-start (programOf rows) S few (slotAt S down) k (number xs) R
+  pub begin :
+      (down : Bool) (k : ℕ) (xs ys : List ℕ) → Rounds (programOf rows) S k (number xs) → Guided (programOf rows) xs ys
+      → Slots (programOf rows) (slotAt S down) S k 0 (number ys) false
+  begin down k xs ys R G =
+      slots-start (programOf rows) S few (slotAt S down) k (number ys) (rounds-guided (programOf rows) S k xs ys R G)
 
   -- A whole round has come to every slot.
   comes : (down : Bool) (i : ℕ) → S ≤ i → ComesToAll (programOf rows) (slotAt S down) i

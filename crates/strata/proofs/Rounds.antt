@@ -10,7 +10,7 @@ use mathlib.Core.Logic.{⊎-elim}
 use mathlib.Core.Bool.{Bool, true, false, _||_, true≢false}
 use mathlib.Core.List.{List}
 use mathlib.Core.Option.{Option, none, some}
-use lib.ListN.{length, getD}
+use lib.ListN.{length, getD, length-set}
 use borrow.Author.Count.{below-more}
 use Rattle.theory.specs.Rules.{Rule, Program, Held}
 use Rattle.theory.specs.Dependencies.{DependencyPath, here, NegativeCycle, Stratum}
@@ -21,13 +21,9 @@ use Rattle.theory.proofs.Cycles.{negative-cycle?}
 use Rattle.theory.proofs.Strata.{few-negatives, Strata, strata-exact}
 use Rattle.table.specs.Sets.{number}
 use Rattle.table.proofs.Members.{number-same, number-other}
-use Rattle.strata.specs.Needed.{needed, Raised}
+use Rattle.strata.specs.Needed.{Attained, Guided, needed, Raised}
 use Rattle.strata.proofs.Numbers.{needed-enough, Reached, needed-reached}
 use Rattle.strata.proofs.Walks.{Entry, plain, denied, Step, after, Walk, stay, step, everywhere, short-walk}
-
--- Each atom's number is the weight of some path from it.
-abbrev pub Attained : Program → (ℕ → ℕ) → Type 0
-Attained P ℓ = (a : ℕ) → (c : ℕ) × DependencyPath P a c (ℓ a)
 
 -- No walk of at most k steps weighs more than its start's number.
 abbrev pub Covers : Program → ℕ → (ℕ → ℕ) → Type 0
@@ -80,19 +76,60 @@ pub record Higher (ℓ m : ℕ → ℕ) (a n : ℕ) : Type 0 where
   pub elsewhere : (x : ℕ) → (x ≡ a → ⊥) → m x ≡ ℓ x
   pub more : ℓ a < n
 
-higher-up : (ℓ m : ℕ → ℕ) (a n : ℕ) → Higher ℓ m a n → (x : ℕ) → ℓ x ≤ m x
+pub higher-up : (ℓ m : ℕ → ℕ) (a n : ℕ) → Higher ℓ m a n → (x : ℕ) → ℓ x ≤ m x
 higher-up ℓ m a n H x = elim (ℕ-discrete x a) [
   | yes e ↦ omega (arith, ap ℓ e, ap m e, H .there, H .more)
   | no e ↦ omega (arith, H .elsewhere x e)
 ]
 
-higher-attained :
+pub higher-attained :
     (P : Program) (ℓ m : ℕ → ℕ) (a n : ℕ) → Higher ℓ m a n → Attained P ℓ → (c : ℕ) × DependencyPath P a c n
     → Attained P m
 higher-attained P ℓ m a n H A v x = elim (ℕ-discrete x a) [
   | yes e ↦ (v .0, subst (λ (z : ℕ). DependencyPath P z (v .0) (m z)) (sym e) (rw (H .there) (v .1)))
   | no e ↦ (A x .0, rw (H .elsewhere x e) (A x .1))
 ]
+
+-- What the code raised, by the rule r.
+pub raised-higher :
+    (xs ys : List ℕ) (a n : ℕ) (r : Rule) → r .head ≡ a → a < length xs → n ≡ needed (number xs) (some r)
+    → Raised xs a n ys true → Higher (number xs) (number ys) (r .head) (needed (number xs) (some r))
+raised-higher xs ys a n r q l same R =
+    let t = R .higher refl in
+    record {
+      there = ap₂ number (t .1) q ∙ number-same xs a n l ∙ same;
+      elsewhere = λ x d. ap (λ zs. number zs x) (t .1) ∙ number-other xs a n x (λ z. d (z ∙ sym q));
+      more = omega (arith, t .0, same, ap (number xs) q);
+    }
+
+-- Numbers that any slot raises, in between rounds: they stay weights of paths, and rounds have covered what they had.
+module _ (P : Program) where
+  pub guided-start : (xs : List ℕ) → Attained P (number xs) → Guided P xs xs
+  guided-start xs A = record { attained = A; up = λ a. omega arith; long = refl }
+
+  pub guided-next :
+      (xs ys zs : List ℕ) → Guided P xs ys → (s a n : ℕ) (flag : Bool) → n ≡ needed (number ys) (getD P s none)
+      → ((r : Rule) → Held P s r → (r .head ≡ a) × (a < length ys)) → Raised ys a n zs flag → Guided P xs zs
+  guided-next xs ys zs G s a n false e heads R = rw (R .kept refl .1) G
+  guided-next xs ys zs G s a n true e heads R = go (getD P s none) refl
+    where
+      go : (o : Option Rule) → getD P s none ≡ o → Guided P xs zs
+      go none h = absurd (omega (arith, R .higher refl .0, e, ap (needed (number ys)) h))
+      go (some r) h =
+          let H = raised-higher ys zs a n r (heads r h .0) (heads r h .1) (e ∙ ap (needed (number ys)) h) R in
+          record {
+            attained = higher-attained P (number ys) (number zs) (r .head) _ H (G .attained)
+                (needed-path P (number ys) (G .attained) s r h);
+            up = λ x. omega (arith, G .up x, higher-up (number ys) (number zs) (r .head) _ H x);
+            long = ap length (R .higher refl .1) ∙ length-set ys a n ∙ G .long;
+          }
+
+  pub rounds-guided : (S k : ℕ) (xs ys : List ℕ) → Rounds P S k (number xs) → Guided P xs ys → Rounds P S k (number ys)
+  rounds-guided S k xs ys R G = record {
+    attained = G .attained;
+    covers = λ a c n j l v. omega (arith, G .up a, R .covers a c n j l v);
+    late = R .late;
+  }
 
 module _ (P : Program) (S : ℕ) (few : length (rules P) ≤ S) where
   -- Without a negative cycle numbers that cover walks of S steps cover all paths.
@@ -237,11 +274,5 @@ module _ (P : Program) (S : ℕ) (few : length (rules P) ≤ S) where
       go : (o : Option Rule) → getD P (at i) none ≡ o → Slots P at S k (i + 1) (number ys) true
       go none h = absurd (omega (arith, R .higher refl .0, e, ap (needed (number xs)) h))
       go (some r) h =
-          let t = R .higher refl in
-          let q = heads r h in
-          let same : n ≡ needed (number xs) (some r) = e ∙ ap (needed (number xs)) h in
-          slot-raised at k (number xs) i raised T (number ys) r h (record {
-            there = ap₂ number (t .1) (q .0) ∙ number-same xs a n (q .1) ∙ same;
-            elsewhere = λ x d. ap (λ zs. number zs x) (t .1) ∙ number-other xs a n x (λ z. d (z ∙ sym (q .0)));
-            more = omega (arith, t .0, same, ap (number xs) (q .0));
-          })
+          slot-raised at k (number xs) i raised T (number ys) r h
+          (raised-higher xs ys a n r (heads r h .0) (heads r h .1) (e ∙ ap (needed (number xs)) h) R)

@@ -5,9 +5,10 @@ use mathlib.Core.Path.{_≡_}
 use mathlib.Core.Bool.{Bool, true, false}
 use mathlib.Core.List.{List}
 use mathlib.Core.Option.{Option, none, some}
-use lib.ListN.{set}
+use lib.ListN.{length, set}
 use Rattle.theory.specs.Lists.{_∈_, greatest}
-use Rattle.theory.specs.Rules.{Rule, entries}
+use Rattle.theory.specs.Rules.{entries, Program, Rule}
+use Rattle.theory.specs.Dependencies.{DependencyPath}
 use Rattle.table.specs.Sets.{number}
 
 -- The numbers of the atoms, each made greater by a step.
@@ -30,3 +31,13 @@ EntriesBelow n slot = (r : Rule) → slot ≡ some r → AllBelow n (entries r)
 pub record Raised (before : List ℕ) (a n : ℕ) (after : List ℕ) (flag : Bool) : Type 0 where
   pub kept : flag ≡ false → (n ≤ number before a) × (after ≡ before)
   pub higher : flag ≡ true → (number before a < n) × (after ≡ set before a n)
+
+-- Each atom's number is the weight of some path from it.
+abbrev pub Attained : Program → (ℕ → ℕ) → Type 0
+Attained P ℓ = (a : ℕ) → (c : ℕ) × DependencyPath P a c (ℓ a)
+
+-- Numbers were raised, each to the weight of some path.
+pub record Guided (P : Program) (before after : List ℕ) : Type 0 where
+  pub attained : Attained P (number after)
+  pub up : (a : ℕ) → number before a ≤ number after a
+  pub long : length after ≡ length before

@@ -1,15 +1,19 @@
 // The strata of a table's rules, muted or not: for each atom the most negative steps on a path of dependencies from it.
+use guess::slots_in_order;
 use rule::negative_end;
 use rule::positive_end;
 use table::Atom;
 use table::Rule;
+use table::Slot;
 use table::Table;
 use table::sets::larger;
 use table::sets::set_number;
 use table::slots::rule_at;
+use table::slots::rule_in;
 use table::turns::slot_at;
 ghost use mathlib.Core.Path.{_≡_};
 ghost use Prim.Native.Nat.{_≤_, _<_};
+ghost use lib.ListN.{length};
 ghost use lib.Seq.{slice};
 ghost use Rattle.theory.specs.Lists.{greatest};
 ghost use Rattle.theory.specs.Rules.{Bounded};
@@ -18,7 +22,12 @@ ghost use Rattle.table.specs.Sets.{number};
 ghost use Rattle.table.specs.Rules.{numbers, slotOf, programOf};
 ghost use Rattle.table.specs.Words.{rulesOf};
 ghost use Rattle.strata.specs.Answer.{StrataOf};
-ghost use Rattle.strata.specs.Needed.{plus, needed, AllBelow, EntriesBelow, Raised};
+ghost use Rattle.strata.specs.Needed.{plus, needed, AllBelow, EntriesBelow, Raised, Attained, Guided};
+
+mod guess; // guess.rt: a guessed order of the slots
+
+// Rounds that are made before an order is guessed: in most tables they are more than enough.
+const GUESS: usize = 12;
 
 // Either each atom's stratum, or that there is a negative cycle; `of` says nothing then.
 pub struct Stratification {
@@ -84,6 +93,44 @@ pub fn raise(kept: &mut [u16; Table::ATOMS], a: Atom, n: u16) -> bool
     true
 }
 
+// The slots named raise the numbers of their heads, in the order in which they are named: any will do.
+fn raise_in_order(
+    table: &[u16; Table::WORDS],
+    by: &[u16; Table::SLOTS],
+    of: &mut [u16; Table::ATOMS],
+)
+    requires { ⌜ Bounded (programOf (rulesOf (now table))) (document .atoms)
+        × Attained (programOf (rulesOf (now table))) (number (now of)) × (length (now of) ≡ document .atoms) ⌝ }
+    ensures { λ _. ⌜ Guided (programOf (rulesOf (now (table .entry)))) (now (of .entry)) (now (of .exit)) ⌝ }
+{
+    let slots = &by[..];
+    let mut i: usize = 0;
+    while i < Table::SLOTS {
+        let rule = rule_in(table, Slot(slots[i]));
+        let n = needed(rule, of);
+        if n > Table::SLOTS {
+            return;
+        }
+        raise(of, rule.head, n as u16);
+        i += 1;
+    }
+}
+
+// Before round GUESS the slots come once in a guessed order, in which numbers settle that rounds up and down the slots
+// would settle one by one.
+fn guide(table: &[u16; Table::WORDS], round: usize, of: &mut [u16; Table::ATOMS])
+    requires { ⌜ Bounded (programOf (rulesOf (now table))) (document .atoms)
+        × Attained (programOf (rulesOf (now table))) (number (now of)) × (length (now of) ≡ document .atoms) ⌝ }
+    ensures { λ _. ⌜ Guided (programOf (rulesOf (now (table .entry)))) (now (of .entry)) (now (of .exit)) ⌝ }
+{
+    if round != GUESS {
+        return;
+    }
+    let mut by: [u16; Table::SLOTS] = [0; Table::SLOTS];
+    slots_in_order(table, &mut by);
+    raise_in_order(table, &by, of);
+}
+
 // Rounds over the slots, each of which raises heads to what their rules need, up to the first that raises none.
 // Only a negative cycle lets a number pass SLOTS, or a round that SLOTS others came before still raise one.
 // Every eighth round walks downwards: a chain against the order of the slots settles in it.
@@ -94,6 +141,7 @@ pub fn strata(table: &[u16; Table::WORDS]) -> Stratification
     let mut of: [u16; Table::ATOMS] = [0; Table::ATOMS];
     let mut round: usize = 0;
     while round <= Table::SLOTS {
+        guide(table, round, &mut of);
         let down = round % 8 == 7;
         let mut raised = false;
         let mut i: usize = 0;

@@ -14,7 +14,7 @@ use Rattle.table.proofs.Words.{rules-length}
 use Rattle.table.proofs.SlotsInTurn.{slot-at-below}
 use Rattle.strata.proofs.Rounds.{Rounds, Slots}
 use Rattle.strata.proofs.Numbers.{raised-length}
-use Rattle.strata.proofs.Arrays.{entries-below, head-below, start, begin, passed, next, rest, more, over}
+use Rattle.strata.proofs.Arrays.{entries-below, head-below, read-at, start, begin, passed, next, rest, more, over}
 use Rattle.strata.proofs.strata.Statement.{statement}
 use Rattle.strata.proofs.strata.Tie as tie
 use Rattle.strata.proofs.strata.Reads as reads
@@ -42,13 +42,19 @@ loop-holds : tie.Need-loop-holds Inv-loop2 μ-loop2 Inv-loop μ-loop
 loop-holds c =
     (omega arith, refl, start (rulesOf (c .args .table .now)) (document .slots) (rules-length _) (document .atoms))
 
+guide-requires : tie.Need-guide-requires Inv-loop2 μ-loop2 Inv-loop μ-loop
+guide-requires c κs =
+    let at = c .before .before in
+    (at .before .pre, at .loop .inv .2 .attained, at .loop .inv .1)
+
 loop2-holds : tie.Need-loop2-holds Inv-loop2 μ-loop2 Inv-loop μ-loop
-loop2-holds c = (
-  omega arith,
-  c .before .loop .inv .1,
-  begin (rulesOf (c .before .before .args .table .now)) (document .slots) (rules-length _) _ _ (c .before .loop .of)
-      (c .before .loop .inv .2),
-)
+loop2-holds c =
+    let at = c .before .before .before in
+    let rows = rulesOf (at .before .args .table .now) in (
+      omega arith,
+      c .guide .ensures .long ∙ at .loop .inv .1,
+      begin rows (document .slots) (rules-length _) _ _ _ _ (at .loop .inv .2) (c .guide .ensures),
+    )
 
 slot-at-requires : tie.Need-slot-at-requires Inv-loop2 μ-loop2 Inv-loop μ-loop
 slot-at-requires c κs = tt
@@ -62,14 +68,15 @@ rule-at-requires c κs = below c
 
 needed-requires : tie.Need-needed-requires Inv-loop2 μ-loop2 Inv-loop μ-loop
 needed-requires c κs =
-    let s = c .before .before .before .before .before .before .before in
-    entries-below (rulesOf (s .args .table .now)) _ _ (c .before .rule-at .ensures) _ (s .pre)
+    let s = c .before .before .before .before .before .before .before .before .before in
+    let rows = rulesOf (s .args .table .now) in
+    entries-below rows _ (c .before .rule-at .result) (read-at rows _ _ (c .before .rule-at .ensures)) _ (s .pre)
 
 returns : tie.Need-returns Inv-loop2 μ-loop2 Inv-loop μ-loop
 returns c =
     let w = c .before .before .before .before in
     let t = w .before .before .loop2 in
-    let a = w .before .before .before .before .before .args in
+    let a = w .before .before .before .before .before .before .before .args in
     passed (rulesOf (a .table .now)) (document .slots) (rules-length _) _ _ (t .i) (t .of) (t .raised) (t .inv .2) _ _ _
     (w .slot-at .ensures) (c .before .before .before .rule-at .ensures) (c .before .needed .ensures) (c .if1 .taken)
 
@@ -79,8 +86,10 @@ cast-raise c = search needs
 raise-requires : tie.Need-raise-requires Inv-loop2 μ-loop2 Inv-loop μ-loop
 raise-requires c κs =
     let w = c .before .before .before .before .before in
-    let s = w .before .before .before .before .before in
-    head-below (rulesOf (s .args .table .now)) _ _ (c .before .before .before .before .rule-at .ensures) _ _ _ (s .pre)
+    let s = w .before .before .before .before .before .before .before in
+    let rows = rulesOf (s .args .table .now) in
+    head-below rows _ (c .before .before .before .before .rule-at .result)
+    (read-at rows _ _ (c .before .before .before .before .rule-at .ensures)) _ _ _ (s .pre)
     (c .before .before .needed .ensures)
 
 add-i : tie.Need-add-i Inv-loop2 μ-loop2 Inv-loop μ-loop
@@ -93,7 +102,7 @@ loop2-again : tie.Need-loop2-again Inv-loop2 μ-loop2 Inv-loop μ-loop
 loop2-again c =
     let w = c .before .before .before .before .before .before in
     let t = w .before .before .loop2 in
-    let s = w .before .before .before .before .before in (
+    let s = w .before .before .before .before .before .before .before in (
       omega arith,
       raised-length _ _ _ _ _ (c .raise .ensures) ∙ t .inv .1,
       next (rulesOf (s .args .table .now)) (document .slots) (rules-length _) _ _ (t .i) (t .of) (t .raised) (t .inv .2) (document .atoms)
@@ -104,7 +113,7 @@ loop2-again c =
 returns-2 : tie.Need-returns-2 Inv-loop2 μ-loop2 Inv-loop μ-loop
 returns-2 c =
     let t = c .before .before .loop2 in
-    rest (rulesOf (c .before .before .before .before .before .args .table .now)) (document .slots) (rules-length _) _ _ (t .i) (t .of)
+    rest (rulesOf (c .before .before .before .before .before .before .before .args .table .now)) (document .slots) (rules-length _) _ _ (t .i) (t .of)
     (t .raised) (t .inv .2) (not-true _ (c .if2 .taken)) (c .before .loop2-test .left)
 
 add-round : tie.Need-add-round Inv-loop2 μ-loop2 Inv-loop μ-loop
@@ -118,7 +127,7 @@ loop-again c =
     let t = c .before .before .loop2 in (
       omega arith,
       t .inv .1,
-      more (rulesOf (c .before .before .before .before .before .args .table .now)) (document .slots) (rules-length _) _ _ (t .i) (t .of)
+      more (rulesOf (c .before .before .before .before .before .before .before .args .table .now)) (document .slots) (rules-length _) _ _ (t .i) (t .of)
           (t .raised) (t .inv .2) (not-false _ (c .if2 .left)) (c .before .loop2-test .left),
     )
 
@@ -136,6 +145,7 @@ strata-spec =
     Inv-loop
     μ-loop
     loop-holds
+    guide-requires
     loop2-holds
     slot-at-requires
     rule-at-requires
