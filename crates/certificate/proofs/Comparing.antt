@@ -58,11 +58,15 @@ module _ (M : AtomSet) (d : ℕ → ℕ) (o : Option Rule) (before after : List 
         where
           go : (p : Option Rule) → o ≡ p → (r : Rule) × (o ≡ some r) × (valid M r ≡ true)
           go none h = absurd (n (D .level ∙ ap (valid-level M d) h))
-          go (some r) h = (r, h, ⊎-elim
-              (λ (v : valid M r ≡ true). v)
-              (λ (v : valid M r ≡ false). absurd (n (D .level ∙ ap (valid-level M d) h
-              ∙ ap (λ (b : Bool). cond b (level d r) zero) v)))
-              (test (valid M r)))
+          go (some r) h = (
+            r,
+            h,
+            ⊎-elim
+                (λ (v : valid M r ≡ true). v)
+                (λ (v : valid M r ≡ false). absurd (n (D .level ∙ ap (valid-level M d) h
+                ∙ ap (λ (b : Bool). cond b (level d r) zero) v)))
+                (test (valid M r)),
+          )
 
       pub head-out : M a ≡ false → Compared M d o before after depth spoiler false
       head-out m = (let w = there in
