@@ -1,7 +1,8 @@
-// A guess: numbers of the atoms by which no dependency goes up. Atoms that depend on each other make a group (Pearce's
-// algorithm, without recursion), and groups are numbered as they are left, those that others depend on first. Nothing is
-// promised of the numbers but that the walk ends: crates/loops tests what they are good for. So a test stands in place
-// of a proof wherever a place is read or written, and sums wrap.
+// A guess: numbers of the atoms by which no dependency goes up. Where rules stand after those that they depend on, one
+// round up the slots finds them. Else atoms that depend on each other make a group (Pearce's algorithm, without
+// recursion), and groups are numbered as they are left, those that others depend on first. Nothing is promised of the
+// numbers but that they are found in the end: crates/loops tests what they are good for. So a test stands in place of a
+// proof wherever a place is read or written, and sums wrap.
 use table::Table;
 
 // No slot: where the rules of a head end.
@@ -424,9 +425,9 @@ fn start() -> Walk {
     }
 }
 
-// A number for each atom that heads a rule, guessed: that of its group. `reach` has for each atom met the earliest count
+// Groups: a number for each atom that heads a rule, that of its group. `reach` has for each atom met the earliest count
 // that it is known to lead to, 0 for one that was not met.
-pub fn order(table: &[u16; Table::WORDS], numbers: &mut [u16; Table::ATOMS]) {
+fn groups(table: &[u16; Table::WORDS], numbers: &mut [u16; Table::ATOMS]) {
     let mut last: [u16; Table::ATOMS] = [NO_SLOT; Table::ATOMS];
     let mut before: [u16; Table::SLOTS] = [NO_SLOT; Table::SLOTS];
     link_all(table, &mut last, &mut before);
@@ -449,4 +450,102 @@ pub fn order(table: &[u16; Table::WORDS], numbers: &mut [u16; Table::ATOMS]) {
         );
         s += 1;
     }
+}
+
+fn greater(a: u16, b: u16) -> u16 {
+    if a < b { b } else { a }
+}
+
+// The least number for the head that is not below those of the entries from one place to before another, each made
+// greater by a step.
+fn needed(
+    table: &[u16; Table::WORDS],
+    slot: u16,
+    from: u16,
+    to: u16,
+    step: u16,
+    numbers: &[u16; Table::ATOMS],
+) -> u16 {
+    let mut least: u16 = 0;
+    let mut place = from;
+    while place < to {
+        let x = entry_in(table, slot, place);
+        least = greater(least, std::num::wrapping_add_u16(noted(numbers, x), step));
+        place += 1;
+    }
+    least
+}
+
+// None of these entries may have a greater number than this one from now on.
+fn limit(
+    table: &[u16; Table::WORDS],
+    slot: u16,
+    from: u16,
+    to: u16,
+    most: &mut [u16; Table::ATOMS],
+    greatest: u16,
+) {
+    let mut place = from;
+    while place < to {
+        let x = entry_in(table, slot, place);
+        let m = noted(most, x);
+        note(most, x, smaller(m, greatest));
+        place += 1;
+    }
+}
+
+// The head of a slot is raised to what its rule needs: do the slots below allow it?
+fn raise(
+    table: &[u16; Table::WORDS],
+    s: usize,
+    numbers: &mut [u16; Table::ATOMS],
+    most: &mut [u16; Table::ATOMS],
+) -> bool {
+    if s >= Table::SLOTS {
+        return true;
+    }
+    let b = Table::WIDTH * s;
+    if word(table, b) == 0 {
+        return true;
+    }
+    let slot = s as u16;
+    let head = word(table, b + 1);
+    let p = word(table, b + 2);
+    let end = entries_in(table, slot);
+    let positive = needed(table, slot, 0, p, 0, numbers);
+    let negative = needed(table, slot, p, end, 1, numbers);
+    let n = greater(noted(numbers, head), greater(positive, negative));
+    if n > noted(most, head) {
+        return false;
+    }
+    note(numbers, head, n);
+    limit(table, slot, 0, p, most, n);
+    limit(table, slot, p, end, most, std::num::wrapping_sub_u16(n, 1));
+    true
+}
+
+// One round up the slots, as long as no head is raised above what a slot below allows.
+fn round(
+    table: &[u16; Table::WORDS],
+    numbers: &mut [u16; Table::ATOMS],
+    most: &mut [u16; Table::ATOMS],
+) -> bool {
+    let mut s: usize = 0;
+    while s < Table::SLOTS {
+        if !raise(table, s, numbers, most) {
+            return false;
+        }
+        s += 1;
+    }
+    true
+}
+
+// A number for each atom, guessed. One round does where rules stand after those that they depend on, and it ends early
+// where they do not; then the groups are sought.
+pub fn order(table: &[u16; Table::WORDS], numbers: &mut [u16; Table::ATOMS]) {
+    let mut most: [u16; Table::ATOMS] = [65535; Table::ATOMS];
+    if round(table, numbers, &mut most) {
+        return;
+    }
+    groups(table, numbers);
 }

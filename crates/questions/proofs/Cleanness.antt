@@ -36,9 +36,9 @@ module _ (xs : List Atom) (from : ℕ) where
       × (Empty xs from m → sum-to xs from ≡ sum-to xs m)
   unfolding sum-to
   sums zero l = (
-    let e : from ≡ 0 = omega arith in
-    let s : sum-to xs from ≡ 0 = ap (sum-to xs) e in
-    (omega arith, (λ z i k n. absurd (omega arith)), λ h. s))
+      let e : from ≡ 0 = omega arith in
+      let s : sum-to xs from ≡ 0 = ap (sum-to xs) e in
+      (omega arith, (λ z i k n. absurd (omega arith)), λ h. s))
   sums (suc m) l = ⊎-elim
       (λ (k : suc m ≤ from). (
       let e : from ≡ suc m = omega arith in

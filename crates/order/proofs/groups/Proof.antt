@@ -1,9 +1,9 @@
--- `order::order` ends and stays within bounds: the measure is the slots that are left. Assumes nothing.
+-- `order::groups` ends and stays within bounds: the measure is the slots that are left. Assumes nothing.
 use Prim.Native.Nat.{_-_}
 use Rattle.theory.specs.Limits.{document}
 use borrow.Author.Needs.{needs}
-use Rattle.order.proofs.order.Statement.{statement}
-use Rattle.order.proofs.order.Tie as tie
+use Rattle.order.proofs.groups.Statement.{statement}
+use Rattle.order.proofs.groups.Tie as tie
 
 abbrev Inv-loop : tie.InvT-loop
 Inv-loop table numbers₀ last before reach₀ trail₀ open₀ w₀ s₀ numbers reach trail «open» w s = Unit {0}
@@ -35,8 +35,8 @@ loop-again c = search needs
 returns : tie.Need-returns Inv-loop μ-loop
 returns c = search needs
 
-pub order-spec : {M : Type 1} → statement M
-order-spec =
+pub groups-spec : {M : Type 1} → statement M
+groups-spec =
     tie.close
     (tie.spec
     Inv-loop
