@@ -18,9 +18,11 @@ ghost use Rattle.dues.specs.Due.{DepthDue, DueIn};
 
 // The level of the slot's rule if it is unmuted and valid, else 0; the depth and the place of the spoiler that the slot
 // has to keep.
+// The two numbers to keep stand apart: side by side they would be compared as one that was written as two, which waits
+// for both.
 pub struct Due {
-    pub level: usize,
     pub depth: u16,
+    pub level: usize,
     pub spoiler: u16,
 }
 
