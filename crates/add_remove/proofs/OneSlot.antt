@@ -8,7 +8,7 @@ use mathlib.Core.Bool.{Bool, true, false}
 use mathlib.Core.List.{List}
 use mathlib.Core.Option.{none, some}
 use lib.Dec.{eqb}
-use lib.ListN.{length, getD, set, length-set}
+use lib.ListN.{getD, set, length-set}
 use lib.Seq.{getD-set-same, getD-set-other}
 use Rattle.theory.specs.Rules.{Program, all, Held, Ascending, Bounded, same}
 use Rattle.theory.specs.Rules as theory
@@ -23,7 +23,7 @@ use Rattle.theory.proofs.Questions.{other-set, passed-bounded}
 use Rattle.table.specs.declared.Rule.{Rule}
 use Rattle.table.specs.declared.Table.{Table}
 use Rattle.table.specs.Rules.{bookOf, programOf, pageOf, slotOf, pastRule}
-use Rattle.table.specs.Words.{words, tableOf, rulesOf, depthAt, spoilerAt}
+use Rattle.table.specs.Words.{tableOf, rulesOf, depthAt, spoilerAt}
 use Rattle.table.specs.Clean.{CleanRule}
 use Rattle.table.specs.Sound.{Sound}
 use Rattle.table.proofs.Programs.{book-length, book-set, program-set}

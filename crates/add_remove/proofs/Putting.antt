@@ -1,25 +1,21 @@
 -- A rule put into a slot of a sound table, free or with a rule that gives way: what the answers to the questions tell,
 -- and the table after it. Assumes nothing.
-use Prim.Native.Nat.{ℕ, _≤_, _<_}
-use native.Mathlib.Omega.{arith}
-use mathlib.Core.Path.{_≡_, refl, sym, _∙_, ap, subst}
+use Prim.Native.Nat.{ℕ, _<_}
+use mathlib.Core.Path.{_≡_, sym, _∙_, ap, subst}
 use mathlib.Core.Logic.{_↔_}
-use mathlib.Core.Bool.{Bool, true, false, _&&_}
-use mathlib.Core.List.{List, [], _∷_}
-use mathlib.Core.Option.{Option, none, some, Option·some-injective}
-use lib.Dec.{leb, ltb}
-use lib.ListN.{length, set}
-use Rattle.theory.specs.Lists.{every}
+use mathlib.Core.Bool.{Bool, true, false}
+use mathlib.Core.List.{List}
+use mathlib.Core.Option.{none, some, Option·some-injective}
+use lib.ListN.{set}
 use Rattle.theory.specs.Rules.{Program, all, rule-on, new-page, Held, Ascending, Bounded, any-rule, same, kept}
 use Rattle.theory.specs.Rules as theory
 use Rattle.theory.specs.Dependencies.{NegativeCycle}
 use Rattle.theory.specs.Questions.{first-no, rule-questions, stratified, with-replaced}
 use Rattle.theory.specs.Limits.{document}
-use Rattle.theory.proofs.Lists.{same-test, and-l, and-r, every-at, leb-le, ltb-lt}
+use Rattle.theory.proofs.Lists.{same-test}
 use Rattle.theory.proofs.Pages.{all-set}
 use Rattle.theory.proofs.Sameness.{same-held, kept-passes, kept-ascending}
 use Rattle.theory.proofs.Cycles.{cycle-found, stratified-iff}
-use Rattle.theory.proofs.Questions.{first-no-asked}
 use Rattle.table.specs.declared.Rule.{Rule}
 use Rattle.table.specs.declared.Table.{Table}
 use Rattle.table.specs.Rules.{bookOf, programOf, ruleOf, slotOf}
