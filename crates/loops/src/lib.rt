@@ -53,13 +53,13 @@ fn descends(table: &[u16; Table::WORDS], numbers: &[u16; Table::ATOMS]) -> bool
 fn without_negation(table: &[u16; Table::WORDS]) -> bool
     ensures { λ r. ⌜ (r ≡ true → Descending (programOf (rulesOf (now (table .entry)))) (λ a. 0)) ⌝ }
 {
-    let mut i: usize = 0;
-    while i < Table::SLOTS {
-        let rule = rule_at(table, i);
+    let mut slot: usize = 0;
+    while slot < Table::SLOTS {
+        let rule = rule_at(table, slot);
         if rule.negatives != 0 {
             return false;
         }
-        i += 1;
+        slot += 1;
     }
     true
 }

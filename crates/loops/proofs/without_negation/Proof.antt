@@ -16,10 +16,10 @@ use Rattle.loops.proofs.without_negation.Statement.{statement}
 use Rattle.loops.proofs.without_negation.Tie as tie
 
 abbrev Inv-loop : tie.InvT-loop
-Inv-loop table i₀ i = (s : ℕ) → s < i → DescendsAt (λ a. 0) (slotOf (getD (rulesOf table) s pastRule))
+Inv-loop table slot₀ slot = (s : ℕ) → s < slot → DescendsAt (λ a. 0) (slotOf (getD (rulesOf table) s pastRule))
 
 abbrev μ-loop : tie.MeasureT-loop
-μ-loop table i₀ i = document .slots - i
+μ-loop table slot₀ slot = document .slots - slot
 
 loop-holds : tie.Need-loop-holds Inv-loop μ-loop
 loop-holds c = λ s l. absurd (omega arith)
@@ -30,8 +30,8 @@ rule-at-requires c κs = search needs
 returns : tie.Need-returns Inv-loop μ-loop
 returns c = λ t. absurd (true≢false (sym t))
 
-add-i : tie.Need-add-i Inv-loop μ-loop
-add-i c = search needs
+add-slot : tie.Need-add-slot Inv-loop μ-loop
+add-slot c = search needs
 
 loop-less : tie.Need-loop-less Inv-loop μ-loop
 loop-less c = search needs
@@ -57,7 +57,7 @@ without-negation-spec =
     loop-holds
     rule-at-requires
     returns
-    add-i
+    add-slot
     loop-less
     loop-again
     returns-2)
