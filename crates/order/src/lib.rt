@@ -4,6 +4,8 @@
 // of a proof wherever a place is read or written, and sums wrap.
 use table::Table;
 
+pub mod by_order; // by_order.rt: the slots in the order guessed
+
 // No slot: where the rules of a head end.
 const NO_SLOT: u16 = 256;
 
@@ -437,7 +439,15 @@ pub fn order(table: &[u16; Table::WORDS], numbers: &mut [u16; Table::ATOMS]) {
     let mut s: usize = 0;
     while s < Table::SLOTS {
         w = from_slot(
-            w, s, table, &last, &before, &mut reach, numbers, &mut trail, &mut open,
+            w,
+            s,
+            table,
+            &last,
+            &before,
+            &mut reach,
+            numbers,
+            &mut trail,
+            &mut open,
         );
         s += 1;
     }
