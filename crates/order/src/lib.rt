@@ -5,6 +5,8 @@
 // proof wherever a place is read or written, and sums wrap.
 use table::Table;
 
+pub mod by_order; // by_order.rt: the slots in the order guessed
+
 // No slot: where the rules of a head end.
 const NO_SLOT: u16 = 256;
 

@@ -1,5 +1,5 @@
 // The strata of a table's rules, muted or not: for each atom the most negative steps on a path of dependencies from it.
-use guess::slots_in_order;
+use order::by_order::slots_in_order;
 use rule::negative_end;
 use rule::positive_end;
 use table::Atom;
@@ -23,8 +23,6 @@ ghost use Rattle.table.specs.Rules.{numbers, slotOf, programOf};
 ghost use Rattle.table.specs.Words.{rulesOf};
 ghost use Rattle.strata.specs.Answer.{StrataOf};
 ghost use Rattle.strata.specs.Needed.{plus, needed, AllBelow, EntriesBelow, Raised, Attained, Guided};
-
-mod guess; // guess.rt: a guessed order of the slots
 
 // Rounds that are made before an order is guessed: in most tables they are more than enough.
 const GUESS: usize = 12;
