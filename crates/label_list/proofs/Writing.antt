@@ -9,7 +9,6 @@ use mathlib.Core.Option.{Option, none, some}
 use lib.ListN.{length, set, length-append}
 use Rattle.theory.specs.Rules.{Program}
 use Rattle.theory.specs.Models.{AtomSet}
-use Rattle.theory.specs.Labels.{Label}
 use Rattle.theory.specs.Questions.{is-in-label}
 use Rattle.theory.specs.Certificate.{depth-in, slot-in}
 use Rattle.theory.specs.Slots.{kept-from, label-from, occurs?}

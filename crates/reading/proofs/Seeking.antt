@@ -2,9 +2,9 @@
 use Prim.Native.Nat.{ℕ, suc, _+_, _≤_, _<_}
 use native.Mathlib.Omega.{arith}
 use native.Mathlib.Numerals.{add-one}
-use mathlib.Core.Path.{_≡_, refl, sym, _∙_, ap, ap₂}
+use mathlib.Core.Path.{_≡_, sym, _∙_, ap, ap₂}
 use mathlib.Core.Bool.{Bool, true, false, not, _&&_}
-use mathlib.Core.List.{List, [], _∷_}
+use mathlib.Core.List.{List}
 use mathlib.Core.Option.{Option, none, some}
 use lib.Dec.{eqb}
 use lib.ListN.{length, getD, drop, drop-of-length-le}
@@ -12,7 +12,7 @@ use lib.Seq.{drop-cons}
 use Rattle.theory.specs.Rules.{Program}
 use Rattle.theory.proofs.Lists.{eqb-of, eqb-not}
 use Rattle.table.specs.declared.Rule.{Rule}
-use Rattle.table.specs.Rules.{slotOf, programOf, pastRule, ruleOf}
+use Rattle.table.specs.Rules.{slotOf, programOf, pastRule}
 use Rattle.table.proofs.Programs.{program-at, program-length, slot-free, slot-held}
 use Rattle.theory.specs.Slots.{keeps?, kept-from}
 

@@ -2,16 +2,14 @@
 -- their depths and supporting slots. Assumes nothing.
 use Prim.Native.Nat.{ℕ}
 use mathlib.Core.Path.{_≡_, refl, sym, _∙_, ap, subst, fun-ext}
-use mathlib.Core.Logic.{⊎-elim}
 use mathlib.Core.Bool.{Bool, true, false, true≢false}
 use Rattle.theory.specs.Rules.{Bounded, Pages, Program, active, all}
 use Rattle.theory.specs.Models.{AtomSet}
 use Rattle.theory.specs.Derivations.{Depth}
 use Rattle.theory.specs.Labels.{Label, Labelled, Supporting, absent, in-at, is-absent, is-in, is-out, out}
 use Rattle.theory.specs.Questions.{is-in-label}
-use Rattle.theory.specs.Certificate.{depth-in, kept-in, slot-in}
+use Rattle.theory.specs.Certificate.{depth-in, slot-in}
 use Rattle.theory.specs.Limits.{document}
-use Rattle.theory.proofs.Lists.{test}
 use Rattle.theory.proofs.Labels.{in-occurs-held}
 use Rattle.theory.proofs.Questions.{passed-bounded}
 use Rattle.theory.proofs.Slots.{labelled}

@@ -25,7 +25,7 @@ ghost use Rattle.theory.specs.Limits.{document};
 ghost use Rattle.table.specs.Sets.{member, number};
 ghost use Rattle.table.specs.Rules.{programOf, slotOf};
 ghost use Rattle.table.specs.Words.{rulesOf};
-ghost use Rattle.table.specs.Labels.{absentLabel, labelAt, labelFrom, labelOf};
+ghost use Rattle.table.specs.Labels.{labelAt, labelFrom, labelOf};
 ghost use Rattle.reading.specs.Assembling.{labelFor, Assembled};
 
 // Does a slot with this rule and this depth support the atom?

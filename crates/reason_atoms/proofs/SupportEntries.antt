@@ -5,8 +5,7 @@ use native.Mathlib.Omega.{arith}
 use mathlib.Core.Path.{_≡_, refl, sym, _∙_, ap, ap₂, subst}
 use mathlib.Core.Logic.{inl, inr, ⊎-elim, _↔_}
 use mathlib.Core.Bool.{Bool, true, false}
-use mathlib.Core.List.{List, [], _∷_}
-use mathlib.Core.List.{List·Memᴰ·head, List·Memᴰ·tail, List·Memᴰ·cases-cons, List·Memᴰ·not-nil}
+use mathlib.Core.List.{List, []}
 use lib.ListN.{length, getD, set, take, replicate, length-map, length-take, length-set, length-replicate}
 use lib.ListN.{List·getD-map, List·getD-eq-default}
 use lib.Seq.{getD-take, getD-set-same, getD-set-other}

@@ -1,5 +1,5 @@
 -- `queries::answers::tell_spoiler` meets its contract. Assumes nothing.
-use Prim.Native.Nat.{suc, _-_, _≤_, _<_}
+use Prim.Native.Nat.{_-_, _<_}
 use native.Mathlib.Omega.{arith}
 use mathlib.Core.Path.{_≡_}
 use lib.ListN.{length, length-map}
