@@ -129,7 +129,7 @@ file-marked n c S C (list.refused f T e) = record { list = C; sends = λ i l h. 
 file-marked n {t} c S C (list.accepted u T e Z h U) =
     let a = asked-file (held t) n c (of-checklist (held t) n C) e in
     let m = subst (λ (D : Pages). Moved (held t) D n c) (sym h)
-    (moved (held t) n C (S .labels .single) (S .labels .slots) c (a .0) (a .1) (a .2)) in
+    (moved (held t) n C (S .rules .single) (S .rules .slots) c (a .0) (a .1) (a .2)) in
     record { list = m .list; sends = m .sends; skips = m .skips }
 
 -- A step that makes a call on a file, and one that opens a checklist, as their contracts say.

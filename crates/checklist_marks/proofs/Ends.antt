@@ -122,7 +122,7 @@ module _ (t : Table) (S : Sound t) (n a : ℕ) (C : Checklist (held t) n) (m : i
   pub same-marked : any-rule (same (fact a)) (all (held t)) ≡ marked (held t) a
   unfolding sort
   same-marked =
-      let w = same-held document (all (held t)) (fact a) (S .labels .ascending) (fact-passes a low-mark) in
+      let w = same-held document (all (held t)) (fact a) (S .rules .ascending) (fact-passes a low-mark) in
       same-test _ _
       (λ u. (let h = w .0 u in marked-of (all (held t)) a (h .0) (h .1)))
       (λ u. w .1 (marked-at (all (held t)) a u))
@@ -133,7 +133,7 @@ module _ (t : Table) (S : Sound t) (n a : ℕ) (C : Checklist (held t) n) (m : i
       ≡ first-no (asks 5 (not (any-rule (same (fact a)) (all (held t)))) ∷ [])
   unfolding every distinct
   add-asks =
-      let w = free-slot (held t) n C (S .labels .single) (S .labels .slots) in
+      let w = free-slot (held t) n C (S .rules .single) (S .rules .slots) in
       let e : is-some (lowest-free (all (held t))) ≡ true = ap is-some (w .1) in
       let acyclic : stratified (with-added (all (held t)) (fact a)) ≡ true =
       ap stratified (sym (rules-added (held t) (w .0) a (w .1)))
@@ -208,7 +208,7 @@ module _
         → first-no (slot-questions document (all (held t)) s) ≡ none
     slot-asks S s h =
         let b = held-below (all (held t)) s (fact a) h in
-        first-no-yes (asks 8 _) _ (lt-ltb s (document .slots) (omega (arith, all-length (held t), S .labels .slots)))
+        first-no-yes (asks 8 _) _ (lt-ltb s (document .slots) (omega (arith, all-length (held t), S .rules .slots)))
         ∙ first-no-yes (asks 9 _) [] (ap is-some h) ∙ (unfold first-no in refl)
 
     mark-removed :
@@ -227,7 +227,7 @@ module _
         let w = mark-slot S (told-in t a E refl) refl in
         ends.accepted u S (is-allowed (held t) c n e l (asks-mark ∙ marked-of (all (held t)) a (s .0) (w .0))) Z
         (h ∙ sym (removes
-        ∙ ap (λ (k : ℕ). set (held t) k none) (fact-slot (all (held t)) (S .labels .single) a (s .0) (w .0)))) U
+        ∙ ap (λ (k : ℕ). set (held t) k none) (fact-slot (all (held t)) (S .rules .single) a (s .0) (w .0)))) U
 
 -- A call on a file: 15 and 20 as they were asked, or what is done to the mark of a file on the list.
 module _ (t : Table) (c : FileCall) (m : Mark) {x : ChangeAnswer} {u : Table} where

@@ -3,6 +3,7 @@ use native.Mathlib.Omega.{arith}
 use mathlib.Core.Path.{_≡_}
 use mathlib.Core.Option.{some}
 use Rattle.table.specs.declared.Table.{Table}
+use Rattle.table.specs.Words.{tableOf}
 use Rattle.calls.specs.Contracts.{held}
 use Rattle.checklist_frame.specs.Frame.{files-of}
 use Rattle.checklist_frame.proofs.Frames.{checklist-of, counted-none, counted-some}
@@ -15,13 +16,13 @@ use Rattle.checklist.proofs.complete.Tie as tie
 -- where a number of files was counted, it is that of the rules
 files :
     (c : tie.Else1)
-    → files-of (held (c .before .before .before .args .table)) ≡ some (c .before .file-count .result)
+    → files-of (held (tableOf (c .before .before .args .table .now))) ≡ some (c .before .file-count .result)
 files c =
     let f = c .before in
-    counted-some (held (f .before .before .args .table)) _ (f .file-count .ensures) (c .if1 .left)
+    counted-some (held (tableOf (f .before .args .table .now))) _ (f .file-count .ensures) (c .if1 .left)
 
 abbrev table : tie.After-good-atom → Table
-table c = c .before .before .before .before .args .table
+table c = tableOf (c .before .before .before .args .table .now)
 
 file-count-requires : tie.Need-file-count-requires
 file-count-requires c κs = search needs
@@ -29,7 +30,7 @@ file-count-requires c κs = search needs
 returns : tie.Need-returns
 returns c =
     let f = c .before in
-    unsound (λ S. counted-none (held (f .before .before .args .table)) _ (f .file-count .ensures) (c .if1 .taken))
+    unsound (λ S. counted-none (held (tableOf (f .before .args .table .now))) _ (f .file-count .ensures) (c .if1 .taken))
 
 cast-good-atom : tie.Need-cast-good-atom
 cast-good-atom c = record { fits = omega (arith, checklist-of _ _ (files c) .high) }

@@ -1,6 +1,7 @@
 -- `checklist::is_sound` tells whether the table is sound. Assumes nothing.
 use native.Mathlib.Omega.{arith}
 use Rattle.theory.proofs.Lists.{is-not}
+use Rattle.table.specs.Words.{tableOf}
 use Rattle.checklist_frame.proofs.Slots.{told-yes}
 use Rattle.checklist.proofs.Labels.{told-absent, told-out, told-in, told-refused}
 use borrow.Author.Needs.{needs}
@@ -26,23 +27,23 @@ returns : tie.Need-returns
 returns c =
     let told = c .before in
     let l = told .before .before in
-    is-not (told-refused (l .before .args .table) 0 (omega arith) (l .label .ensures) (told .told .given .1) .1)
+    is-not (told-refused (tableOf (l .before .args .table .now)) 0 (omega arith) (l .label .ensures) (told .told .given .1) .1)
 
 returns-2 : tie.Need-returns-2
 returns-2 c =
     let l = c .before .before in
-    told-yes (told-absent (l .before .args .table) 0 (l .label .ensures) (c .enum-told .given .1) .sound)
+    told-yes (told-absent (tableOf (l .before .args .table .now)) 0 (l .label .ensures) (c .enum-told .given .1) .sound)
 
 returns-3 : tie.Need-returns-3
 returns-3 c =
     let l = c .before .before in
-    told-yes (told-out (l .before .args .table) 0 (l .label .ensures) (c .enum-told2 .given .1) .sound)
+    told-yes (told-out (tableOf (l .before .args .table .now)) 0 (l .label .ensures) (c .enum-told2 .given .1) .sound)
 
 returns-4 : tie.Need-returns-4
 returns-4 c =
     let told = c .before in
     let l = told .before .before in
-    told-yes (told-in (l .before .args .table) 0 (l .label .ensures) (told .told2 .given .1) .sound)
+    told-yes (told-in (tableOf (l .before .args .table .now)) 0 (l .label .ensures) (told .told2 .given .1) .sound)
 
 pub is-sound-spec : {M : Type 1} → statement M
 is-sound-spec =

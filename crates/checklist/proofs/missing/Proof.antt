@@ -4,6 +4,7 @@ use mathlib.Core.List.{[]}
 use Rattle.theory.specs.Questions.{asks, is-some}
 use Rattle.theory.proofs.Lists.{clash, not-true, not-false}
 use Rattle.theory.proofs.Questions.{first-no-here}
+use Rattle.table.specs.Words.{tableOf}
 use Rattle.refusals.specs.declared.Refusal.the-variants.{TableUnsound}
 use Rattle.calls.specs.Contracts as contract
 use Rattle.calls.specs.Contracts.{held}
@@ -27,9 +28,9 @@ file-count-requires c κs = search needs
 returns-2 : tie.Need-returns-2
 returns-2 c =
     let f = c .before in
-    let i = f .before .before in
+    let i = f .before in
     let s = i .before in
-    let t = s .before .before .args .table in
+    let t = tableOf (s .before .before .args .table .now) in
     contract.refused TableUnsound (s .is-sound .ensures .0 (not-false _ (i .if1 .left)))
     (first-no-here (asks 15 _) [] (ap is-some (counted-none (held t) _ (f .file-count .ensures) (c .if2 .taken))))
 
@@ -38,9 +39,9 @@ arrays-of-requires c κs = search needs
 
 lacking-requires : tie.Need-lacking-requires
 lacking-requires c κs =
-    let i2 = c .before .before .before .before in
+    let i2 = c .before .before .before in
     let f = i2 .before in
-    let t = f .before .before .before .before .before .args .table in
+    let t = tableOf (f .before .before .before .before .args .table .now) in
     let e = counted-some (held t) _ (f .file-count .ensures) (i2 .if2 .left) in
     checklist-of _ _ e .high
 
@@ -58,11 +59,11 @@ returns-3 c =
     let w = c .before .before in
     let l = w .before .before .before in
     let k = l .before .before .before in
-    let i2 = k .before .before in
+    let i2 = k .before in
     let f = i2 .before in
-    let i = f .before .before in
+    let i = f .before in
     let s = i .before in
-    let t = s .before .before .args .table in
+    let t = tableOf (s .before .before .args .table .now) in
     missing-ends t (s .is-sound .ensures .0 (not-false _ (i .if1 .left))) _
     (counted-some (held t) _ (f .file-count .ensures) (i2 .if2 .left)) (k .arrays-of .result) (k .arrays-of .ensures) _
     (l .lacking .ensures) (w .write-marked .ensures)

@@ -4,6 +4,7 @@ use native.Mathlib.Omega.{arith}
 use mathlib.Core.Path.{_≡_, sym, _∙_}
 use mathlib.Core.Option.{some}
 use Rattle.theory.proofs.Lists.{clash, not-true, not-false}
+use Rattle.table.specs.Words.{tableOf}
 use Rattle.calls.specs.Contracts.{held}
 use Rattle.checklist_frame.specs.Frame.{files-of}
 use Rattle.checklist_frame.proofs.Frames.{checklist-of, counted-none, counted-some, on-list-few}
@@ -15,13 +16,13 @@ use Rattle.checklist_marks.proofs.ask_file.Tie as tie
 -- where a number of files was counted, it is that of the rules
 files :
     (c : tie.Else1)
-    → files-of (held (c .before .before .before .args .table)) ≡ some (c .before .file-count .result)
+    → files-of (held (tableOf (c .before .before .args .table .now))) ≡ some (c .before .file-count .result)
 files c =
     let f = c .before in
-    counted-some (held (f .before .before .args .table)) _ (f .file-count .ensures) (c .if1 .left)
+    counted-some (held (tableOf (f .before .args .table .now))) _ (f .file-count .ensures) (c .if1 .left)
 
 abbrev file : tie.After-on-list → ℕ
-file c = c .before .before .before .before .args .file
+file c = c .before .before .before .args .file
 
 file-count-requires : tie.Need-file-count-requires
 file-count-requires c κs = search needs
@@ -29,7 +30,7 @@ file-count-requires c κs = search needs
 returns : tie.Need-returns
 returns c =
     let f = c .before in
-    unsound (λ S. counted-none (held (f .before .before .args .table)) _ (f .file-count .ensures) (c .if1 .taken))
+    unsound (λ S. counted-none (held (tableOf (f .before .args .table .now))) _ (f .file-count .ensures) (c .if1 .taken))
 
 on-list-requires : tie.Need-on-list-requires
 on-list-requires c κs = checklist-of _ _ (files c) .high

@@ -13,7 +13,8 @@ add-mark-requires c κs = search needs
 returns : tie.Need-returns
 returns c =
     let ask = c .before in
-    skipped-ends (ask .before .args .table) (ask .before .args .file) (ask .ask-file .ensures) (c .add-mark .ensures)
+    let s = ask .before .before .before in
+    skipped-ends (s .args .t1) (s .args .file) (ask .ask-file .ensures) (c .add-mark .ensures)
 
 pub file-skipped-spec : {M : Type 1} → statement M
 file-skipped-spec = tie.close (tie.spec ask-file-requires add-mark-requires returns)

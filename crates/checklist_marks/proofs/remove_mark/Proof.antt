@@ -1,4 +1,5 @@
 -- `checklist_marks::remove_mark` removes the fact of the mark that passed. Assumes nothing.
+use Rattle.checklist.proofs.Labels.{told-in}
 use Rattle.checklist_marks.specs.Parts.{FactRemoved, MarkRemoved}
 use Rattle.checklist_marks.proofs.Ends.{handed, hands-on, does}
 use Rattle.checklist_marks.proofs.Ends.{mark-freed, mark-out, mark-absent, mark-unsound}
@@ -8,7 +9,7 @@ use Rattle.checklist_marks.proofs.remove_mark.Tie as tie
 
 -- the step in which the mark passed, from the one in which its label was asked
 abbrev passed-of : tie.After-label → tie.After-asked2
-passed-of l = l .before .before .before
+passed-of l = l .before .before .before .before .before
 
 enum-known-asked : tie.Need-enum-known-asked
 enum-known-asked c = search needs
@@ -28,11 +29,15 @@ label-requires c κs = search needs
 enum-known-told : tie.Need-enum-known-told
 enum-known-told c = search needs
 
-cast-remove : tie.Need-cast-remove
-cast-remove c = search needs
+cast-remove-from-sound : tie.Need-cast-remove-from-sound
+cast-remove-from-sound c = search needs
 
-remove-requires : tie.Need-remove-requires
-remove-requires c κs = search needs
+remove-from-sound-requires : tie.Need-remove-from-sound-requires
+remove-from-sound-requires c κs =
+    let told = c .before .before in
+    let l = told .before .before in
+    let a = passed-of l .before .before .args in
+    told-in (a .t1) _ (l .label .ensures) (told .told .given .1) .sound
 
 enum-known-told-2 : tie.Need-enum-known-told-2
 enum-known-told-2 c = search needs
@@ -49,12 +54,15 @@ refuse-requires-3 c κs = search needs
 enum-told-2 : tie.Need-enum-told-2
 enum-told-2 c = search needs
 
+refuse-requires-4 : tie.Need-refuse-requires-4
+refuse-requires-4 c κs = search needs
+
 returns : tie.Need-returns
 returns c =
     let told = c .before .before in
     let a = told .before .before .args in
-    handed (MarkRemoved (a .table) (a .asked)) _ (c .refuse .ensures)
-    (hands-on (FactRemoved (a .table)) (a .table) (told .asked .given .1))
+    handed (MarkRemoved (a .t1) (a .asked)) _ (c .refuse .ensures)
+    (hands-on (FactRemoved (a .t1)) (a .t1) (told .asked .given .1))
 
 returns-2 : tie.Need-returns-2
 returns-2 c =
@@ -62,8 +70,8 @@ returns-2 c =
     let l = told .before .before in
     let passed = passed-of l in
     let a = passed .before .before .args in
-    does (FactRemoved (a .table)) (a .table) (passed .asked2 .given .1)
-    (mark-freed (a .table) _ (l .label .ensures) (told .told .given .1) (c .remove .ensures))
+    does (FactRemoved (a .t1)) (a .t1) (passed .asked2 .given .1)
+    (mark-freed (a .t1) _ (l .label .ensures) (told .told .given .1) (c .remove-from-sound .ensures))
 
 returns-3 : tie.Need-returns-3
 returns-3 c =
@@ -71,9 +79,9 @@ returns-3 c =
     let l = unsound .before .before in
     let passed = passed-of l in
     let a = passed .before .before .args in
-    let done = does (FactRemoved (a .table)) (a .table) (passed .asked2 .given .1)
-    (mark-unsound (a .table) _ (l .label .ensures) (unsound .told2 .given .1)) in
-    handed (MarkRemoved (a .table) (a .asked)) _ (c .refuse2 .ensures) done
+    let done = does (FactRemoved (a .t1)) (a .t1) (passed .asked2 .given .1)
+    (mark-unsound (a .t1) _ (l .label .ensures) (unsound .told2 .given .1)) in
+    handed (MarkRemoved (a .t1) (a .asked)) _ (c .refuse2 .ensures) done
 
 returns-4 : tie.Need-returns-4
 returns-4 c =
@@ -81,9 +89,9 @@ returns-4 c =
     let l = absent .before .before in
     let passed = passed-of l in
     let a = passed .before .before .args in
-    let done = does (FactRemoved (a .table)) (a .table) (passed .asked2 .given .1)
-    (mark-absent (a .table) _ (l .label .ensures) (absent .enum-told .given .1)) in
-    handed (MarkRemoved (a .table) (a .asked)) _ (c .refuse3 .ensures) done
+    let done = does (FactRemoved (a .t1)) (a .t1) (passed .asked2 .given .1)
+    (mark-absent (a .t1) _ (l .label .ensures) (absent .enum-told .given .1)) in
+    handed (MarkRemoved (a .t1) (a .asked)) _ (c .refuse3 .ensures) done
 
 returns-5 : tie.Need-returns-5
 returns-5 c =
@@ -91,12 +99,9 @@ returns-5 c =
     let l = out .before .before in
     let passed = passed-of l in
     let a = passed .before .before .args in
-    let done = does (FactRemoved (a .table)) (a .table) (passed .asked2 .given .1)
-    (mark-out (a .table) _ (l .label .ensures) (out .enum-told2 .given .1)) in
-    handed (MarkRemoved (a .table) (a .asked)) _ (c .refuse4 .ensures) done
-
-refuse-requires-4 : tie.Need-refuse-requires-4
-refuse-requires-4 c κs = search needs
+    let done = does (FactRemoved (a .t1)) (a .t1) (passed .asked2 .given .1)
+    (mark-out (a .t1) _ (l .label .ensures) (out .enum-told2 .given .1)) in
+    handed (MarkRemoved (a .t1) (a .asked)) _ (c .refuse4 .ensures) done
 
 pub remove-mark-spec : {M : Type 1} → statement M
 remove-mark-spec =
@@ -108,8 +113,8 @@ remove-mark-spec =
     cast-label
     label-requires
     enum-known-told
-    cast-remove
-    remove-requires
+    cast-remove-from-sound
+    remove-from-sound-requires
     enum-known-told-2
     refuse-requires-2
     enum-told

@@ -13,7 +13,8 @@ remove-mark-requires c κs = search needs
 returns : tie.Need-returns
 returns c =
     let ask = c .before in
-    withdrawn-ends (ask .before .args .table) (ask .before .args .file) (ask .ask-file .ensures)
+    let s = ask .before .before .before in
+    withdrawn-ends (s .args .t1) (s .args .file) (ask .ask-file .ensures)
     (c .remove-mark .ensures)
 
 pub skip-withdrawn-spec : {M : Type 1} → statement M
