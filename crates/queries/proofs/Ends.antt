@@ -24,14 +24,16 @@ use Rattle.table.specs.declared.Rule.{Rule}
 use Rattle.table.specs.declared.Slot.{Slot}
 use Rattle.table.specs.declared.Table.{Table}
 use Rattle.table.specs.Sets.{member, number, Flags}
-use Rattle.table.specs.Rules.{ruleOf}
+use Rattle.table.specs.Rules.{pastRule, ruleOf}
 use Rattle.table.specs.Words.{rulesOf, spoilerAt}
-use Rattle.table.specs.Clean.{freeRule}
+use Rattle.table.specs.Clean.{CleanRule, freeRule}
 use Rattle.table.specs.Labels.{labelAt, labelOf}
 use Rattle.table.specs.Sound.{Sound}
 use Rattle.table.specs.declared.arrays.LabelArrays.{LabelArrays}
 use Rattle.table.specs.Arrays.{ArraysOf}
+use Rattle.table.proofs.Entries.{there}
 use Rattle.table.proofs.Programs.{page-free, page-there}
+use Rattle.table.proofs.Words.{rules-length}
 use Rattle.refusals.specs.declared.Refusal.{Refusal}
 use Rattle.calls.specs.declared.AskedAtom.{AskedAtom}
 use Rattle.calls.specs.declared.AskedAtom.the-variants.{Passed, Refused}
@@ -40,7 +42,10 @@ use Rattle.calls.specs.declared.ListAnswer.the-variants as listed
 use Rattle.calls.specs.declared.LabelAnswer.{LabelAnswer}
 use Rattle.calls.specs.declared.SpoilerAnswer.{SpoilerAnswer}
 use Rattle.calls.specs.declared.SpoilerAnswer.the-variants as spoilt
-use Rattle.calls.specs.Asking.{AskAtomEnds}
+use Rattle.calls.specs.declared.AskedSlot.{AskedSlot}
+use Rattle.calls.specs.declared.AskedSlot.the-variants as asked-slot
+use Rattle.calls.specs.Asking.{AskAtomEnds, AskSlotEnds}
+use Rattle.calls.specs.Asking as asking
 use Rattle.calls.specs.Answers.{tellLabel, tellPage, tellSpoiler}
 use Rattle.calls.specs.Contracts.{held, LabelEnds, SpoilerEnds, ListEnds}
 use Rattle.calls.specs.Contracts as contract
@@ -49,6 +54,11 @@ use Rattle.reading.proofs.SoundArrays.{flag-model, flags-model, in-supporting, 
 use Rattle.written_lists.specs.Lists.{below}
 use Rattle.written_lists.specs.Written.{Written, short, fits}
 use Rattle.written_lists.proofs.Lists.{flags-list}
+use Rattle.queries.specs.declared.RuleNumbers.{RuleNumbers}
+use Rattle.queries.specs.declared.RuleAnswer.the-variants as told
+use Rattle.queries.specs.RuleTold.{noNumbers, plainNumbers, RuleEnds}
+use Rattle.queries.specs.RuleTold as told-rule
+use Rattle.queries.proofs.Told.{plain-told}
 
 -- Every atom of a sound table's unmuted rules is below the number of atoms.
 pub active-low : (t : Table) → Sound t → Bounded (active (held t)) (document .atoms)
@@ -102,9 +112,9 @@ module _ (B : Pages) (M : AtomSet) (s place : ℕ) (kept : place ≡ slot-spoile
       go true e = refl
       go false e = ap tellSpoiler (ap (spoiler-at (p .rule)) e ∙ spoiler-read M (p .rule))
 
--- How a call on a slot ends that tells of its rule q, by the place that the slot keeps.
+-- The rule q that was read of a slot: its page, what the slot's place tells of it, and its numbers.
 module _ (t : Table) (s : ℕ) (x : Slot) (Q : PassesSlot t s x) (q : Rule)
-    (e : q ≡ getD (rulesOf (t .words)) (x .0) freeRule) (place : ℕ) (kept : place ≡ spoilerAt (t .words) (x .0)) where
+    (e : q ≡ getD (rulesOf (t .words)) (x .0) freeRule) where
   is : q ≡ getD (rulesOf (t .words)) s freeRule
   is = e ∙ ap (λ (z : ℕ). getD (rulesOf (t .words)) z freeRule) (Q .slot)
 
@@ -113,30 +123,46 @@ module _ (t : Table) (s : ℕ) (x : Slot) (Q : PassesSlot t s x) (q : Rule)
       Option·none-ne-some (ruleOf q)
       (sym (all-at (held t) s ∙ ap rule-on (page-is t s q is ∙ page-free q z)) ∙ slot-holds t s q is (Q .yes))
 
-  page : Page
+  abbrev page : Page
   page = record { rule = ruleOf q; muted = leb 2 (q .state) }
 
   holds : getD (held t) s none ≡ some page
-  unfolding page
   holds = page-is t s q is ∙ page-there q some-state
 
-  kept-here : place ≡ slot-spoiler (held t) (Q .sound .kept .model) s
-  kept-here =
-      kept ∙ ap (spoilerAt (t .words)) (Q .slot)
-      ∙ Q .sound .kept .spoilers s (omega (arith, slot-low t s x Q, Q .sound .rules .slots))
+  module _ (place : ℕ) (kept : place ≡ spoilerAt (t .words) (x .0)) where
+    kept-here : place ≡ slot-spoiler (held t) (Q .sound .kept .model) s
+    kept-here =
+        kept ∙ ap (spoilerAt (t .words)) (Q .slot)
+        ∙ Q .sound .kept .spoilers s (omega (arith, slot-low t s x Q, Q .sound .rules .slots))
 
-  pub spoiler-low : place ≤ length (entries (ruleOf q))
-  unfolding page
-  spoiler-low = place-low (held t) (Q .sound .kept .model) s place kept-here page holds
+    pub spoiler-low : place ≤ length (entries (ruleOf q))
+    spoiler-low = place-low (held t) (Q .sound .kept .model) s place kept-here page holds
 
-  pub spoiler-ends :
-      (r : SpoilerAnswer) → r ≡ cond (leb 2 (q .state)) spoilt.Muted (tellSpoiler (spoiler-at (ruleOf q) place))
-      → SpoilerEnds t s r
-  unfolding page
-  spoiler-ends r u =
-      let M = Q .sound .kept .model in
-      let told : r ≡ tellPage M page = u ∙ place-told (held t) M s place kept-here page holds in
-      rw told (contract.accepted M page (Q .sound) (Q .yes) holds (Q .sound .kept .admissible))
+    pub spoiler-ends :
+        (r : SpoilerAnswer) → r ≡ cond (leb 2 (q .state)) spoilt.Muted (tellSpoiler (spoiler-at (ruleOf q) place))
+        → SpoilerEnds t s r
+    spoiler-ends r u =
+        let M = Q .sound .kept .model in
+        let told : r ≡ tellPage M page = u ∙ place-told (held t) M s place kept-here page holds in
+        rw told (contract.accepted M page (Q .sound) (Q .yes) holds (Q .sound .kept .admissible))
+
+  pub rule-ends :
+      (k : RuleNumbers) → k ≡ plainNumbers q → length (q .entries) ≡ document .entries → RuleEnds t s told.Held k
+  rule-ends k u long =
+      let low = slot-low t s x Q in
+      let clean : CleanRule q = rw (is ∙ there (rulesOf (t .words)) s freeRule pastRule
+      (omega (arith, rules-length (t .words)))) (Q .sound .clean s low) in
+      rw (u ∙ plain-told q clean long) (told-rule.accepted page (Q .sound) (Q .yes) holds)
+
+-- One of 15, 8 and 9 was answered no: so ends the call that tells a rule.
+pub rule-refused :
+    (t : Table) (s : ℕ) (r : AskedSlot) → AskSlotEnds t s r → (f : Refusal) → r ≡ asked-slot.Refused f
+    → (k : RuleNumbers) → k ≡ noNumbers → RuleEnds t s (told.Refused f) k
+rule-refused t s r E f e k z = rw z (go f (subst (AskSlotEnds t s) e E))
+  where
+    go : (f : Refusal) → AskSlotEnds t s (asked-slot.Refused f) → RuleEnds t s (told.Refused f) noNumbers
+    go f (asking.unsound n) = told-rule.unsound n
+    go f (asking.refused g S q) = told-rule.refused g S q
 
 -- How a call ends that lists a set of an atom: it is refused as the questions before are, or what was found and written
 -- is the set, in the model M.

@@ -1,9 +1,11 @@
-// One label, one spoiler, told as an answer.
+// One label, one spoiler, one rule, told as an answer.
+use super::RuleNumbers;
 use calls::LabelAnswer;
 use calls::SpoilerAnswer;
 use rule::positive_end;
 use table::Label;
 use table::Rule;
+use table::Table;
 ghost use mathlib.Core.Path.{_≡_};
 ghost use mathlib.Core.Bool.{cond};
 ghost use Prim.Native.Nat.{_≤_};
@@ -14,7 +16,9 @@ ghost use Rattle.theory.specs.Slots.{spoiler-at};
 ghost use Rattle.table.specs.Rules.{ruleOf};
 ghost use Rattle.table.specs.Labels.{labelOf};
 ghost use Rattle.calls.specs.declared.SpoilerAnswer.the-variants.{Muted};
+ghost use Rattle.theory.specs.Limits.{document};
 ghost use Rattle.calls.specs.Answers.{tellLabel, tellSpoiler};
+ghost use Rattle.queries.specs.RuleTold.{noNumbers, plainNumbers};
 
 // The answer that tells a label.
 pub fn tell_label(label: Label) -> LabelAnswer
@@ -56,4 +60,38 @@ pub fn tell_rule(rule: Rule, place: u16) -> SpoilerAnswer
         return SpoilerAnswer::Muted;
     }
     tell_spoiler(rule, place)
+}
+
+// The numbers that stand in a slot for its rule.
+pub fn tell_numbers(rule: Rule) -> RuleNumbers
+    ensures { λ r. ⌜ (r ≡ plainNumbers rule) × (length (rule .entries) ≡ document .entries) ⌝ }
+{
+    let e0 = rule.entries[0];
+    let e1 = rule.entries[1];
+    let e2 = rule.entries[2];
+    let e3 = rule.entries[3];
+    let e4 = rule.entries[4];
+    let e5 = rule.entries[5];
+    let e6 = rule.entries[6];
+    let e7 = rule.entries[7];
+    RuleNumbers {
+        head: rule.head.0,
+        muted: rule.state > 1,
+        positives: rule.positives,
+        negatives: rule.negatives,
+        entries: [e0.0, e1.0, e2.0, e3.0, e4.0, e5.0, e6.0, e7.0],
+    }
+}
+
+// The numbers of no rule.
+pub fn no_numbers() -> RuleNumbers
+    ensures { λ r. ⌜ r ≡ noNumbers ⌝ }
+{
+    RuleNumbers {
+        head: 0,
+        muted: false,
+        positives: 0,
+        negatives: 0,
+        entries: [0; Table::ENTRIES],
+    }
 }

@@ -8,6 +8,7 @@ use calls::SpoilerAnswer;
 use calls::ask_atom;
 use calls::ask_slot;
 use reading::label_of;
+use refusals::Refusal;
 use relations::following;
 use relations::justifying;
 use repercussions::reached;
@@ -19,8 +20,30 @@ use written_lists::write_marked;
 ghost use Rattle.table.specs.Words.{tableOf};
 ghost use Rattle.calls.specs.Contracts.{LabelEnds, SpoilerEnds};
 ghost use Rattle.calls.specs.Contracts.{JustificationsEnd, ConsequencesEnd, RepercussionsEnd};
+ghost use Rattle.queries.specs.RuleTold.{RuleEnds};
 
-mod answers; // answers.rt: one label, one spoiler, told as an answer
+mod answers; // answers.rt: one label, one spoiler, one rule, told as an answer
+
+// A rule told as numbers: its head, whether it is muted, how long its lists are, and its entries: the positive list,
+// then the negative list, then zeros.
+pub struct RuleNumbers {
+    pub head: u16,
+    pub muted: bool,
+    pub positives: u16,
+    pub negatives: u16,
+    pub entries: [u16; Table::ENTRIES],
+}
+
+// That the slot holds the rule told beside it.
+pub enum RuleAnswer {
+    Held,
+    Refused(Refusal),
+}
+
+pub struct RuleTold {
+    pub answer: RuleAnswer,
+    pub rule: RuleNumbers,
+}
 
 // The label of an atom: absent, out, or in with depth and supporting slot. Asks 15, 10.
 pub fn label(table: &[u16; Table::WORDS], atom: u32) -> LabelAnswer
@@ -48,6 +71,26 @@ pub fn spoiler(table: &[u16; Table::WORDS], slot: u32) -> SpoilerAnswer
             let i = s.0 as usize;
             let place = spoiler_at(table, i);
             answers::tell_rule(rule, place)
+        }
+    }
+}
+
+// The rule in a slot, with its mark; a refusal tells none, all zero. Asks 15, 8, 9.
+pub fn rule(table: &[u16; Table::WORDS], slot: u32) -> RuleTold
+    ensures { λ r. ⌜ RuleEnds (tableOf (now (table .entry))) slot (r .answer) (r .rule) ⌝ }
+{
+    let asked = ask_slot(table, slot);
+    match asked {
+        AskedSlot::Refused(why) => RuleTold {
+            answer: RuleAnswer::Refused(why),
+            rule: answers::no_numbers(),
+        },
+        AskedSlot::Passed(s) => {
+            let held = rule_in(table, s);
+            RuleTold {
+                answer: RuleAnswer::Held,
+                rule: answers::tell_numbers(held),
+            }
         }
     }
 }
