@@ -357,8 +357,8 @@ pub visit :
     → (l : List ℕ) (flag : Bool) → Lowered M n (activeIn rule) (rule .head .0) d l flag → Found (activeOf rules) M n k l
 visit rules M n B A k d F s rule read l flag R =
     pass-next rules M n B A (λ z. s) k 0 d false (pass-start (activeOf rules) M (λ z. s) n k d true refl F) s refl rule
-    (active-at (bookOf rules) s ∙ ap active-on (List·getD-map pageOf rules s freeRule) ∙ ap activeIn (sym read)) l flag R
-    _ refl .found
+    (active-at (bookOf rules) s ∙ ap active-on (List·getD-map pageOf rules s freeRule) ∙ ap activeIn (sym read)) l flag
+    R _ refl .found
 
 -- No more rounds are made than there are atoms.
 pub rounds-few :

@@ -33,7 +33,8 @@ use Rattle.labels.specs.Labelling.{Relabelled}
 use Rattle.labels.specs.Keeping.{due-at, KeptBelow}
 
 -- Before slot i: each slot below it keeps what is due, and the atoms that got their depths are flagged.
-pub record Walked (before : List ℕ) (M : AtomSet) (d : ℕ → ℕ) (i : ℕ) (table : List ℕ) (given : List Bool) : Type 0 where
+pub record Walked (before : List ℕ) (M : AtomSet) (d : ℕ → ℕ) (i : ℕ) (table : List ℕ) (given : List Bool)
+    : Type 0 where
   pub kept : KeptBelow before M d i table
   pub flagged : Flagged (activeOf (rulesOf before)) M d i given
 

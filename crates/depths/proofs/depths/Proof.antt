@@ -1,8 +1,7 @@
 -- `depths::depths` meets its contract: by what the rounds keep. Assumes nothing.
 use Prim.Native.Nat.{_+_, _-_, _≤_, _<_}
 use native.Mathlib.Omega.{arith}
-use mathlib.Core.Path.{_≡_, refl}
-use lib.ListN.{length}
+use mathlib.Core.Path.{refl}
 use Rattle.theory.specs.Limits.{document}
 use Rattle.table.specs.Rules.{activeOf}
 use Rattle.table.specs.Sets.{member}
@@ -19,7 +18,8 @@ use Rattle.depths.proofs.depths.Tie as tie
 abbrev Inv-loop2 : tie.InvT-loop2
 Inv-loop2 table model order found₀ round lowered₀ down i₀ found lowered i =
     (i ≤ document .slots)
-    × Pass (activeOf (rulesOf table)) (member model) (slotAt (document .slots) down) (document .atoms) round i found lowered
+    × Pass (activeOf (rulesOf table)) (member model) (slotAt (document .slots) down) (document .atoms) round i found
+    lowered
 
 abbrev μ-loop2 : tie.MeasureT-loop2
 μ-loop2 table model order found₀ round lowered₀ down i₀ found lowered i = document .slots - i
@@ -68,10 +68,11 @@ loop2-again c =
     let w = c .before .before .before in
     let t = w .before .before in
     let s = t .before .before .before .before .before in
-    let read = c .before .before .rule-at .result in (
+    let read = c .before .before .rule-at in (
       omega arith,
       pass-next (rulesOf (s .args .table .now)) _ _ (s .pre .0) (s .pre .1) _ _ (t .loop2 .i) _ (t .loop2 .lowered)
-          (t .loop2 .inv .1) _ (w .slot-at .ensures) read (read-at (rulesOf (s .args .table .now)) _ _ (c .before .before .rule-at .ensures)) _ _ (c .lower .ensures) _ refl,
+          (t .loop2 .inv .1) _ (w .slot-at .ensures) (read .result)
+          (read-at (rulesOf (s .args .table .now)) _ _ (read .ensures)) _ _ (c .lower .ensures) _ refl,
     )
 
 add-round : tie.Need-add-round Inv-loop2 μ-loop2 Inv-loop μ-loop

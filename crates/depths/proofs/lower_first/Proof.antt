@@ -55,8 +55,8 @@ loop-again c =
     let t = test .before in
     let s = t .before .before in (
       omega (arith, test .loop-test .taken),
-      visit (rulesOf (s .args .table .now)) _ _ (s .pre .0) (s .pre .1) _ _ (t .loop .inv .1) _ _ (read .rule-in .ensures) _ _
-          (c .lower .ensures),
+      visit (rulesOf (s .args .table .now)) _ _ (s .pre .0) (s .pre .1) _ _ (t .loop .inv .1) _ _
+          (read .rule-in .ensures) _ _ (c .lower .ensures),
     )
 
 returns-2 : tie.Need-returns-2 Inv-loop μ-loop

@@ -70,7 +70,8 @@ loop2-again c =
     let s = round-of at .before in
     let len = rules-length (s .args .table .now) in
     let no = sym (c .before .waits .ensures) ∙ not-true _ (c .if1 .taken) in (
-      left-idle _ _ (rulesOf (s .args .table .now)) _ (at .loop2 .i) _ _ (omega (arith, at .loop2 .inv .2)) (at .loop2 .inv .0) _ read no,
+      left-idle _ _ (rulesOf (s .args .table .now)) _ (at .loop2 .i) _ _ (omega (arith, at .loop2 .inv .2))
+          (at .loop2 .inv .0) _ read no,
       seen-over _ _ (rulesOf (s .args .table .now)) _ _ _ (at .loop2 .i) (at .loop2 .inv .1) _ read no,
       at .loop2 .inv .2,
     )
@@ -86,8 +87,8 @@ loop2-again-2 c =
     let at = c .before .before .before .before .before .before .before .before in
     let s = round-of at .before in
     let len = rules-length (s .args .table .now) in (
-      left-stop _ _ (rulesOf (s .args .table .now)) _ (at .loop2 .i) _ _ (omega (arith, at .loop2 .inv .2)) (at .loop2 .inv .0)
-          _ (c .before .before .before .before .before .before .rule-at .ensures)
+      left-stop _ _ (rulesOf (s .args .table .now)) _ (at .loop2 .i) _ _ (omega (arith, at .loop2 .inv .2))
+          (at .loop2 .inv .0) _ (c .before .before .before .before .before .before .rule-at .ensures)
           (sym (c .before .holds-valid .ensures) ∙ not-true _ (c .if2 .taken)),
       seen-here _ _ (rulesOf (s .args .table .now)) _ _ _ (at .loop2 .i) (at .loop2 .inv .1),
       at .loop2 .inv .2,
@@ -115,7 +116,8 @@ loop2-again-3 c =
     let len = rules-length (s .args .table .now) in
     let size : length (at .loop2 .found) ≡ document .atoms =
     at .loop2 .inv .0 .size ∙ (round-of at .loop .inv .1 ∙ s .pre .size) in (
-      left-add _ _ rules _ (at .loop2 .i) _ _ (omega (arith, at .loop2 .inv .2, test)) (at .loop2 .inv .0) _ (here .ensures)
+      left-add _ _ rules _ (at .loop2 .i) _ _ (omega (arith, at .loop2 .inv .2, test)) (at .loop2 .inv .0) _
+          (here .ensures)
           (rw size (head-below rules (document .atoms) _ _ (here .ensures) (s .pre .stratified .bounded)))
           (waits-sought (number (s .args .strata .now)) (s .args .k) (member (at .loop2 .found)) (here .result .state)
           (here .result .head .0) (sym (new .before .waits .ensures) ∙ not-false _ (new .if1 .left)))
@@ -140,7 +142,8 @@ returns c =
     let G = c .before .before .before .loop .inv in
     let t = c .before .before .loop2 in
     let past = c .before .loop2-test .left in
-    let R = left-rest _ _ (rulesOf (s .args .table .now)) _ (t .i) _ _ (λ z l r. t .inv .1 .outer z (omega arith) r) (t .inv .0) in
+    let R = left-rest _ _ (rulesOf (s .args .table .now)) _ (t .i) _ _ (λ z l r. t .inv .1 .outer z (omega arith) r)
+    (t .inv .0) in
     let over = not-true _ (c .if3 .taken) in
     record {
       rounds = stratum-end (rulesOf (s .args .table .now)) _ _ _ _ _ _ _ (G .0) R over;
@@ -162,9 +165,11 @@ loop-again c =
     let G = c .before .before .before .loop .inv in
     let t = c .before .before .loop2 in
     let past = c .before .loop2-test .left in
-    let R = left-rest _ _ (rulesOf (s .args .table .now)) _ (t .i) _ _ (λ z l r. t .inv .1 .outer z (omega arith) r) (t .inv .0) in
+    let R = left-rest _ _ (rulesOf (s .args .table .now)) _ (t .i) _ _ (λ z l r. t .inv .1 .outer z (omega arith) r)
+    (t .inv .0) in
     let more = not-false _ (c .if3 .left) in (
-      stratum-next (rulesOf (s .args .table .now)) _ _ _ _ _ _ _ (G .0) R (strata-given (rulesOf (s .args .table .now)) _ (s .pre .stratified)) more,
+      stratum-next (rulesOf (s .args .table .now)) _ _ _ _ _ _ _ (G .0) R
+          (strata-given (rulesOf (s .args .table .now)) _ (s .pre .stratified)) more,
       R .size ∙ G .1,
       seen-end _ _ (rulesOf (s .args .table .now)) _ _ _ (t .i) (t .inv .1) past,
       omega (arith, t .inv .1 .low, t .inv .0 .place),

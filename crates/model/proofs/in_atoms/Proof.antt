@@ -2,8 +2,7 @@
 -- Before layer k all layers below it have ended; above the highest there are no heads.
 use Prim.Native.Nat.{suc, _-_, _<_}
 use native.Mathlib.Omega.{arith}
-use mathlib.Core.Path.{_≡_, refl}
-use lib.ListN.{length}
+use mathlib.Core.Path.{refl}
 use Rattle.theory.specs.Limits.{document}
 use Rattle.table.specs.Rules.{bookOf}
 use Rattle.table.specs.Words.{rulesOf}
@@ -55,8 +54,8 @@ returns c =
     let s = c .before .before .before .before .before .before in
     let len = rules-length (s .args .table .now) in
     let told = c .before .before .before .before .before .highest .ensures in
-    between-end (rulesOf (s .args .table .now)) _ (s .pre) _ told len _ _ _ _ _ (c .before .before .before .before .loop .inv)
-    (c .before .fill-stratum .ensures) _ (c .if1 .taken)
+    between-end (rulesOf (s .args .table .now)) _ (s .pre) _ told len _ _ _ _ _
+    (c .before .before .before .before .loop .inv) (c .before .fill-stratum .ensures) _ (c .if1 .taken)
 
 add-k : tie.Need-add-k Inv-loop μ-loop
 add-k c = search needs
@@ -69,8 +68,8 @@ loop-again c =
     let s = c .before .before .before .before .before .before in
     let len = rules-length (s .args .table .now) in
     let told = c .before .before .before .before .before .highest .ensures in
-    between-next (rulesOf (s .args .table .now)) _ (s .pre) _ told len _ _ _ _ _ (c .before .before .before .before .loop .inv)
-    (c .before .fill-stratum .ensures) (omega (arith, c .if1 .left))
+    between-next (rulesOf (s .args .table .now)) _ (s .pre) _ told len _ _ _ _ _
+    (c .before .before .before .before .loop .inv) (c .before .fill-stratum .ensures) (omega (arith, c .if1 .left))
 
 pub in-atoms-spec : {M : Type 1} → statement M
 in-atoms-spec =

@@ -14,7 +14,8 @@ use Rattle.table.proofs.Words.{rules-length}
 use Rattle.table.proofs.SlotsInTurn.{slot-at-below}
 use Rattle.strata.proofs.Rounds.{Rounds, Slots}
 use Rattle.strata.proofs.Numbers.{raised-length}
-use Rattle.strata.proofs.Arrays.{entries-below, head-below, read-at, start, begin, passed, next, rest, more, over}
+use Rattle.strata.proofs.Arrays.{entries-below, head-below, read-at}
+use Rattle.strata.proofs.Arrays.{start, begin, passed, next, rest, more, over}
 use Rattle.strata.proofs.strata.Statement.{statement}
 use Rattle.strata.proofs.strata.Tie as tie
 use Rattle.strata.proofs.strata.Reads as reads
@@ -102,19 +103,21 @@ loop2-again : tie.Need-loop2-again Inv-loop2 μ-loop2 Inv-loop μ-loop
 loop2-again c =
     let w = c .before .before .before .before .before .before in
     let t = w .before .before .loop2 in
-    let s = w .before .before .before .before .before .before .before in (
+    let s = w .before .before .before .before .before .before .before in
+    let read = c .before .before .before .before .before in (
       omega arith,
       raised-length _ _ _ _ _ (c .raise .ensures) ∙ t .inv .1,
-      next (rulesOf (s .args .table .now)) (document .slots) (rules-length _) _ _ (t .i) (t .of) (t .raised) (t .inv .2) (document .atoms)
-          (t .inv .1) (s .pre) _ _ _ _ _ (w .slot-at .ensures) (c .before .before .before .before .before .rule-at .ensures)
+      next (rulesOf (s .args .table .now)) (document .slots) (rules-length _) _ _ (t .i) (t .of) (t .raised) (t .inv .2)
+          (document .atoms) (t .inv .1) (s .pre) _ _ _ _ _ (w .slot-at .ensures) (read .rule-at .ensures)
           (c .before .before .before .needed .ensures) (c .raise .ensures),
     )
 
 returns-2 : tie.Need-returns-2 Inv-loop2 μ-loop2 Inv-loop μ-loop
 returns-2 c =
     let t = c .before .before .loop2 in
-    rest (rulesOf (c .before .before .before .before .before .before .before .args .table .now)) (document .slots) (rules-length _) _ _ (t .i) (t .of)
-    (t .raised) (t .inv .2) (not-true _ (c .if2 .taken)) (c .before .loop2-test .left)
+    let a = c .before .before .before .before .before .before .before .args in
+    rest (rulesOf (a .table .now)) (document .slots) (rules-length _) _ _ (t .i) (t .of) (t .raised)
+    (t .inv .2) (not-true _ (c .if2 .taken)) (c .before .loop2-test .left)
 
 add-round : tie.Need-add-round Inv-loop2 μ-loop2 Inv-loop μ-loop
 add-round c = search needs
@@ -124,16 +127,18 @@ loop-less c = search needs
 
 loop-again : tie.Need-loop-again Inv-loop2 μ-loop2 Inv-loop μ-loop
 loop-again c =
-    let t = c .before .before .loop2 in (
+    let t = c .before .before .loop2 in
+    let a = c .before .before .before .before .before .before .before .args in (
       omega arith,
       t .inv .1,
-      more (rulesOf (c .before .before .before .before .before .before .before .args .table .now)) (document .slots) (rules-length _) _ _ (t .i) (t .of)
-          (t .raised) (t .inv .2) (not-false _ (c .if2 .left)) (c .before .loop2-test .left),
+      more (rulesOf (a .table .now)) (document .slots) (rules-length _) _ _ (t .i) (t .of) (t .raised)
+          (t .inv .2) (not-false _ (c .if2 .left)) (c .before .loop2-test .left),
     )
 
 returns-3 : tie.Need-returns-3 Inv-loop2 μ-loop2 Inv-loop μ-loop
 returns-3 c =
-    over (rulesOf (c .before .before .args .table .now)) (document .slots) (rules-length _) _ _ (c .before .loop .inv .2)
+    over (rulesOf (c .before .before .args .table .now)) (document .slots) (rules-length _) _ _
+    (c .before .loop .inv .2)
     (c .loop-test .left)
 
 pub strata-spec : {M : Type 1} → statement M
