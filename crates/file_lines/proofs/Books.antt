@@ -15,6 +15,7 @@ use Rattle.theory.specs.Questions.{first-no}
 use Rattle.theory.specs.Limits.{document}
 use Rattle.theory.proofs.Lists.{le-or-lt, unless}
 use Rattle.theory.proofs.Questions.{first-no-here}
+use Rattle.theory.proofs.Slots.{labelled}
 use Rattle.table.specs.declared.Table.{Table}
 use Rattle.table.specs.Clean.{emptyTable}
 use Rattle.table.specs.Labels.{labelAt}
@@ -40,17 +41,18 @@ load-prints-unique {file} p q =
     p .told ∙ ap (λ (x : ChangeAnswer). tellLoad x (p .table)) (same .0) ∙ ap (tellLoad (q .answer)) (same .1)
     ∙ sym (q .told)
 
--- The labels that a sound table keeps are those that the book shows of its rules.
+-- The labels read off a sound table are those that the book shows of its rules.
 table-labels :
     {B : Pages} {out : List ℕ} (u : Table) → Sound u → held u ≡ B → out ≡ tellLoad changed.Accepted u
     → SeesLabels B out
 table-labels {B} u S h told =
-    let model = S .labels .model in
+    let model = S .kept .model in
     record {
       model = model;
       only = subst (λ (C : Pages). OnlyModel (active C) model) h (sound-model u S);
-      label = labelAt (u .labels);
-      labelled = λ a l. subst (λ (C : Pages). Labelled C model a (labelAt (u .labels) a)) h (S .labels .labels a l);
+      label = labelAt (u .words);
+      labelled = λ a l.
+          subst (λ (C : Pages). Labelled C model a (labelAt (u .words) a)) h (labelled (held u) _ _ (S .kept) a);
       told = told;
     }
 

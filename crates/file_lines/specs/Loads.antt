@@ -30,7 +30,7 @@ refusedLine k = named (bytes "refused") k
 -- The lines that tell how a load ended: those of the labels of the table handed back, as `L` prints them, or that of
 -- the refusal.
 abbrev pub tellLoad : ChangeAnswer → Table → List ℕ
-tellLoad changed.Accepted u = labelLines (labelAt (u .labels)) (document .atoms)
+tellLoad changed.Accepted u = labelLines (labelAt (u .words)) (document .atoms)
 tellLoad (changed.Refused f) u = refusedLine (numberOf f)
 
 -- What is printed of a file's bytes, whatever they are.

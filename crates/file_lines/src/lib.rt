@@ -2,6 +2,7 @@
 use calls::ChangeAnswer;
 use calls::ListAnswer;
 use file_calls::load;
+use reading::labels_of;
 use refusals::Refusal;
 use refusals::refusal_number;
 use sheet_label_lines::LABELS_ROOM;
@@ -21,9 +22,9 @@ pub fn load_lines(bytes: &[u8], out: &mut [u8]) -> ListAnswer
     let loading = load(bytes);
     let answer = loading.answer;
     let table = loading.table;
-    let labels = table.labels;
     match answer {
         ChangeAnswer::Accepted => {
+            let labels = labels_of(&table.words);
             let n = write_labels(out, 0, labels);
             ListAnswer::Count(n)
         }

@@ -98,12 +98,7 @@ fn write_block(
 }
 
 // Writes the file of the rules and their marks from the start of the buffer, which has room for it.
-pub fn write_file(
-    out: &mut [u8],
-    table: &[u16; Table::WORDS],
-    held: HeldSlots,
-    blocks: usize,
-)
+pub fn write_file(out: &mut [u8], table: &[u16; Table::WORDS], held: HeldSlots, blocks: usize)
     requires { ⌜ CleanSlots (rulesOf (now table)) ⌝ }
     requires { ⌜ HeldIn (bookOf (rulesOf (now table))) held ⌝ }
     requires { ⌜ (blocks ≡ format.blocksFor (held .count)) × (format.BLOCK * blocks ≤ length (now out)) ⌝ }

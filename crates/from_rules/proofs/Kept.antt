@@ -27,15 +27,15 @@ module _ (B : Pages) (M : AtomSet) (A : Admissible (active B) M) where
       elim (ℕ-discrete (u .0) s) [
         | yes same ↦ (d .0, supports (d .1) (subst (Supporting (active B) M (r .head)) same (u .1)))
         | no other ↦ (
-            0,
-            idle (λ a S. other (supporting-unique (active B) M (r .head) (u .0) s (u .1)
-            (subst (λ (x : ℕ). Supporting (active B) M x s) (head-of a S) S))),
-          )
+          0,
+          idle (λ a S. other (supporting-unique (active B) M (r .head) (u .0) s (u .1)
+              (subst (λ (x : ℕ). Supporting (active B) M x s) (head-of a S) S))),
+        )
       ]))
       (λ (t : M (r .head) ≡ false). (
         0,
         idle (λ a S. clash (A .closed s (S .supports .rule) (S .supports .held) (S .supports .good))
-        (ap M (S .supports .heads ∙ head-of a S) ∙ t)),
+            (ap M (S .supports .heads ∙ head-of a S) ∙ t)),
       ))
       (test (M (r .head)))
     where

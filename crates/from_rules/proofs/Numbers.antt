@@ -92,9 +92,9 @@ module _ (rules : List Rule) (depth spoiler : ℕ → ℕ) where
       let here = keep-next n in
       elim (ℕ-discrete s n) [
         | yes same ↦ (
-            ap₂ depthAt here same ∙ kept-depth-here w n (depth n) (spoiler n) long l ∙ ap depth (sym same),
-            ap₂ spoilerAt here same ∙ kept-spoiler-here w n (depth n) (spoiler n) long l ∙ ap spoiler (sym same),
-          )
+          ap₂ depthAt here same ∙ kept-depth-here w n (depth n) (spoiler n) long l ∙ ap depth (sym same),
+          ap₂ spoilerAt here same ∙ kept-spoiler-here w n (depth n) (spoiler n) long l ∙ ap spoiler (sym same),
+        )
         | no other ↦ (
             let rest = kept-at n (omega arith) s (omega arith) in (
               ap (λ (v : List ℕ). depthAt v s) here ∙ kept-depth-other w n (depth n) (spoiler n) long l s other
