@@ -10,8 +10,8 @@ use Rattle.table.specs.declared.Table.{Table}
 use Rattle.calls.specs.declared.ListAnswer.{ListAnswer}
 use Rattle.calls.specs.Contracts.{held, ListEnds}
 
--- What is told of an atom with this label: the atom, its state (1 out, 2 in), its depth and its supporting slot (0 and 0
--- if it is out). Of an absent one nothing is told.
+-- What is told of an atom with this label: the atom, its state (1 out, 2 in), its depth and its supporting slot (0 and
+-- 0 if it is out). Of an absent one nothing is told.
 abbrev pub labelNumbers : ℕ → Label → List ℕ
 labelNumbers a absent = []
 labelNumbers a out = a ∷ 1 ∷ 0 ∷ 0 ∷ []

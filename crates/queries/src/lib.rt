@@ -98,7 +98,8 @@ pub fn rule(table: &[u16; Table::WORDS], slot: u32) -> RuleTold
 // Justifications of an atom: the slots of the rules with this head, muted or not, ascending from the buffer's start;
 // their count is answered, and later entries stay. Asks 15, 10, 11.
 pub fn justifications(table: &[u16; Table::WORDS], atom: u32, buffer: &mut [u32]) -> ListAnswer
-    ensures { λ r. ⌜ JustificationsEnd (tableOf (now (table .entry))) atom (now (buffer .entry)) r (now (buffer .exit)) ⌝ }
+    ensures { λ r. ⌜ JustificationsEnd (tableOf (now (table .entry))) atom (now (buffer .entry)) r
+        (now (buffer .exit)) ⌝ }
 {
     let asked = ask_atom(table, atom);
     match asked {
@@ -113,7 +114,8 @@ pub fn justifications(table: &[u16; Table::WORDS], atom: u32, buffer: &mut [u32]
 // Consequences of an atom: the heads of the rules, muted or not, with this entry, written and counted likewise. Asks
 // 15, 10, 11.
 pub fn consequences(table: &[u16; Table::WORDS], atom: u32, buffer: &mut [u32]) -> ListAnswer
-    ensures { λ r. ⌜ ConsequencesEnd (tableOf (now (table .entry))) atom (now (buffer .entry)) r (now (buffer .exit)) ⌝ }
+    ensures { λ r. ⌜ ConsequencesEnd (tableOf (now (table .entry))) atom (now (buffer .entry)) r
+        (now (buffer .exit)) ⌝ }
 {
     let asked = ask_atom(table, atom);
     match asked {
@@ -128,7 +130,8 @@ pub fn consequences(table: &[u16; Table::WORDS], atom: u32, buffer: &mut [u32]) 
 // Repercussions of an atom: all atoms that it affects in one or more steps, written and counted likewise. Asks 15, 10,
 // 11.
 pub fn repercussions(table: &[u16; Table::WORDS], atom: u32, buffer: &mut [u32]) -> ListAnswer
-    ensures { λ r. ⌜ RepercussionsEnd (tableOf (now (table .entry))) atom (now (buffer .entry)) r (now (buffer .exit)) ⌝ }
+    ensures { λ r. ⌜ RepercussionsEnd (tableOf (now (table .entry))) atom (now (buffer .entry)) r
+        (now (buffer .exit)) ⌝ }
 {
     let asked = ask_atom(table, atom);
     match asked {

@@ -1,4 +1,5 @@
--- `label_list::labels_of_sound` meets its contract: what was found, counted and written tells the labels. Assumes nothing.
+-- `label_list::labels_of_sound` meets its contract: what was found, counted and written tells the labels. Assumes
+-- nothing.
 use Prim.Native.Nat.{_≤_}
 use native.Mathlib.Omega.{arith}
 use mathlib.Core.Path.{_≡_, refl, _∙_, ap}

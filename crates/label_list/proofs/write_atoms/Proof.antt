@@ -1,5 +1,5 @@
--- `label_list::write_atoms` meets its contract. The loop keeps: what was found of the atoms below i was written. Assumes
--- nothing.
+-- `label_list::write_atoms` meets its contract. The loop keeps: what was found of the atoms below i was written.
+-- Assumes nothing.
 use Prim.Native.Nat.{_-_, _≤_}
 use native.Mathlib.Omega.{arith}
 use mathlib.Core.Path.{_≡_, _∙_, subst}

@@ -1,5 +1,5 @@
--- `reason_call::write_reason` meets its contract: an atom that is not in is refused; else what was gathered, counted and
--- written is the reason. Assumes nothing.
+-- `reason_call::write_reason` meets its contract: an atom that is not in is refused; else what was gathered, counted
+-- and written is the reason. Assumes nothing.
 use mathlib.Core.Path.{sym, _∙_}
 use Rattle.theory.proofs.Lists.{not-true, not-false}
 use Rattle.table.specs.Words.{tableOf}

@@ -17,7 +17,8 @@ use Rattle.repercussions.proofs.reached.Tie as tie
 abbrev Inv-loop : tie.InvT-loop
 Inv-loop table flags slots a from₀ to₀ count₀ i₀ from to count i =
     (i ≤ document .slots)
-    × Giving (activeOf (rulesOf table)) (member flags) (number slots) (document .slots * document .entries) i from to count
+    × Giving (activeOf (rulesOf table)) (member flags) (number slots) (document .slots * document .entries) i from to
+    count
 
 abbrev μ-loop : tie.MeasureT-loop
 μ-loop table flags slots a from₀ to₀ count₀ i₀ from to count i = document .slots - i
@@ -67,7 +68,8 @@ returns c =
     let s = l .before in
     let table = s .args .table .now in
     giving-over _ _ _ _ (s .pre .0) (s .pre .1) (l .loop .i) (c .reach .result)
-    (omega (arith, active-length (rulesOf table), rules-length table)) (omega (arith, l .loop .inv .1 .few)) (l .loop .inv .1)
+    (omega (arith, active-length (rulesOf table), rules-length table)) (omega (arith, l .loop .inv .1 .few))
+    (l .loop .inv .1)
     (c .reach .ensures)
 
 pub reached-spec : {M : Type 1} → statement M
