@@ -1,6 +1,7 @@
 -- What crosses, by the case of the answer. Assumes nothing.
 use Prim.Native.Nat.{ℕ}
 use mathlib.Core.Path.{_≡_, refl, sym, _∙_, ap, ap₂, subst}
+use mathlib.Core.Bool.{cond}
 use mathlib.Core.Logic.{⊎-elim}
 use mathlib.Core.List.{List, [], _∷_}
 use denote.Enum.Declared.{tagOf}
@@ -19,6 +20,10 @@ use Rattle.calls.specs.declared.SpoilerAnswer.{SpoilerAnswer}
 use Rattle.calls.specs.declared.SpoilerAnswer.the-variants as spoilt
 use Rattle.calls.specs.declared.ListAnswer.{ListAnswer}
 use Rattle.calls.specs.declared.ListAnswer.the-variants as listed
+use Rattle.queries.specs.declared.RuleNumbers.{RuleNumbers}
+use Rattle.queries.specs.declared.RuleAnswer.{RuleAnswer}
+use Rattle.queries.specs.declared.RuleAnswer.the-variants as ruled
+use Rattle.queries.specs.RuleTold.{eightOf}
 use Rattle.refusals.specs.Refusals.{numberOf, neededBy}
 use Rattle.checklist_meaning.specs.declared.CompleteAnswer.{CompleteAnswer}
 use Rattle.checklist_meaning.specs.declared.CompleteAnswer.the-variants as complete
@@ -26,12 +31,13 @@ use Rattle.refusals.proofs.Refusals.{Plain, plain-or-11}
 use Rattle.refusals.proofs.Refusal.{the-type}
 use Rattle.c_answers.specs.declared.Change.{Change}
 use Rattle.c_answers.specs.declared.AtomLabel.{AtomLabel}
+use Rattle.c_answers.specs.declared.SlotRule.{SlotRule}
 use Rattle.c_answers.specs.declared.RuleSpoiler.{RuleSpoiler}
 use Rattle.c_answers.specs.declared.Written.{Written}
 use Rattle.c_answers.specs.declared.Accepted.{Accepted}
 use Rattle.c_answers.specs.declared.Completeness.{Completeness}
 use Rattle.c_answers.specs.Numbers.{crossedAdd, crossedRemove, crossedLabel, crossedSpoiler, crossedList}
-use Rattle.c_answers.specs.Numbers.{crossedChange, crossedComplete}
+use Rattle.c_answers.specs.Numbers.{crossedChange, crossedComplete, wideRule, crossedRule}
 
 -- An answer crosses as its case does; and a refusal as its number n says, where `made` is the struct of a number.
 case-crosses : {A B : Type 0} (cross : A → B) (x y : A) → x ≡ y → cross y ≡ cross x
@@ -101,6 +107,40 @@ no-spoiler n = record { refused = n; spoiled = 0; place = 0; atom = 0 }
 pub label-refused :
     (x : LabelAnswer) (f : Refusal) (n : ℕ) → x ≡ label.Refused f → n ≡ numberOf f → no-label n ≡ crossedLabel x
 label-refused x f n = refusal-crosses crossedLabel no-label x (label.Refused f) f n refl
+
+-- The rule of a slot, where m says whether it is muted, and n is the number of the refusal.
+abbrev slot-rule : ℕ → RuleNumbers → ℕ → SlotRule
+slot-rule n r m =
+    record {
+      refused = n;
+      head = r .head;
+      muted = m;
+      positives = r .positives;
+      negatives = r .negatives;
+      entries = eightOf (r .entries);
+    }
+
+pub wide-told : (n : ℕ) (r : RuleNumbers) (m : ℕ) → m ≡ cond (r .muted) 1 0 → slot-rule n r m ≡ wideRule n r
+wide-told n r m = ap (slot-rule n r)
+
+pub rule-told : (x : RuleAnswer) (r : RuleNumbers) (c : SlotRule) → x ≡ ruled.Held → c ≡ wideRule 0 r → c ≡ crossedRule x r
+rule-told x r c e d = d ∙ case-crosses (λ (y : RuleAnswer). crossedRule y r) x ruled.Held e
+
+pub rule-refused :
+    (x : RuleAnswer) (f : Refusal) (r : RuleNumbers) (n : ℕ) (c : SlotRule) → x ≡ ruled.Refused f → n ≡ numberOf f
+    → c ≡ wideRule n r → c ≡ crossedRule x r
+rule-refused x f r n c e d w =
+    w
+    ∙ refusal-crosses
+    (λ (y : RuleAnswer). crossedRule y r)
+    (λ k. wideRule k r)
+    x
+    (ruled.Refused f)
+    f
+    n
+    refl
+    e
+    d
 
 pub spoiler-told : (x y : SpoilerAnswer) → x ≡ y → crossedSpoiler y ≡ crossedSpoiler x
 spoiler-told = case-crosses crossedSpoiler

@@ -5,13 +5,16 @@ use calls::LabelAnswer;
 use calls::ListAnswer;
 use calls::SpoilerAnswer;
 use checklist_meaning::CompleteAnswer;
+use queries::RuleAnswer;
+use queries::RuleNumbers;
 use refusals::Refusal;
 use refusals::refusal_number;
 use table::Table;
 ghost use mathlib.Core.Path.{_≡_};
+ghost use mathlib.Core.Bool.{cond};
 ghost use Rattle.c_answers.specs.Numbers.{crossedAdd, crossedRemove, crossedLabel, crossedSpoiler, crossedList};
 ghost use Rattle.refusals.specs.Refusals.{neededBy};
-ghost use Rattle.c_answers.specs.Numbers.{crossedChange, crossedComplete};
+ghost use Rattle.c_answers.specs.Numbers.{crossedChange, crossedComplete, wideRule, crossedRule};
 
 // What a call that changes a table answers: the slot that an addition took, and the table handed back.
 #[repr(C)]
@@ -28,6 +31,18 @@ pub struct AtomLabel {
     pub state: u32,
     pub depth: u32,
     pub slot: u32,
+}
+
+// The rule of a slot: `muted` is 1 or 0, the entries are the positive list, then the negative one, then zeros. All is 0
+// with a refusal.
+#[repr(C)]
+pub struct SlotRule {
+    pub refused: u32,
+    pub head: u32,
+    pub muted: u32,
+    pub positives: u32,
+    pub negatives: u32,
+    pub entries: [u32; Table::ENTRIES],
 }
 
 // `spoiled` is 0 for a valid rule, 1 if the rule needs a positive entry that is out, 2 if it is blocked by a negative
@@ -153,6 +168,53 @@ pub fn crossed_label(answer: LabelAnswer) -> AtomLabel
             depth: 0,
             slot: 0,
         },
+    }
+}
+
+// 1 for yes, 0 for no.
+fn bit(b: bool) -> u32
+    ensures { λ r. ⌜ r ≡ cond b 1 0 ⌝ }
+{
+    if b { 1 } else { 0 }
+}
+
+// The numbers of a rule, and that of a refusal.
+fn wide_rule(refused: u32, rule: RuleNumbers) -> SlotRule
+    ensures { λ r. ⌜ r ≡ wideRule refused rule ⌝ }
+{
+    let e0 = rule.entries[0];
+    let e1 = rule.entries[1];
+    let e2 = rule.entries[2];
+    let e3 = rule.entries[3];
+    let e4 = rule.entries[4];
+    let e5 = rule.entries[5];
+    let e6 = rule.entries[6];
+    let e7 = rule.entries[7];
+    SlotRule {
+        refused: refused,
+        head: rule.head as u32,
+        muted: bit(rule.muted),
+        positives: rule.positives as u32,
+        negatives: rule.negatives as u32,
+        entries: [
+            e0 as u32,
+            e1 as u32,
+            e2 as u32,
+            e3 as u32,
+            e4 as u32,
+            e5 as u32,
+            e6 as u32,
+            e7 as u32,
+        ],
+    }
+}
+
+pub fn crossed_rule(answer: RuleAnswer, rule: RuleNumbers) -> SlotRule
+    ensures { λ r. ⌜ r ≡ crossedRule answer rule ⌝ }
+{
+    match answer {
+        RuleAnswer::Held => wide_rule(0, rule),
+        RuleAnswer::Refused(f) => wide_rule(refusal_number(f), rule),
     }
 }
 

@@ -10,16 +10,20 @@ use Rattle.calls.specs.declared.LabelAnswer.{LabelAnswer}
 use Rattle.calls.specs.declared.SpoilerAnswer.{SpoilerAnswer}
 use Rattle.calls.specs.declared.ListAnswer.{ListAnswer}
 use Rattle.calls.specs.Contracts.{AddEnds, RemoveEnds, LabelEnds, SpoilerEnds}
+use Rattle.queries.specs.declared.RuleAnswer.{RuleAnswer}
+use Rattle.queries.specs.declared.RuleNumbers.{RuleNumbers}
+use Rattle.queries.specs.RuleTold.{RuleEnds}
 use Rattle.checklist_meaning.specs.declared.CompleteAnswer.{CompleteAnswer}
 use Rattle.checklist_meaning.specs.Contracts.{CompleteEnds}
 use Rattle.c_answers.specs.declared.Change.{Change}
 use Rattle.c_answers.specs.declared.AtomLabel.{AtomLabel}
+use Rattle.c_answers.specs.declared.SlotRule.{SlotRule}
 use Rattle.c_answers.specs.declared.RuleSpoiler.{RuleSpoiler}
 use Rattle.c_answers.specs.declared.Written.{Written}
 use Rattle.c_answers.specs.declared.Accepted.{Accepted}
 use Rattle.c_answers.specs.declared.Completeness.{Completeness}
 use Rattle.c_answers.specs.Numbers.{crossedAdd, crossedRemove, crossedLabel, crossedSpoiler, crossedList}
-use Rattle.c_answers.specs.Numbers.{crossedChange, crossedComplete}
+use Rattle.c_answers.specs.Numbers.{crossedChange, crossedComplete, crossedRule}
 
 -- What crosses is the answer of a call that meets its contract.
 
@@ -39,6 +43,12 @@ pub record LabelCrosses (t : Table) (a : ℕ) (c : AtomLabel) : Type 0 where
   pub answer : LabelAnswer
   pub ends : LabelEnds t a answer
   pub crosses : c ≡ crossedLabel answer
+
+pub record RuleCrosses (t : Table) (s : ℕ) (c : SlotRule) : Type 0 where
+  pub answer : RuleAnswer
+  pub rule : RuleNumbers
+  pub ends : RuleEnds t s answer rule
+  pub crosses : c ≡ crossedRule answer rule
 
 pub record SpoilerCrosses (t : Table) (s : ℕ) (c : RuleSpoiler) : Type 0 where
   pub answer : SpoilerAnswer

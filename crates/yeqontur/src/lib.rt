@@ -7,6 +7,7 @@ use c_answers::AtomLabel;
 use c_answers::Change;
 use c_answers::Completeness;
 use c_answers::RuleSpoiler;
+use c_answers::SlotRule;
 use c_answers::Written;
 use c_answers::crossed_add;
 use c_answers::crossed_change;
@@ -14,6 +15,7 @@ use c_answers::crossed_complete;
 use c_answers::crossed_label;
 use c_answers::crossed_list;
 use c_answers::crossed_remove;
+use c_answers::crossed_rule;
 use c_answers::crossed_spoiler;
 use checklist::complete;
 use checklist::missing;
@@ -29,6 +31,7 @@ use queries::consequences;
 use queries::justifications;
 use queries::label;
 use queries::repercussions;
+use queries::rule;
 use queries::spoiler;
 use reason_call::reason;
 use replacing::replace;
@@ -44,7 +47,7 @@ ghost use Rattle.label_list.specs.Listed.{LabelsEnd};
 ghost use Rattle.checklist_meaning.specs.Questions.{file-sent, file-skipped, skip-withdrawn};
 ghost use Rattle.checklist_meaning.specs.Contracts.{OpenEnds, FileEnds, MissingEnds};
 ghost use Rattle.yeqontur.specs.Crossing.{AddCrosses, RemoveCrosses, LabelCrosses, SpoilerCrosses, ListCrosses};
-ghost use Rattle.yeqontur.specs.Crossing.{ChangeCrosses, CompleteCrosses};
+ghost use Rattle.yeqontur.specs.Crossing.{ChangeCrosses, CompleteCrosses, RuleCrosses};
 ghost use Rattle.yeqontur.specs.Versions.{version, layout};
 
 const VERSION: u32 = 200;
@@ -142,6 +145,16 @@ pub extern "C" fn yeqontur_labels(table: Table, buffer: &mut [u32]) -> Written
 {
     let answer = labels(&table.words, buffer);
     crossed_list(answer)
+}
+
+#[no_mangle]
+pub extern "C" fn yeqontur_rule(table: Table, slot: u32) -> SlotRule
+    ensures { λ r. ⌜ RuleCrosses table slot r ⌝ }
+{
+    let told = rule(&table.words, slot);
+    let answer = told.answer;
+    let numbers = told.rule;
+    crossed_rule(answer, numbers)
 }
 
 #[no_mangle]
