@@ -8,13 +8,11 @@ use mathlib.Core.Option.{Option, none, some, Option·none-ne-some}
 use lib.ListN.{length, take}
 use lib.Seq.{take-all, take-append-seam}
 use Rattle.theory.specs.Rules.{Pages}
-use Rattle.theory.specs.Labels.{Label}
 use Rattle.theory.specs.Sound.{SoundRules}
 use Rattle.theory.specs.Questions.{first-no}
 use Rattle.theory.specs.Limits.{document}
 use Rattle.theory.proofs.Questions.{first-no-none}
 use Rattle.table.specs.declared.Table.{Table}
-use Rattle.table.specs.Labels.{labelAt}
 use Rattle.table.specs.Sound.{Sound}
 use Rattle.file_blocks.specs.Files.{fileOf}
 use Rattle.file_blocks.proofs.RoundTrips.{file-accepted, file-pages}

@@ -60,7 +60,7 @@ pub fn save_input(input: &mut [u8], file: &mut [u8]) -> Saved
     let last = leave_input(input);
     let reply = last.reply;
     let table = reply.table;
-    let answer = save(table, file);
+    let answer = save(&table.words, file);
     let count = count_of(answer);
     let mut shown = last.shown;
     let mut lost = last.lost;

@@ -1,36 +1,28 @@
 -- `probe::probe_rounds` meets its contract. Assumes nothing.
-use mathlib.Core.Path.{_≡_}
-use lib.ListN.{length, length-map}
 use Rattle.theory.specs.Rules.{Bounded}
 use Rattle.theory.specs.Limits.{document}
 use Rattle.theory.proofs.Lists.{not-true, not-false}
 use Rattle.table.specs.Rules.{programOf}
+use Rattle.table.specs.Words.{rulesOf}
 use Rattle.questions.proofs.Passes.{refused, granted}
 use Rattle.strata.proofs.Answer.{answer-acyclic}
 use Rattle.model.proofs.Sizes.{rounds-sized}
 use Rattle.sound.proofs.Soundness.{well-formed-bounded}
 use Rattle.probe.specs.Probes.{RulesFit, not-fit, no-strata, counted}
+use borrow.Author.Needs.{needs}
 use Rattle.probe.proofs.probe_rounds.Statement.{statement}
 use Rattle.probe.proofs.probe_rounds.Tie as tie
 
--- what owning the table tells of its arrays
-rules-long : (s : tie.Start) → length (s .args .table .rules) ≡ document .slots
-rules-long s = simp length-map at (s .good .0 .1 .1 .0 .1 .0 .1)
-
-labels-long : (s : tie.Start) → length (s .args .table .labels) ≡ document .atoms
-labels-long s = simp length-map at (s .good .0 .1 .1 .1 .0 .1 .0 .1)
-
 -- what the test tells
-fits : (c : tie.Else1) → RulesFit (c .before .before .args .table)
+fits : (c : tie.Else1) → RulesFit (c .before .before .before .before .args .t1)
 fits c = granted _ (c .before .fit .ensures) (c .if1 .left)
 
-bounded : (c : tie.Else1) → Bounded (programOf (c .before .before .args .table .rules)) (document .atoms)
-bounded c =
-    let s = c .before .before in
-    well-formed-bounded (s .args .table) (rules-long s) (labels-long s) (fits c .slots)
+bounded : (c : tie.Else1)
+    → Bounded (programOf (rulesOf (c .before .before .before .before .args .t1 .words))) (document .atoms)
+bounded c = well-formed-bounded _ (fits c .slots)
 
 fit-requires : tie.Need-fit-requires
-fit-requires c κs = tt
+fit-requires c κs = search needs
 
 no-rounds-requires : tie.Need-no-rounds-requires
 no-rounds-requires c κs = tt
@@ -41,7 +33,7 @@ returns c =
     rw (c .no-rounds .ensures) (not-fit (refused _ (test .before .fit .ensures) (test .if1 .taken)))
 
 strata-requires : tie.Need-strata-requires
-strata-requires c κs = bounded (c .before)
+strata-requires c κs = bounded (c .before .before)
 
 no-rounds-requires-2 : tie.Need-no-rounds-requires-2
 no-rounds-requires-2 c κs = tt
@@ -51,21 +43,21 @@ returns-2 c =
     let test = c .before in
     let told = test .before .before .before in
     rw (c .no-rounds2 .ensures)
-    (no-strata (fits (told .before .before)) (told .strata .ensures .cyclic (not-true _ (test .if2 .taken))))
+    (no-strata (fits (told .before .before .before)) (told .strata .ensures .cyclic (not-true _ (test .if2 .taken))))
 
 in-atoms-requires : tie.Need-in-atoms-requires
 in-atoms-requires c κs =
-    let told = c .before .before .before .before in
+    let told = c .before .before .before .before .before .before in
     record {
-      bounded = bounded (told .before .before);
-      exact = told .strata .ensures .acyclic (not-false _ (c .before .if2 .left));
+      bounded = bounded (told .before .before .before);
+      exact = told .strata .ensures .acyclic (not-false _ (c .before .before .before .if2 .left));
     }
 
 returns-3 : tie.Need-returns-3
 returns-3 c =
-    let test = c .before .before .before in
+    let test = c .before .before .before .before .before in
     let told = test .before .before .before in
-    counted _ (fits (told .before .before))
+    counted _ (fits (told .before .before .before))
     (answer-acyclic _ _ (told .strata .ensures) (not-false _ (test .if2 .left)))
     (rounds-sized (c .before .in-atoms .result) _ (c .before .in-atoms .ok)) (c .before .in-atoms .ensures .rounds)
 

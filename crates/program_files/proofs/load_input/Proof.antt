@@ -7,6 +7,7 @@ use Rattle.file_lines.specs.Loads.{LoadPrints}
 use Rattle.program_io.proofs.Writing.{first-part}
 use Rattle.program_loop.specs.Takes.{SPACE}
 use Rattle.program_files.proofs.Counting.{lines-counted, writes-first}
+use Rattle.sheet_feed.proofs.Start.{start-sound}
 use borrow.Author.Needs.{needs}
 use Rattle.program_files.proofs.load_input.Statement.{statement}
 use Rattle.program_files.proofs.load_input.Tie as tie
@@ -15,14 +16,15 @@ start-requires : tie.Need-start-requires
 start-requires c κs = search needs
 
 take-input-requires : tie.Need-take-input-requires
-take-input-requires c κs = search needs
+take-input-requires c κs =
+    (start-sound _ (c .before .before .before .before .before .before .start .ensures), search needs)
 
 slice-reshare-prefix-load-lines : tie.Need-slice-reshare-prefix-load-lines
 slice-reshare-prefix-load-lines c = search needs
 
 slice-aggregate-load-lines : tie.Need-slice-aggregate-load-lines
 slice-aggregate-load-lines c =
-    first-part _ _ (c .before .before .before .before .before .take-input .ensures .few)
+    first-part _ _ (c .before .before .before .before .before .take-input .ensures .0 .few)
 
 load-lines-requires : tie.Need-load-lines-requires
 load-lines-requires c κs = search needs
@@ -55,7 +57,7 @@ show-requires : tie.Need-show-requires
 show-requires c κs =
     let count = c .before .before .before in
     let load = count .before .before .before in
-    let kept = load .before .before .before .before .before .before .before .take-input .ensures .takes in
+    let kept = load .before .before .before .before .before .before .before .take-input .ensures .0 .takes in
     (told count .0, omega (arith, told count .0, size load, kept .1), kept .2)
 
 same-length : tie.Need-same-length
@@ -69,7 +71,7 @@ returns c =
     let count = c .before .before .before .before in
     let input = count .before .before .before .before .before .before .before .before .before .before in
     let s = input .before .before .before .before .before .before .before .before .before .before in
-    let read = input .take-input .ensures in
+    let read = input .take-input .ensures .0 in
     record {
       room = input .take-input .kept .1 .1 .0 ∙ s .pre .0;
       few = read .few;

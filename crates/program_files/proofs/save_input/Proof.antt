@@ -19,7 +19,7 @@ show-requires : tie.Need-show-requires
 show-requires c κs =
     let count = c .before .before .before in
     let save = count .before .before .before in
-    let leave = save .before .before .before .before .before .before in
+    let leave = save .before .before .before .before .before .before .before .before in
     let s = leave .before .before .before .before in
     let silent = program-silent (leave .leave-input .ensures) in
     let within = saved-count (save .save .ensures) (count .count-of .ensures) in
@@ -35,7 +35,7 @@ returns : tie.Need-returns
 returns c =
     let count = c .before .before .before .before in
     let save = count .before .before .before in
-    let leave = save .before .before .before .before .before .before in
+    let leave = save .before .before .before .before .before .before .before .before in
     let s = leave .before .before .before .before in
     record {
       sheet = leave .leave-input .ensures;
