@@ -82,8 +82,8 @@ pub struct Completeness {
 fn needed(f: Refusal) -> usize
     ensures { λ r. ⌜ r ≡ neededBy f ⌝ }
 {
-    if let Refusal::BufferTooShort(n) = f {
-        n
+    if let Refusal::BufferTooShort(many) = f {
+        many
     } else {
         0
     }
