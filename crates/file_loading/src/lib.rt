@@ -89,7 +89,8 @@ fn rule_at(bytes: &[u8], at: usize) -> Rule
     let head = word_at(bytes, at + 2);
     let count = bytes[at + 4];
     let positives = wide(count % MARK);
-    let negatives = wide(bytes[at + 5]);
+    let second = bytes[at + 5];
+    let negatives = wide(second);
     let state = state_of(count);
     let entries = entries_at(bytes, at);
     Rule {

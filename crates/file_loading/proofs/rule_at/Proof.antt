@@ -19,11 +19,11 @@ shared-slice-read-count c = search needs
 wide-requires : tie.Need-wide-requires
 wide-requires c κs = search needs
 
-add-wide : tie.Need-add-wide
-add-wide c = search needs
+add-second : tie.Need-add-second
+add-second c = search needs
 
-shared-slice-read-wide : tie.Need-shared-slice-read-wide
-shared-slice-read-wide c = search needs
+shared-slice-read-second : tie.Need-shared-slice-read-second
+shared-slice-read-second c = search needs
 
 wide-requires-2 : tie.Need-wide-requires-2
 wide-requires-2 c κs = search needs
@@ -54,8 +54,8 @@ rule-at-spec =
     add-count
     shared-slice-read-count
     wide-requires
-    add-wide
-    shared-slice-read-wide
+    add-second
+    shared-slice-read-second
     wide-requires-2
     state-of-requires
     entries-at-requires
