@@ -31,7 +31,7 @@ static void versions(void) {
     expect(strcmp(text, YEQONTUR_VERSION_TEXT) == 0, "the version in words");
 }
 
-/* Each named state is the one that the calls leave or tell: of labels, of rules, and of what is said of a rule. */
+/* Each named state is the one that the calls leave or tell: of labels, and of what is said of a rule. */
 static void states(void) {
     const uint32_t two = 2, three = 3, four = 4;
     yeqontur_table table = added(yeqontur_empty(), 1, &two, 1, &three, 1);

@@ -213,6 +213,8 @@ impl Table {
     /// assert_eq!(held, ["0: 1 < 2", "2: 2 < not 3"]);
     /// # Ok::<(), yeqontur::Refusal>(())
     /// ```
+    ///
+    /// Each slot is a call, which asks question 15; [`labels`](Self::labels) asks once for all.
     pub fn rules(&self) -> impl Iterator<Item = Rule> + '_ {
         (0..raw::SLOTS as u32).filter_map(|slot| self.rule(slot).ok())
     }

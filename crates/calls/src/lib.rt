@@ -81,7 +81,7 @@ pub fn atom_asked(table: &[u16; Table::WORDS], atom: u32) -> AskedAtom
     AskedAtom::Passed(Atom(a))
 }
 
-// Asks 15, then 10. Each call on an atom starts with it.
+// Asks 15, then 10. Label, justifications, consequences and repercussions start with it.
 pub fn ask_atom(table: &[u16; Table::WORDS], atom: u32) -> AskedAtom
     ensures { λ r. ⌜ AskAtomEnds (tableOf (now (table .entry))) atom r ⌝ }
 {
@@ -107,7 +107,7 @@ pub fn slot_asked(table: &[u16; Table::WORDS], slot: u32) -> AskedSlot
     AskedSlot::Passed(Slot(s))
 }
 
-// Asks 15, 8, 9. Each call on a slot starts with it.
+// Asks 15, 8, 9. Spoiler and the rule in a slot start with it.
 pub fn ask_slot(table: &[u16; Table::WORDS], slot: u32) -> AskedSlot
     ensures { λ r. ⌜ AskSlotEnds (tableOf (now (table .entry))) slot r ⌝ }
 {

@@ -323,7 +323,7 @@ module _ (cs : List Call) (xs : List Answer) (t : Table) (e : held t ≡ bookAft
 -- Demand 3. By its contract each call on a sound table answers and leaves what the book does, and leaves a sound table
 -- (`step-follows`); so by induction does a list of calls from the empty table, which is sound (`trace-agrees`). What
 -- the claim says of labels, supports and spoilers holds of any sound table whose slots hold the book's pages (`claim`),
--- for soundness says that the kept labels are those defined.
+-- for soundness says that what the slots keep is as defined, and the labels are read off it.
 pub history : (cs : List Call) (xs : List Answer) (t : Table) → Trace emptyTable cs xs t → History cs xs t
 history cs xs t T =
     let w = trace-agrees empty-sound T in

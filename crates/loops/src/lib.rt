@@ -49,7 +49,7 @@ fn descends(table: &[u16; Table::WORDS], numbers: &[u16; Table::ATOMS]) -> bool
     true
 }
 
-// Has no rule a negative entry? Then no dependency goes against the numbers 0.
+// Has no rule a negative entry? Then no dependency goes against the numbers 0. (Promised is only that yes is right.)
 fn without_negation(table: &[u16; Table::WORDS]) -> bool
     ensures { λ r. ⌜ (r ≡ true → Descending (programOf (rulesOf (now (table .entry)))) (λ a. 0)) ⌝ }
 {

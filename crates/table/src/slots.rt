@@ -119,7 +119,7 @@ fn paste(table: &mut [u16; Table::WORDS], b: usize, part: &[u16; 12])
     }
 }
 
-// The slot holds the rule; what is kept stays as it was. Past the end nothing is written.
+// The slot holds the rule; of what is kept nothing is promised. Past the end nothing is written.
 pub fn put_rule(table: &mut [u16; Table::WORDS], s: Slot, rule: Rule)
     ensures { λ _. ⌜ rulesOf (now (table .exit)) ≡ set (rulesOf (now (table .entry))) (s .0) rule ⌝ }
 {
