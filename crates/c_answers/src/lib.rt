@@ -1,4 +1,6 @@
 // The calls' answers as they cross to C: structs of numbers, where `refused` is 0 or the number of the refusal.
+#![tactic(auto)]
+
 ghost use Rattle.std.specs.Prelude.{◌≡◌, cond};
 ghost use Rattle.c_answers.specs.Numbers.{crossed_add, crossed_remove, crossed_label, crossed_spoiler, crossed_list};
 ghost use Rattle.refusals.specs.Refusals.{needed_by};
@@ -12,7 +14,7 @@ use table::Table;
 
 // What a call that changes a table answers: the slot that an addition took, and the table handed back.
 #[repr(C)]
-#[derive(Drop)]
+#[derive(Clone, Copy)]
 pub struct Change {
     pub refused: u32,
     pub slot: u32,
@@ -21,7 +23,7 @@ pub struct Change {
 
 // State 0 absent, 1 out, 2 in, with depth and supporting slot.
 #[repr(C)]
-#[derive(Drop)]
+#[derive(Clone, Copy)]
 pub struct AtomLabel {
     pub refused: u32,
     pub state: u32,
@@ -32,7 +34,7 @@ pub struct AtomLabel {
 // The rule of a slot: `muted` is 1 or 0, the entries are the positive list, then the negative one, then zeros. All is 0
 // with a refusal.
 #[repr(C)]
-#[derive(Drop)]
+#[derive(Clone, Copy)]
 pub struct SlotRule {
     pub refused: u32,
     pub head: u32,
@@ -46,7 +48,7 @@ pub struct SlotRule {
 // entry that is in, 3 if it is muted. `atom` is that entry, `place` where it stands in its list, which ascends, from 0;
 // both are 0 where there is none.
 #[repr(C)]
-#[derive(Drop)]
+#[derive(Clone, Copy)]
 pub struct RuleSpoiler {
     pub refused: u32,
     pub spoiled: u32,
@@ -57,7 +59,7 @@ pub struct RuleSpoiler {
 // How many entries were written; with refusal 11, how many are needed. The one struct that crosses with padding, behind
 // `refused`: it is read by its fields, and is no part of a table.
 #[repr(C)]
-#[derive(Drop)]
+#[derive(Clone, Copy)]
 pub struct Written {
     pub refused: u32,
     pub count: usize,
@@ -65,7 +67,7 @@ pub struct Written {
 
 // What a call answers that has no answer named, and the table handed back.
 #[repr(C)]
-#[derive(Drop)]
+#[derive(Clone, Copy)]
 pub struct Accepted {
     pub refused: u32,
     pub table: Table,
@@ -73,7 +75,7 @@ pub struct Accepted {
 
 // `complete` is 1 if the last file's good is in, else 0.
 #[repr(C)]
-#[derive(Drop)]
+#[derive(Clone, Copy)]
 pub struct Completeness {
     pub refused: u32,
     pub complete: u32,

@@ -1,5 +1,7 @@
 // The calls on a table: what they answer, what they hand back, and the questions that a call on an atom, or on a slot,
 // asks first. Arguments are bare numbers; no call asks anything of its caller.
+#![tactic(auto)]
+
 ghost use Rattle.table.specs.Words.{table_of};
 ghost use Rattle.table.specs.Sound.{Sound};
 ghost use Rattle.calls.specs.Asking.{AskAtomEnds, AskSlotEnds};
@@ -11,33 +13,33 @@ use table::slots::rule_in;
 use table::{Atom, Slot, Table};
 
 // The slot that an addition took.
-#[derive(Drop)]
+#[derive(Clone, Copy)]
 pub enum AddAnswer {
     Taken(Slot),
     Refused(Refusal),
 }
 
-#[derive(Drop)]
+#[derive(Clone, Copy)]
 pub struct Added {
     pub answer: AddAnswer,
     pub table: Table,
 }
 
 // What a call that changes a table, or hands one back, and has no answer named, answers: that it was accepted.
-#[derive(Drop)]
+#[derive(Clone, Copy)]
 pub enum ChangeAnswer {
     Accepted,
     Refused(Refusal),
 }
 
-#[derive(Drop)]
+#[derive(Clone, Copy)]
 pub struct Changed {
     pub answer: ChangeAnswer,
     pub table: Table,
 }
 
 // In, with depth and supporting slot.
-#[derive(Drop)]
+#[derive(Clone, Copy)]
 pub enum LabelAnswer {
     Absent,
     Out,
@@ -47,7 +49,7 @@ pub enum LabelAnswer {
 
 // The entry that spoils a rule: its place in the positive or the negative list, which ascend, from 0, and the atom. A
 // muted rule is told as muted, and no more of it.
-#[derive(Drop)]
+#[derive(Clone, Copy)]
 pub enum SpoilerAnswer {
     Valid,
     Muted,
@@ -57,21 +59,21 @@ pub enum SpoilerAnswer {
 }
 
 // How many entries were written.
-#[derive(Drop)]
+#[derive(Clone, Copy)]
 pub enum ListAnswer {
     Count(usize),
     Refused(Refusal),
 }
 
 // What questions 15 and 10 answer: the atom asked about, or the refusal.
-#[derive(Drop)]
+#[derive(Clone, Copy)]
 pub enum AskedAtom {
     Passed(Atom),
     Refused(Refusal),
 }
 
 // What questions 15, 8 and 9 answer: the slot asked about, which holds a rule, or the refusal.
-#[derive(Drop)]
+#[derive(Clone, Copy)]
 pub enum AskedSlot {
     Passed(Slot),
     Refused(Refusal),

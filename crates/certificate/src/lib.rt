@@ -1,5 +1,7 @@
 // What the slots keep, as a certificate: each slot is compared with what it has to keep, by the depths that the slots
 // keep of the atoms of its rule.
+#![tactic(auto)]
+
 ghost use Rattle.std.specs.Prelude.{◌≡◌, true, ◌↔◌};
 ghost use Rattle.theory.specs.Rules.{Bounded};
 ghost use Rattle.theory.specs.Limits.{document};

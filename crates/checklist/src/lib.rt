@@ -1,6 +1,8 @@
 // What a deposit checklist is asked: is it complete, and which files are missing? A library above the table: it reads
 // the slots and what they keep, and asks by the call label. Its list is written as those of the calls are. Arguments are
 // bare numbers; no call asks anything of its caller.
+#![tactic(auto)]
+
 ghost use Rattle.std.specs.Prelude.{◌≡◌, true, ◌↔◌, ◌≤◌};
 ghost use Rattle.table.specs.Words.{table_of};
 ghost use Rattle.table.specs.Sound.{Sound};

@@ -1,5 +1,7 @@
 // The files of a checklist and their atoms; are a table's rules those of a checklist, and of how many files? These
 // leaves take atoms apart, and of the checklist's functions only these read a table's slots.
+#![tactic(auto)]
+
 ghost use Rattle.std.specs.Prelude.{◌≡◌, true, ◌↔◌, ◌≤◌, take};
 ghost use Rattle.std.proofs.Math.Option.{some};
 ghost use Rattle.theory.specs.Rules.{entries};
@@ -15,7 +17,7 @@ use table::{Atom, Rule, Table};
 pub const MOST_FILES: usize = 60;
 
 // The two marks that a file can have.
-#[derive(Drop)]
+#[derive(Clone, Copy)]
 pub enum Mark {
     Sent,
     Skipped,

@@ -1,6 +1,8 @@
 // The calls on a file of a deposit checklist: file sent, file skipped, skip withdrawn. A library above the table: what
 // it asks and changes it does by the calls label and add, and by what remove does to a sound table. Arguments are bare
 // numbers; no call asks anything of its caller.
+#![tactic(auto)]
+
 ghost use Rattle.std.specs.Prelude.{◌≡◌};
 ghost use Rattle.table.specs.Words.{table_of};
 ghost use Rattle.calls.specs.declared.ChangeAnswer.TheVariants.{Refused};
@@ -18,7 +20,7 @@ use table::{Atom, Table};
 
 // What questions 15 (specification 8.4), as far as the rules go, and 20 answer: the atom of the file's mark, or the
 // refusal.
-#[derive(Drop)]
+#[derive(Clone, Copy)]
 enum AskedFile {
     Passed(Atom),
     Refused(Refusal),

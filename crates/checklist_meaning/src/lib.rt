@@ -1,9 +1,11 @@
 // What the calls of the deposit checklist answer, and what they mean: definitions and contracts are in specs/, the laws
 // about them in proofs/.
+#![tactic(auto)]
+
 use refusals::Refusal;
 
 // Is every file good?
-#[derive(Drop)]
+#[derive(Clone, Copy)]
 pub enum CompleteAnswer {
     Complete,
     Incomplete,

@@ -1,4 +1,6 @@
 // Opens a deposit checklist: the rules of its frame put into the slots of the empty table, and a table made of them.
+#![tactic(auto)]
+
 ghost use Rattle.std.specs.Prelude.{◌≤◌};
 ghost use Rattle.checklist_frame.specs.Frame.{most_files};
 ghost use Rattle.checklist_meaning.specs.Ends.{OpenEnds};

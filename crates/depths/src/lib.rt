@@ -1,4 +1,6 @@
 // Depths: rounds over the slots, in which the number of a head falls to the level of a valid rule of it.
+#![tactic(auto)]
+
 ghost use Rattle.std.specs.Prelude.{◌≡◌, true, ◌⊎◌, ◌↔◌, ◌<◌};
 ghost use Rattle.theory.specs.Lists.{every};
 ghost use Rattle.theory.specs.Rules.{Bounded};

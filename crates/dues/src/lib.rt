@@ -1,5 +1,7 @@
 // What a slot has to keep (specification 1.9), given the model of the unmuted rules and the depths of its atoms: the
 // labelling writes it, and question 15 compares it with what is kept.
+#![tactic(auto)]
+
 ghost use Rattle.std.specs.Prelude.{◌≡◌};
 ghost use Rattle.theory.specs.Labels.{place_over};
 ghost use Rattle.table.specs.Sets.{member, number};
@@ -15,7 +17,7 @@ use table::{Atom, Rule, Spoiler, Table};
 // has to keep.
 // The two numbers to keep stand apart: side by side they would be compared as one that was written as two, which waits
 // for both.
-#[derive(Drop)]
+#[derive(Clone, Copy)]
 pub struct Due {
     pub depth: u16,
     pub level: usize,

@@ -1,5 +1,7 @@
 // Writing bytes, numbers and fields at a place of a lent buffer. Where the room is too small nothing is written, and
 // the place stays.
+#![tactic(auto)]
+
 ghost use Rattle.std.specs.Prelude.{◌+◌, ◌-◌, ◌≤◌, ◌≡◌, length};
 ghost use Rattle.fields.specs.Fields.{decimal, field};
 ghost use Rattle.fields.specs.Written.{WroteIn};

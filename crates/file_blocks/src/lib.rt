@@ -1,5 +1,7 @@
 // A file's sizes, numbers of two bytes, and the two sums of a block (specification 7.1 to 7.5). The limits of the table
 // stand in `table`; these are the format's.
+#![tactic(auto)]
+
 ghost use Rattle.std.specs.Prelude.{◌≡◌, ◌+◌, ◌<◌, ◌≤◌, [], ◌∷◌, length};
 ghost use Rattle.fields.specs.Written.{Wrote};
 ghost use Rattle.file_blocks.specs.Words.{BYTE, word, word_at};
@@ -31,7 +33,7 @@ pub const LONGEST: usize = BLOCK * BLOCKS;
 const BYTE: u16 = 256;
 
 // The two sums, A and B, which are a block's checksum.
-#[derive(Drop)]
+#[derive(Clone, Copy)]
 pub struct Pair {
     pub a: u16,
     pub b: u16,

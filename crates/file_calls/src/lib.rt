@@ -1,4 +1,6 @@
 // The calls that keep a table on disk: save writes its file into a lent buffer, load makes a table of a file's bytes.
+#![tactic(auto)]
+
 ghost use Rattle.std.specs.Prelude.{◌≡◌};
 ghost use Rattle.table.specs.Words.{rules_of, table_of};
 ghost use Rattle.table.specs.Clean.{empty_table};

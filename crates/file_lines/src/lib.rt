@@ -1,4 +1,6 @@
 // What is printed of a file: the labels of its table as `L` prints them, or `refused` and the number.
+#![tactic(auto)]
+
 ghost use Rattle.file_lines.specs.Loads.{LoadWrites};
 
 use calls::{ChangeAnswer, ListAnswer};

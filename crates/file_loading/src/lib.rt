@@ -1,4 +1,6 @@
 // The rules that a file records with their marks, read from its bytes.
+#![tactic(auto)]
+
 ghost use Rattle.std.specs.Prelude.{◌≡◌, true, map, ◌↔◌, ◌+◌, ◌-◌, ◌*◌, ◌/◌, ◌%◌, ◌≤◌, leb, length, drop};
 ghost use Rattle.file_blocks.specs.Words.{word_at, words_in};
 ghost use Rattle.file_blocks.specs.Places.{place_numbered, PLACE_ENTRIES};
@@ -15,7 +17,7 @@ use table::{Atom, Rule, Slot, Table};
 
 // A table's numbers with the rules of the records and their marks, if the slots ascend and each record is one that a
 // sound table can hold. Its slots keep nothing.
-#[derive(Drop)]
+#[derive(Clone, Copy)]
 pub struct Records {
     pub right: bool,
     pub table: Table,

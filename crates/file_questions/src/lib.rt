@@ -1,5 +1,7 @@
 // The questions that are asked of a file's length and of its blocks: 16, 17, 18, and 19 of what stands behind the records
 // (specification 7.7).
+#![tactic(auto)]
+
 ghost use Rattle.std.specs.Prelude.{◌≡◌, ◌≤◌, length};
 ghost use Rattle.file_blocks.specs.Files as format;
 ghost use Rattle.file_blocks.specs.Questions.{block_count, whole, summed, counted, filled};
@@ -8,7 +10,7 @@ ghost use Rattle.file_questions.specs.Blocks.{block_numbered, CheckedNext, Check
 use file_blocks::{BLOCK, BODY, HEADER, LONGEST, PLACE, PLACES, sums, word_at};
 
 // What the questions of blocks are answered: sums (17), index and numbers (18), filler (19).
-#[derive(Drop)]
+#[derive(Clone, Copy)]
 pub struct Checked {
     pub summed: bool,
     pub numbered: bool,

@@ -1,4 +1,6 @@
 // The slots of a table that hold rules, and the records of these rules and their marks, written into a lent buffer.
+#![tactic(auto)]
+
 ghost use Rattle.std.specs.Prelude.{◌≡◌, min, ◌+◌, ◌*◌, ◌≤◌, leb, length};
 ghost use Rattle.theory.specs.Limits.{document};
 ghost use Rattle.table.specs.Rules.{numbers, book_of};
@@ -16,7 +18,7 @@ use table::slots::rule_at;
 use table::{Atom, Rule, Slot, Table};
 
 // The slots that hold rules, muted or not, ascending: how many, and which.
-#[derive(Drop)]
+#[derive(Clone, Copy)]
 pub struct HeldSlots {
     pub count: usize,
     pub slots: [Slot; Table::SLOTS],

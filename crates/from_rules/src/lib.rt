@@ -1,4 +1,6 @@
 // A table made from its rules at once.
+#![tactic(auto)]
+
 ghost use Rattle.table.specs.Words.{rules_of};
 ghost use Rattle.from_rules.specs.Making.{WellFormedSlots, Made};
 

@@ -1,4 +1,6 @@
 // A list of calls, written as numbers, made one after another from the empty table.
+#![tactic(auto)]
+
 ghost use Rattle.std.specs.Prelude.{◌≡◌, true};
 ghost use Rattle.calls.specs.Answers.{book_add, book_change};
 ghost use Rattle.history_words.specs.Reading.{checklist_call};
@@ -18,14 +20,14 @@ use table::Table;
 
 // How many calls were made, and the table that the last handed back.
 #[repr(C)]
-#[derive(Drop)]
+#[derive(Clone, Copy)]
 pub struct Replayed {
     pub count: usize,
     pub table: Table,
 }
 
 // One step: was there a call, what did it answer, where does the next stand, and the table.
-#[derive(Drop)]
+#[derive(Clone, Copy)]
 struct Stepped {
     more: bool,
     answer: u32,

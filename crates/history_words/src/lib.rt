@@ -1,11 +1,13 @@
 // A list of calls written as numbers, read call by call.
+#![tactic(auto)]
+
 ghost use Rattle.history_words.specs.Reading.{FindRule, NextLoad, NextMute, NextChecklist, NextOf};
 
 // The call at a place: none, a removal and the place behind it, an addition with the ends of its two lists, a load with
 // the ends of its file and the place behind it, a call of a checklist: which (its kind less 3), its number and the
 // place behind it; a replacement of a slot's rule, with the ends of the new one's lists; or a muting of a slot, on or
 // off, and the place behind it.
-#[derive(Drop)]
+#[derive(Clone, Copy)]
 pub enum Next {
     End,
     Remove(u32, usize),
@@ -17,7 +19,7 @@ pub enum Next {
 }
 
 // The rule at a place: cut short, or its head, where its positives begin, where its negatives do, and where these end.
-#[derive(Drop)]
+#[derive(Clone, Copy)]
 enum RuleFound {
     Cut,
     At(u32, usize, usize, usize),

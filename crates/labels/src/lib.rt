@@ -1,5 +1,7 @@
 // What the slots of a table keep, found anew for its rules: strata, in atoms and depths first, then a walk up the slots
 // that writes what each has to keep.
+#![tactic(auto)]
+
 ghost use Rattle.theory.specs.Rules.{Bounded};
 ghost use Rattle.theory.specs.Limits.{document};
 ghost use Rattle.table.specs.Rules.{program_of};

@@ -1,5 +1,7 @@
 // Is there no loop through a negation? Numbers of the atoms that no dependency goes against show it, whatever they were
 // guessed by; only where none are at hand is it found out by the strata.
+#![tactic(auto)]
+
 ghost use Rattle.std.specs.Prelude.{◌≡◌, true, ◌↔◌};
 ghost use Rattle.theory.specs.Rules.{Bounded};
 ghost use Rattle.theory.specs.Dependencies.{NegativeCycle};

@@ -1,4 +1,6 @@
 // The in atoms of a table's rules, found by rounds over the slots, lowest stratum first.
+#![tactic(auto)]
+
 ghost use Rattle.std.specs.Prelude.{◌≡◌};
 ghost use Rattle.theory.specs.Rules.{passes};
 ghost use Rattle.theory.specs.Models.{valid};
@@ -16,7 +18,7 @@ use table::{Atom, Rule, Table};
 // What is found: the in atoms, and how many rounds were made in each stratum (layer), from the lowest on; 0 past the
 // highest. `order` is a hint, of which nothing is promised: how many slots added their heads, then these slots, in the
 // order in which they did.
-#[derive(Drop)]
+#[derive(Clone, Copy)]
 pub struct Search {
     pub found: [bool; Table::ATOMS],
     pub rounds: [u16; Search::STRATA],

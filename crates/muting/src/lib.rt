@@ -1,5 +1,7 @@
 // Muting a rule: its slot keeps it, with a mark, so that a policy can be tried without it and the rule comes back as it
 // was.
+#![tactic(auto)]
+
 ghost use Rattle.std.specs.Prelude.{◌≡◌};
 ghost use Rattle.table.specs.Sound.{Sound};
 ghost use Rattle.calls.specs.Ends.{MuteEnds};

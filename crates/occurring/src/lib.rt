@@ -1,4 +1,6 @@
 // Which atoms occur: the head and the entries of each rule, muted or not, come into a set.
+#![tactic(auto)]
+
 ghost use Rattle.theory.specs.Rules.{Bounded, entries};
 ghost use Rattle.theory.specs.Limits.{document};
 ghost use Rattle.table.specs.Sets.{member};

@@ -3,6 +3,8 @@
 // recursion), and groups are numbered as they are left, those that others depend on first. Nothing is promised of the
 // numbers but that they are found in the end: crates/loops tests what they are good for. So a test stands in place of a
 // proof wherever a place is read or written, and sums wrap.
+#![tactic(auto)]
+
 use table::Table;
 
 pub mod by_order; // by_order.rt: the slots in the order guessed
@@ -99,7 +101,7 @@ fn entry_in(table: &[u16; Table::WORDS], slot: u16, place: u16) -> u16 {
 // counted, from 1 (`count` is the next); `earliest` is the least count that the walk knows the atom to lead to, and
 // `root` is 1 as long as that is its own. `left` atoms were left for one that they depend on. `open` atoms wait for the
 // root of their group, whose number is `group`.
-#[derive(Drop)]
+#[derive(Clone, Copy)]
 pub struct Walk {
     pub over: bool,
     pub root: u16,
@@ -186,7 +188,7 @@ fn lower(w: Walk, earlier: u16, reach: &mut [u16; Table::ATOMS]) -> Walk {
 
 // What a rule's entries tell up to the first that was not met: that atom, its place, and the earliest that those before
 // it reach.
-#[derive(Drop)]
+#[derive(Clone, Copy)]
 pub struct Told {
     pub unmet: bool,
     pub atom: u16,

@@ -1,11 +1,13 @@
 // A place in a sheet: an offset in the bytes of a line, and the number of that line.
+#![tactic(auto)]
+
 ghost use Rattle.std.specs.Prelude.{◌≡◌};
 ghost use Rattle.places.specs.Places.{past_blanks, next_line};
 ghost use Rattle.places.specs.Places.{start as start-of-sheet};
 
 pub mod moves; // moves.rt: a lent place, moved past blanks and to the next line
 
-#[derive(Drop)]
+#[derive(Clone, Copy)]
 pub struct Place {
     pub offset: usize,
     pub line: u32,

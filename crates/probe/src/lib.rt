@@ -1,4 +1,6 @@
 // The engine's phases, exported for comparison runs and benchmarks. Not part of the library's interface.
+#![tactic(auto)]
+
 ghost use Rattle.std.specs.Prelude.{◌≡◌, true, ◌↔◌};
 ghost use Rattle.table.specs.Words.{table_of};
 ghost use Rattle.history_replay.specs.Replays.{Replays};
@@ -15,7 +17,7 @@ use well_formed::{no_two_equal, slots_well_formed};
 // The table with what its slots have to keep, or as it came: `refused` is 0, or the number of the question that the
 // rules answer no (15 or 7).
 #[repr(C)]
-#[derive(Drop)]
+#[derive(Clone, Copy)]
 pub struct Relabelled {
     pub refused: u32,
     pub table: Table,
@@ -24,7 +26,7 @@ pub struct Relabelled {
 // How many rounds the search for the in atoms made in each layer, from the lowest on; 0 past the highest. `refused` is 0,
 // or the number of the question that the rules answer no (15 or 7), and then all rounds are 0.
 #[repr(C)]
-#[derive(Drop)]
+#[derive(Clone, Copy)]
 pub struct RoundsCounted {
     pub refused: u32,
     pub rounds: [u16; Search::STRATA],

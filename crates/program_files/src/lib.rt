@@ -1,5 +1,7 @@
 // The programs that keep a table on disk (request #103): one reads a sheet and writes the file of the table that it
 // leaves; the other reads a file and writes the labels of its table as `L` does, or `refused` and the number.
+#![tactic(auto)]
+
 ghost use Rattle.std.specs.Prelude.{◌+◌, ◌≡◌, length};
 ghost use Rattle.sheet_meaning.specs.Sheets.{MOST};
 ghost use Rattle.file_lines.specs.Loads.{LONGEST};
@@ -18,7 +20,7 @@ use sheet_feed::Sheet;
 
 // What a sheet left and what was saved of it: the reply to its last line, with the table after it; how many bytes that
 // table's file has; how many were shown, and how many were lost because they could not be written.
-#[derive(Drop)]
+#[derive(Clone, Copy)]
 pub struct Saved {
     pub last: Last,
     pub count: usize,
@@ -28,7 +30,7 @@ pub struct Saved {
 
 // What was read of a file and printed of it: how many bytes were read, and how many of these the last read gave; how
 // many are printed; how many were shown, and how many were lost because they could not be written.
-#[derive(Drop)]
+#[derive(Clone, Copy)]
 pub struct Listed {
     pub read: usize,
     pub got: usize,

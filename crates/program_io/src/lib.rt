@@ -1,5 +1,7 @@
 // The calls of C: a read behind what was read before, and a write. What they did is told in cells that are lent, and
 // that no other function writes.
+#![tactic(auto)]
+
 ghost use Rattle.std.specs.Prelude.{◌+◌, ◌≤◌, ◌<◌, ◌^◌, ◌≡◌, length, take};
 ghost use Rattle.program_io.specs.Told.{shown_of, Writes};
 ghost use Rattle.program_io.specs.Reads.{ReadsPart, ReadsOn};

@@ -1,5 +1,7 @@
 // The one loop that reads: the bytes of standard input are taken as they come, piece by piece, by the task of the
 // program that reads them.
+#![tactic(auto)]
+
 ghost use Rattle.std.specs.Prelude.{◌+◌, ◌-◌, ◌*◌, ◌≤◌, ◌<◌, ◌^◌, ◌≡◌, length, take, drop};
 ghost use Rattle.table.specs.Sound.{Sound};
 ghost use Rattle.sheet_meaning.specs.Sheets.{MOST};
@@ -10,7 +12,7 @@ use sheet_feed::{Sheet, feed};
 
 // What a program does with the bytes that it reads: it answers them as lines of a sheet, and shows the replies or none;
 // or it keeps them.
-#[derive(Drop)]
+#[derive(Clone, Copy)]
 pub enum Task {
     Answer(bool),
     Keep,

@@ -1,5 +1,7 @@
 // A sheet on standard input, answered with one table, empty at the start: each reply is shown on standard output, or
 // none is.
+#![tactic(auto)]
+
 ghost use Rattle.std.specs.Prelude.{◌+◌, ◌<◌, ◌^◌, ◌≡◌, true, false, length};
 ghost use Rattle.table.specs.Sound.{Sound};
 ghost use Rattle.sheet_meaning.specs.Sheets.{MOST};
@@ -16,7 +18,7 @@ pub const MOST: usize = 1048576;
 
 // The reply to the last line. How many bytes were read, and how many of these the last read gave; how many were shown,
 // and how many were lost because they could not be written.
-#[derive(Drop)]
+#[derive(Clone, Copy)]
 pub struct Last {
     pub reply: Reply,
     pub read: usize,

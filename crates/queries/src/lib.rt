@@ -1,5 +1,7 @@
 // The calls that ask a table and change nothing. Each asks question 15 (specification 3.4) first, so that what
 // the table keeps is what is defined, then those of its argument; the first answered no is the refusal.
+#![tactic(auto)]
+
 ghost use Rattle.table.specs.Words.{table_of};
 ghost use Rattle.calls.specs.Ends.{LabelEnds, SpoilerEnds};
 ghost use Rattle.calls.specs.Ends.{JustificationsEnd, ConsequencesEnd, RepercussionsEnd};
@@ -19,7 +21,7 @@ mod answers; // answers.rt: one label, one spoiler, one rule, told as an answer
 
 // A rule told as numbers: its head, whether it is muted, how long its lists are, and its entries: the positive list,
 // then the negative list, then zeros.
-#[derive(Drop)]
+#[derive(Clone, Copy)]
 pub struct RuleNumbers {
     pub head: u16,
     pub muted: bool,
@@ -29,13 +31,13 @@ pub struct RuleNumbers {
 }
 
 // That the slot holds the rule told beside it.
-#[derive(Drop)]
+#[derive(Clone, Copy)]
 pub enum RuleAnswer {
     Held,
     Refused(Refusal),
 }
 
-#[derive(Drop)]
+#[derive(Clone, Copy)]
 pub struct RuleTold {
     pub answer: RuleAnswer,
     pub rule: RuleNumbers,

@@ -1,4 +1,6 @@
 // Questions 1 to 4 (specification 3.2), of the bare arguments of an addition, and of what a slot holds.
+#![tactic(auto)]
+
 ghost use Rattle.std.specs.Prelude.{◌≡◌, ◌+◌, eqb, leb, ltb, length, drop};
 ghost use Rattle.theory.specs.Lists.{every, any, distinct};
 ghost use Rattle.theory.specs.Questions.{first_no, rule_questions};
@@ -12,7 +14,7 @@ use table::Table;
 pub mod clean; // clean.rt: what holds nothing stands as in the empty table; well-formed slots
 
 // What questions 1 to 4 answer of a rule: that it passes, or the refusal.
-#[derive(Drop)]
+#[derive(Clone, Copy)]
 pub enum AskedRule {
     Passed,
     Refused(Refusal),

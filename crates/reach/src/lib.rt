@@ -1,4 +1,6 @@
 // Reachability: the atoms reached from one atom by the edges of a list.
+#![tactic(auto)]
+
 ghost use Rattle.std.specs.Prelude.{◌≡◌, min, length};
 ghost use Rattle.table.specs.Sets.{member};
 ghost use Rattle.reach.specs.Edges.{Reached};

@@ -1,4 +1,6 @@
 // Labels read off a table: of one atom, and of all.
+#![tactic(auto)]
+
 ghost use Rattle.std.specs.Prelude.{◌≡◌, ◌∷◌, ℕ, ◌<◌, eqb, length};
 ghost use Rattle.theory.specs.Lists.{any};
 ghost use Rattle.theory.specs.Rules.{Bounded, passes, entries};

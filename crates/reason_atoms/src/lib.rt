@@ -1,4 +1,6 @@
 // The atoms that an atom's label rests on, gathered along the positive entries of supporting rules.
+#![tactic(auto)]
+
 ghost use Rattle.std.specs.Prelude.{◌≡◌, ◌≤◌, length};
 ghost use Rattle.theory.specs.Limits.{document};
 ghost use Rattle.table.specs.Sets.{member, number};
@@ -16,7 +18,7 @@ use table::{Atom, Rule, Table};
 pub const ALL_ENTRIES: usize = Table::ATOMS * Table::ENTRIES;
 
 // The positive entries of each in atom's supporting rule: how many, and from the atom's place on the entries.
-#[derive(Drop)]
+#[derive(Clone, Copy)]
 pub struct Entries {
     pub counts: [u16; Table::ATOMS],
     pub entries: [u16; ALL_ENTRIES],

@@ -1,10 +1,12 @@
 // What a refusal is: a case for each question that a call can answer no, and its number.
+#![tactic(auto)]
+
 ghost use Rattle.std.specs.Prelude.{◌≡◌};
 ghost use Rattle.refusals.specs.Refusals.{number_of};
 
 // A refusal: a case for each question that a call can answer no. Its number is that of specification 3.2
 // (specs/Refusals).
-#[derive(Drop)]
+#[derive(Clone, Copy)]
 pub enum Refusal {
     HeadTooLarge,
     TooManyEntries,

@@ -1,4 +1,6 @@
 // The sets of justifications and of consequences of an atom: of all rules held, muted or not.
+#![tactic(auto)]
+
 ghost use Rattle.std.specs.Prelude.{◌≡◌, eqb};
 ghost use Rattle.theory.specs.Lists.{any};
 ghost use Rattle.theory.specs.Rules.{passes, entries, Bounded};

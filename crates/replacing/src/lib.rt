@@ -1,4 +1,6 @@
 // Replacing a rule: a removal and an addition in one call, so that a refusal keeps the old rule.
+#![tactic(auto)]
+
 ghost use Rattle.std.specs.Prelude.{◌≡◌};
 ghost use Rattle.std.proofs.Math.Option.{none};
 ghost use Rattle.theory.specs.Rules.{all};

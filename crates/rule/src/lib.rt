@@ -1,4 +1,6 @@
 // One rule: where its lists end, whether it is valid, what spoils it, whether two are equal.
+#![tactic(auto)]
+
 ghost use Rattle.std.specs.Prelude.{◌≡◌, true, ◌↔◌, ◌+◌, ◌≤◌, min};
 ghost use Rattle.std.proofs.Math.Seq.{slice};
 ghost use Rattle.theory.specs.Lists.{before};

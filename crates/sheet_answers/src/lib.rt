@@ -1,5 +1,7 @@
 // The lines that tell what a call answered, written at a place of a lent buffer. No table goes through these functions:
 // it is some kilobytes.
+#![tactic(auto)]
+
 ghost use Rattle.std.specs.Prelude.{◌+◌, ◌≤◌, length};
 ghost use Rattle.sheet_label_lines.specs.LabelLines.{LABELS_ROOM};
 ghost use Rattle.sheet_meaning.specs.Lines.{tell_add, tell_change, tell_reason};

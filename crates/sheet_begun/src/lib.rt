@@ -1,5 +1,7 @@
 // The line at hand of a sheet that comes in pieces of any length: its number, and as many of its bytes as tell what it
 // is.
+#![tactic(auto)]
+
 ghost use Rattle.std.specs.Prelude.{◌≡◌, [], min};
 ghost use Rattle.places.specs.Places.{line_after};
 ghost use Rattle.sheet_begun.specs.Begun.{ENOUGH, BegunOf, Longer, ReadsAs};
@@ -10,7 +12,7 @@ use sheet_lines::read::read;
 
 // The line at hand: its number, and its bytes up to the length. Of a line that is too long, as many bytes are held as
 // show that.
-#[derive(Drop)]
+#[derive(Clone, Copy)]
 pub struct Begun {
     pub number: u32,
     pub bytes: [u8; Begun::ENOUGH],

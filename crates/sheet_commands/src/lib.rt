@@ -1,5 +1,7 @@
 // The commands of a sheet, a function for each: the table after it, and the bytes that it prints, written at a place of
 // a lent buffer. A sheet keeps its own table, which is sound from the start and stays so: question 15 is not asked.
+#![tactic(auto)]
+
 ghost use Rattle.std.specs.Prelude.{◌+◌, ◌≤◌, length};
 ghost use Rattle.table.specs.Sound.{Sound};
 ghost use Rattle.sheet_lines.specs.Commands as sheet;
@@ -17,7 +19,7 @@ use sheet_lines::{Command, Parsed};
 use table::Table;
 
 // The table after a command, and the place in the buffer behind what it prints.
-#[derive(Drop)]
+#[derive(Clone, Copy)]
 pub struct Obeyed {
     pub table: Table,
     pub next: usize,

@@ -1,4 +1,6 @@
 // A sheet that comes in pieces of any length, and the replies to its lines.
+#![tactic(auto)]
+
 ghost use Rattle.std.specs.Prelude.{◌≡◌, ◌+◌, ◌≤◌, ◌<◌, length};
 ghost use Rattle.table.specs.Sound.{Sound};
 ghost use Rattle.calls.specs.declared.ChangeAnswer.TheVariants.{Accepted};
@@ -15,7 +17,7 @@ use sheet_scanner::{Found, Judged, has_room, judge, scan};
 use table::Table;
 
 // A sheet as far as it was read: the table after its whole lines, and the line at hand.
-#[derive(Drop)]
+#[derive(Clone, Copy)]
 pub struct Sheet {
     pub table: Table,
     pub begun: Begun,
@@ -35,7 +37,7 @@ impl Sheet {
 
 // What was made of a piece: the sheet after it, how many bytes of the piece were read, and how many were printed; or
 // the refusal of a buffer without room for every reply.
-#[derive(Drop)]
+#[derive(Clone, Copy)]
 pub struct Fed {
     pub sheet: Sheet,
     pub read: usize,
@@ -44,7 +46,7 @@ pub struct Fed {
 }
 
 // The table after a line, and the place in the buffer behind what it prints; or the same refusal.
-#[derive(Drop)]
+#[derive(Clone, Copy)]
 pub struct Reply {
     pub table: Table,
     pub next: usize,

@@ -1,5 +1,7 @@
 // The lines that are printed of the labels. They are written at a place of a lent buffer that has room for the longest
 // line of every atom; else nothing is written.
+#![tactic(auto)]
+
 ghost use Rattle.std.specs.Prelude.{◌+◌, ◌≤◌, ◌<◌, length};
 ghost use Rattle.theory.specs.Limits.{document};
 ghost use Rattle.table.specs.Labels.{label_of, label_listed};

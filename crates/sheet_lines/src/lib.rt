@@ -1,10 +1,12 @@
 // The language of a sheet's line: reading a line's bytes as a command.
+#![tactic(auto)]
+
 use places::Place;
 
 pub mod read; // read.rt: what a line is
 
 // The commands of a sheet. The lists of an addition or a replacement stand beside it (`Parsed`).
-#[derive(Drop)]
+#[derive(Clone, Copy)]
 pub enum Command {
     Add(u32),
     Remove(u32),
@@ -15,7 +17,7 @@ pub enum Command {
 
 // What a line is (specification 6.4 to 6.8): blank, over-long (question 14), without the form (question 13), or a
 // command.
-#[derive(Drop)]
+#[derive(Clone, Copy)]
 pub enum Reading {
     Blank,
     LineTooLong,
@@ -25,7 +27,7 @@ pub enum Reading {
 
 // A line that was read. The positives of a rule stand first among the entries, then its negatives; all that follow
 // are 0. A reading without a rule has none. The place is in the line that was read, as far on as the reader came.
-#[derive(Drop)]
+#[derive(Clone, Copy)]
 pub struct Parsed {
     pub place: Place,
     pub reading: Reading,

@@ -14,14 +14,14 @@ use places::Place;
 use tokens::{Number, ended, is, next_token, numeral};
 
 // What the rule of a line is stated for: it is added, or it replaces the rule in a slot.
-#[derive(Drop)]
+#[derive(Clone, Copy)]
 enum Purpose {
     Adds,
     Replaces(u32),
 }
 
 // The first count of the entries are numbers that were read. The rest of the line begins at next.
-#[derive(Drop)]
+#[derive(Clone, Copy)]
 struct Numbers {
     entries: [u32; Parsed::TOKENS],
     count: usize,

@@ -1,6 +1,8 @@
 // The lines that are printed of a command that was obeyed, and of a refusal: words and fields parted by one space, each
 // line with its newline. Each is written at a place of a lent buffer that has room for the longest line of its kind;
 // else nothing is written.
+#![tactic(auto)]
+
 ghost use Rattle.std.specs.Prelude.{◌+◌, ◌*◌, ◌≤◌, length};
 ghost use Rattle.fields.specs.Fields.{fields};
 ghost use Rattle.fields.specs.Written.{Wrote, WroteIn};

@@ -1,5 +1,7 @@
 // Scanning a sheet that comes in pieces of any length: each line is read once. One that leaves the table alone is
 // answered in a lent buffer; the first command is handed on as it was read.
+#![tactic(auto)]
+
 ghost use Rattle.std.specs.Prelude.{◌≡◌, ◌+◌, ◌-◌, ◌≤◌, leb, length, drop};
 ghost use Rattle.sheet_label_lines.specs.LabelLines.{LABELS_ROOM};
 ghost use Rattle.sheet_scanner.specs.Judging.{Judges, Unread};
@@ -15,14 +17,14 @@ use sheet_printing::write_refusal;
 
 // Questions 14 and 13 (specification 6.8) of a line: what it prints ends at this place of the buffer, or it is a
 // command.
-#[derive(Drop)]
+#[derive(Clone, Copy)]
 pub enum Judged {
     Told(usize),
     Command(Command),
 }
 
 // What a scan found in its way: a line that is a command, or none.
-#[derive(Drop)]
+#[derive(Clone, Copy)]
 pub enum Found {
     Nothing,
     Command(Command),
@@ -31,7 +33,7 @@ pub enum Found {
 // What was made of a piece without the table: the line at hand, how many bytes of the piece were read and how many were
 // printed, whether the next line may be scanned too, and the command that was found. A command's line is at hand,
 // whole: it was read up to its newline, as `parsed` says.
-#[derive(Drop)]
+#[derive(Clone, Copy)]
 pub struct Scanned {
     pub begun: Begun,
     pub read: usize,

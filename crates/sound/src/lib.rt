@@ -1,5 +1,7 @@
 // Question 15: is the table sound (specification 3.4)? What is kept is checked as a certificate, in passes over the
 // slots.
+#![tactic(auto)]
+
 ghost use Rattle.std.specs.Prelude.{◌≡◌, true, ◌↔◌};
 ghost use Rattle.table.specs.Words.{table_of};
 ghost use Rattle.table.specs.Sound.{Sound};

@@ -1,4 +1,6 @@
 // The strata of a table's rules, muted or not: for each atom the most negative steps on a path of dependencies from it.
+#![tactic(auto)]
+
 ghost use Rattle.std.specs.Prelude.{◌≡◌, ◌≤◌, ◌<◌, length};
 ghost use Rattle.std.proofs.Math.Seq.{slice};
 ghost use Rattle.theory.specs.Lists.{greatest};
@@ -21,7 +23,7 @@ use table::{Atom, Rule, Slot, Table};
 const GUESS: usize = 12;
 
 // Either each atom's stratum, or that there is a negative cycle; `of` says nothing then.
-#[derive(Drop)]
+#[derive(Clone, Copy)]
 pub struct Stratification {
     pub acyclic: bool,
     pub of: [u16; Table::ATOMS],

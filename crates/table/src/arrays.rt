@@ -9,7 +9,7 @@ use super::slots::{depth_at, rule_at};
 use super::{Rule, Slot, Table};
 
 // Of each atom: is it in, its depth and its supporting slot (both 0 where it is not in)?
-#[derive(Drop)]
+#[derive(Clone, Copy)]
 pub struct LabelArrays {
     pub flags: [bool; Table::ATOMS],
     pub depths: [u16; Table::ATOMS],

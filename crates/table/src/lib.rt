@@ -1,4 +1,6 @@
 // The table: its types, its limits and the empty table.
+#![tactic(auto)]
+
 ghost use Rattle.std.specs.Prelude.{◌≡◌};
 ghost use Rattle.table.specs.Clean.{free_rule, empty_table};
 ghost use Rattle.table.specs.Labels.{absent_label};
@@ -11,16 +13,16 @@ pub mod turns; // turns.rt: rounds over the slots, upwards or downwards
 // The number of an atom, and the number of a slot. One passed where the other is meant does not build:
 // "error[mismatched-types]: expected `Atom`, found `Slot`".
 #[repr(C)]
-#[derive(Drop)]
+#[derive(Clone, Copy)]
 pub struct Atom(pub u16);
 
 #[repr(C)]
-#[derive(Drop)]
+#[derive(Clone, Copy)]
 pub struct Slot(pub u16);
 
 // The rule of a slot: free (state 0), or with one rule, unmuted (1) or muted (2). The entries are the positive list,
 // then the negative list.
-#[derive(Drop)]
+#[derive(Clone, Copy)]
 pub struct Rule {
     pub state: u16,
     pub head: Atom,
@@ -30,7 +32,7 @@ pub struct Rule {
 }
 
 // The label of an atom: absent (state 0), out (1), or in (2) with depth and supporting slot.
-#[derive(Drop)]
+#[derive(Clone, Copy)]
 pub struct Label {
     pub state: u16,
     pub depth: u16,
@@ -42,14 +44,14 @@ pub struct Label {
 // entries, and what is kept: the depth of the head if the slot supports it, and the place of the entry that spoils the
 // rule, counted from 1 over both lists; each else 0.
 #[repr(C)]
-#[derive(Drop)]
+#[derive(Clone, Copy)]
 pub struct Table {
     pub words: [u16; Table::WORDS],
 }
 
 // The first entry that spoils a rule, if one does: its place in the positive or the negative list as the slot keeps it,
 // from 0, and its atom.
-#[derive(Drop)]
+#[derive(Clone, Copy)]
 pub enum Spoiler {
     Nothing,
     Positive(u8, Atom),

@@ -1,5 +1,7 @@
 // The limits of the table: T12, and a table that is full, in which rules are replaced.
 // It reads at most the first 1,048,576 bytes of its input (`MOST` in crates/sheet_meaning/specs/Sheets.antt).
+#![tactic(auto)]
+
 fn main() {
     program_sheet::run();
 }

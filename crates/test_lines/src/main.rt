@@ -1,5 +1,7 @@
 // Lines that read and lines that do not.
 // It reads at most the first 1,048,576 bytes of its input (`MOST` in crates/sheet_meaning/specs/Sheets.antt).
+#![tactic(auto)]
+
 fn main() {
     program_sheet::run();
 }

@@ -1,4 +1,6 @@
 // The tokens of a line, and the numbers among them.
+#![tactic(auto)]
+
 ghost use Rattle.std.specs.Prelude.{◌≡◌, ◌+◌, ◌≤◌, length, drop};
 ghost use Rattle.places.specs.Places.{leading};
 ghost use Rattle.tokens.specs.Tokens.{in_token, tokens, one};
@@ -9,14 +11,14 @@ ghost use Rattle.tokens.specs.Parts.{empty, First, as_option};
 use places::{Place, past_blanks};
 
 // The bytes from start up to the place next are a token. Where no token is left, they are none.
-#[derive(Drop)]
+#[derive(Clone, Copy)]
 pub struct Token {
     pub start: usize,
     pub next: Place,
 }
 
 // The number that a token is, where it is one.
-#[derive(Drop)]
+#[derive(Clone, Copy)]
 pub enum Number {
     Missing,
     Is(u32),

@@ -1,4 +1,6 @@
 // A list written from the start of a lent buffer: numbers one after another, and a whole set that is given by flags.
+#![tactic(auto)]
+
 ghost use Rattle.std.specs.Prelude.{◌≡◌, ◌≤◌, length, set};
 ghost use Rattle.table.specs.Sets.{member, one_if};
 ghost use Rattle.written_lists.specs.Lists.{listed_if, below, most_flags};

@@ -1,5 +1,7 @@
 // The calls for C: numbers, slices and structs of numbers cross the boundary, and nothing else. include/yeqontur.h says
 // the same for C.
+#![tactic(auto)]
+
 ghost use Rattle.std.specs.Prelude.{◌≡◌, not, eqb};
 ghost use Rattle.table.specs.Clean.{empty_table};
 ghost use Rattle.table.specs.Questions.{rule_from};

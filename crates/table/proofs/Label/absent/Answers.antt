@@ -1,0 +1,7 @@
+-- `table::Label::absent` meets its contract. Assumes nothing.
+use mathlib.Core.Path.{refl}
+use borrow.Author.Rules.{rules}
+use Rattle.table.proofs.Label.absent.Goals as goal
+
+pub returns : goal.returns
+returns c = refl
