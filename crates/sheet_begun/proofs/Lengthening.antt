@@ -61,7 +61,7 @@ take_within n xs long = go (dec_le n ENOUGH)
 
 -- The array of the line at hand has 121 bytes.
 pub begun_sized : (k : Begun) (vs : List Val) → Is (row begun-type.the_type) k vs → length k.bytes ≡ ENOUGH
-begun_sized k vs p = simp length-map at p.1.1.1.0.1.0.1
+begun_sized k vs p = p.1.1.1.0.1.0.1
 
 -- Every line at hand that the code can have stands for a line: so no contract on it is silent.
 pub begun-of-some :
