@@ -6,8 +6,8 @@ use native.Mathlib.Numerals.{add-one}
 use mathlib.Core.Path.{◌≡◌, refl, sym, ◌∙◌, ap, subst}
 use mathlib.Core.Logic.{◌⊎◌, inl, inr, ⊎_elim}
 use mathlib.Core.List.{List, [], ◌∷◌, ◌++◌, append-nil, append_assoc}
-use lib.ListN.{length, take, get_or, set, length-append, length-map}
-use lib.Seq.{take_all, take-take, take-append-le, take-append-add, length-take-le, take-suc, take-suc-set}
+use lib.ListN.{length, take, get_or, set, length-append}
+use lib.Seq.{take_all, take-append-le, take-append-add, length-take-le, take-suc, take-suc-set}
 use mir.Val.{Val}
 use denote.Struct.Declared.{row}
 use denote.Laws.{Is}
