@@ -21,13 +21,13 @@ use Rattle.file_records.proofs.write_records.Goals.{In-loop-k}
 -- the slot of the record, which is one of the rules'
 slot-low :
     (c : In-loop-k)
-    → (let s = c.args in (get_or s.t4.slots (s.from + c.loop-k.k) (slot 0)).0)
+    → (let s = c.args in (get_or s.held.slots (s.from + c.loop-k.k) (slot 0)).0)
     < document.slots
 slot-low c =
     let table = c.args.table.now in
     omega (
       arith,
-      slot-below (rules_of table) c.args.held c.requires.held_in.0 (c.args.from + c.loop-k.k)
+      slot-below (rules_of table) c.args.held c.requires.held_in (c.args.from + c.loop-k.k)
           (omega (arith, c.requires)),
       rules-length table,
     )
@@ -61,7 +61,7 @@ loop-k-smaller c = omega arith
 pub loop-k-preserved : goal.loop-k-preserved
 loop-k-preserved c = (
   omega arith,
-  wrote-next-record (rules_of c.args.table.now) c.args.from c.args.held c.requires.held_in.0 c.loop-k.k
+  wrote-next-record (rules_of c.args.table.now) c.args.from c.args.held c.requires.held_in c.loop-k.k
       (omega (arith, c.requires)) c.loop-k.invariant.1 _
       (c.rule_at-rule.ensures, c.write_record.ensures),
 )

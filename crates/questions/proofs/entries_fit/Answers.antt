@@ -1,14 +1,7 @@
 -- `questions::entries_fit` meets its contract. Assumes nothing.
 -- The loop keeps: the rest of the list answers for the whole list.
-use Prim.Native.Nat.{◌-◌}
-use mathlib.Core.Path.{◌≡◌, refl, sym, ◌∙◌}
-use lib.Dec.{ltb}
-use lib.ListN.{length, drop}
-use Rattle.theory.specs.Lists.{every}
-use Rattle.theory.specs.Limits.{document}
-use Rattle.theory.proofs.Lists.{not-true, not-false}
+use mathlib.Core.Path.{refl, sym, ◌∙◌}
 use Rattle.table.proofs.Walks.{every-rest-over, every-rest-next, every-rest-stop}
-use borrow.Author.Rules.{rules}
 use Rattle.questions.proofs.entries_fit.Goals as goal
 
 pub loop-i-init : goal.loop-i-init

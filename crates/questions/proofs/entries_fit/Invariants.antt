@@ -1,11 +1,9 @@
 use Prim.Native.Nat.{◌-◌}
-use mathlib.Core.Path.{◌≡◌, refl, sym, ◌∙◌}
+use mathlib.Core.Path.{◌≡◌}
 use lib.Dec.{ltb}
 use lib.ListN.{length, drop}
 use Rattle.theory.specs.Lists.{every}
 use Rattle.theory.specs.Limits.{document}
-use Rattle.theory.proofs.Lists.{not-true, not-false}
-use Rattle.table.proofs.Walks.{every-rest-over, every-rest-next, every-rest-stop}
 use Rattle.questions.proofs.entries_fit.Given as goal
 
 abbrev pub invariant-loop-i : goal.invariant-loop-i

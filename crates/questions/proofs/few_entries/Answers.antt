@@ -1,6 +1,5 @@
 -- `questions::few_entries` meets its contract: one length past the room puts the sum past it. Assumes nothing.
 use Rattle.questions.proofs.Refusals.{first_past, second_past}
-use borrow.Author.Rules.{rules}
 use Rattle.questions.proofs.few_entries.Goals as goal
 
 pub returns-then-positives-gt-ENTRIES : goal.returns-then-positives-gt-ENTRIES

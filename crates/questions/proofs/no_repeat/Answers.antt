@@ -1,11 +1,7 @@
 -- `questions::no_repeat` meets its contract. Assumes nothing.
 -- The loop keeps: the rest of the list answers for the whole list.
-use Prim.Native.Nat.{◌-◌}
-use mathlib.Core.Path.{◌≡◌, refl, sym, ◌∙◌}
-use lib.ListN.{length, drop}
-use Rattle.theory.specs.Lists.{distinct}
+use mathlib.Core.Path.{refl, sym, ◌∙◌}
 use Rattle.table.proofs.Walks.{distinct-over, distinct-next, distinct-stop}
-use borrow.Author.Rules.{rules}
 use Rattle.questions.proofs.no_repeat.Goals as goal
 
 pub loop-i-init : goal.loop-i-init

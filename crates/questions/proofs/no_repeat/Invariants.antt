@@ -1,8 +1,7 @@
 use Prim.Native.Nat.{◌-◌}
-use mathlib.Core.Path.{◌≡◌, refl, sym, ◌∙◌}
+use mathlib.Core.Path.{◌≡◌}
 use lib.ListN.{length, drop}
 use Rattle.theory.specs.Lists.{distinct}
-use Rattle.table.proofs.Walks.{distinct-over, distinct-next, distinct-stop}
 use Rattle.questions.proofs.no_repeat.Given as goal
 
 abbrev pub invariant-loop-i : goal.invariant-loop-i

@@ -1,13 +1,8 @@
 -- `questions::stands_from` meets its contract. Assumes nothing.
 -- The loop keeps: the rest of the list answers for the whole part.
-use Prim.Native.Nat.{◌-◌}
-use mathlib.Core.Path.{◌≡◌, refl, sym, ◌∙◌}
-use lib.Dec.{eqb}
-use lib.ListN.{length, drop}
+use mathlib.Core.Path.{refl, sym, ◌∙◌}
 use borrow.Author.Tests.{eq-eqb, ne_eqb}
-use Rattle.theory.specs.Lists.{any}
 use Rattle.table.proofs.Walks.{any-rest-over, any-rest-next, any-rest-stop}
-use borrow.Author.Rules.{rules}
 use Rattle.questions.proofs.stands_from.Goals as goal
 
 pub loop-i-init : goal.loop-i-init

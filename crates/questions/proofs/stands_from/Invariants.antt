@@ -1,10 +1,8 @@
 use Prim.Native.Nat.{◌-◌}
-use mathlib.Core.Path.{◌≡◌, refl, sym, ◌∙◌}
+use mathlib.Core.Path.{◌≡◌}
 use lib.Dec.{eqb}
 use lib.ListN.{length, drop}
-use borrow.Author.Tests.{eq-eqb, ne_eqb}
 use Rattle.theory.specs.Lists.{any}
-use Rattle.table.proofs.Walks.{any-rest-over, any-rest-next, any-rest-stop}
 use Rattle.questions.proofs.stands_from.Given as goal
 
 abbrev pub invariant-loop-i : goal.invariant-loop-i

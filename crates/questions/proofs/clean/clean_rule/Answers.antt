@@ -1,4 +1,6 @@
 -- `questions::clean::clean_rule` meets its contract. Each return has what the tests before it told. Assumes nothing.
+use mathlib.Core.Path.{ap}
+use mathlib.Core.Bool.{not}
 use mathlib.Core.Path.{◌≡◌}
 use lib.ListN.{length, length-map}
 use Rattle.theory.specs.Limits.{document}
@@ -17,19 +19,19 @@ returns-then-n-gt-ENTRIES c =
 
 pub returns-then-not-empty_from : goal.returns-then-not-empty_from
 returns-then-not-empty_from c =
-    not-empty c.args.rule (long c.before.before.before.before.before) c.if-n-gt-ENTRIES.false _ c.empty_from.ensures c.if-not-empty_from.true
+    not-empty c.args.rule (long c.before.before.before.before.before) c.if-n-gt-ENTRIES.false _ c.empty_from.ensures (ap not c.if-not-empty_from.true)
 
 pub returns-then-rule-ne0 : goal.returns-then-rule-ne0
 returns-then-rule-ne0 c =
-    held-clean c.args.rule (long c.before.before.before.before.before.before.before.before) c.if-n-gt-ENTRIES.false _ c.empty_from.ensures c.if-not-empty_from.false
+    held-clean c.args.rule (long c.before.before.before.before.before.before.before.before) c.if-n-gt-ENTRIES.false _ c.empty_from.ensures (ap not c.if-not-empty_from.false)
     c.if-rule-ne0.true
 
 pub returns-then-n-ne0 : goal.returns-then-n-ne0
 returns-then-n-ne0 c =
-    free-counts c.args.rule (long c.before.before.before.before.before.before.before.before) c.if-n-gt-ENTRIES.false _ c.empty_from.ensures c.if-not-empty_from.false
+    free-counts c.args.rule (long c.before.before.before.before.before.before.before.before) c.if-n-gt-ENTRIES.false _ c.empty_from.ensures (ap not c.if-not-empty_from.false)
     c.if-rule-ne0.false c.if-n-ne0.true
 
 pub returns : goal.returns
 returns c =
-    free-head c.args.rule (long c.before.before.before.before.before.before.before.before.before) c.if-n-gt-ENTRIES.false _ c.empty_from.ensures c.if-not-empty_from.false
+    free-head c.args.rule (long c.before.before.before.before.before.before.before.before.before) c.if-n-gt-ENTRIES.false _ c.empty_from.ensures (ap not c.if-not-empty_from.false)
     c.if-rule-ne0.false c.if-n-ne0.false

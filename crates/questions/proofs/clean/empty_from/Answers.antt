@@ -1,10 +1,9 @@
 -- `questions::clean::empty_from` meets its contract. Assumes nothing.
 use native.Mathlib.Omega.{arith}
 use mathlib.Core.Path.{◌≡◌}
-use lib.ListN.{length, length-map}
+use lib.ListN.{length}
 use Rattle.theory.specs.Limits.{document}
 use Rattle.questions.proofs.Cleanness.{none_after, nothing-added}
-use borrow.Author.Rules.{rules}
 use Rattle.questions.proofs.clean.empty_from.Goals as goal
 use Rattle.questions.proofs.clean.empty_from.Goals.{Start}
 

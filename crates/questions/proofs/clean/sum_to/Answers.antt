@@ -1,11 +1,8 @@
 -- `questions::clean::sum_to` meets its contract. The sum fits, since each entry is a number of 16 bits. Assumes nothing.
-use Prim.Native.Nat.{◌-◌, ◌*◌, ◌≤◌}
 use native.Mathlib.Omega.{arith}
-use mathlib.Core.Path.{◌≡◌, refl, sym, ◌∙◌, ap}
-use Rattle.table.specs.Rules.{no_atom}
+use mathlib.Core.Path.{◌≡◌, refl, ◌∙◌, ap}
 use Rattle.questions.specs.Sums.{sum_to}
 use Rattle.questions.proofs.Cleanness.{sum-next}
-use borrow.Author.Rules.{rules}
 use Rattle.questions.proofs.clean.sum_to.Goals as goal
 
 pub loop-j-init : goal.loop-j-init

@@ -1,9 +1,6 @@
 use Prim.Native.Nat.{◌-◌, ◌*◌, ◌≤◌}
-use native.Mathlib.Omega.{arith}
-use mathlib.Core.Path.{◌≡◌, refl, sym, ◌∙◌, ap}
-use Rattle.table.specs.Rules.{no_atom}
+use mathlib.Core.Path.{◌≡◌}
 use Rattle.questions.specs.Sums.{sum_to}
-use Rattle.questions.proofs.Cleanness.{sum-next}
 use Rattle.questions.proofs.clean.sum_to.Given as goal
 
 abbrev pub invariant-loop-j : goal.invariant-loop-j
