@@ -1,4 +1,3 @@
 -- The laws that the functions' proofs cite.
 pub mod Leading
-pub mod Lent
 pub mod Places

@@ -7,7 +7,7 @@ use borrow.Author.Rules.{rules}
 use Rattle.fields.proofs.write_field.Goals as goal
 
 pub returns-then-bytes_left-lt11 : goal.returns-then-bytes_left-lt11
-returns-then-bytes_left-lt11 c = (wrote_none (omega arith), omega arith)
+returns-then-bytes_left-lt11 c = record { wrote_in = wrote_none (omega arith); upper_bound = omega arith }
 
 pub returns : goal.returns
 unfolding field
@@ -15,4 +15,4 @@ returns c =
     let few = decimal-length 9 c.args.n (omega arith) in
     let blank = c.write_bytes-next.ensures.fits (omega arith) in
     let digits = c.write_number.ensures.fits (omega (arith, few, blank.place)) in
-    (wrote-all (omega arith) (wrote_then blank digits), omega (arith, few, blank.place, digits.place))
+    record { wrote_in = wrote-all (omega arith) (wrote_then blank digits); upper_bound = omega (arith, few, blank.place, digits.place) }

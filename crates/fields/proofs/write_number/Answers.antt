@@ -30,19 +30,19 @@ loop-rest-preserved c =
 
 pub slice_bounds-write_bytes-end : goal.slice_bounds-write_bytes-end
 slice_bounds-write_bytes-end c =
-    let l = c.loop in
+    let l = c.loop-rest in
     simp length-set (omega (arith, l.invariant.0))
 
 pub returns : goal.returns
 returns c =
     let wb = c.write_bytes in
     let a = c.args in
-    let l = c.loop in
+    let l = c.loop-rest in
     let stored = set l.digits l.i (48 + l.rest) in
-    let small : l.rest < 10 = c.loop-test.false in
+    let small : l.rest < 10 = c.loop-rest-test.false in
     let long : length (drop l.i stored) ≤ 10 - l.i =
     omega (arith, length-drop l.i stored, length-set l.digits l.i (48 + l.rest), l.invariant.0) in
     let spelled : take (10 - l.i) (drop l.i stored) ≡ decimal a.n =
     take_all (10 - l.i) (drop l.i stored) long
     ∙ digit-first l.digits l.i l.rest (omega arith) _ l.invariant.3 small in
-    rw spelled c wb.ensures
+    rw spelled at wb.ensures

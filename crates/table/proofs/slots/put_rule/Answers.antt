@@ -16,7 +16,7 @@ returns-then-i-lt-SLOTS c =
     let i = c.args.s.0 in
     let r = c.args.rule in
     let made = c.rule_words-part.ensures in
-    let all : length r.entries ≡ document.entries = simp length-map at c.well_formed.1.1.0.1.1.1.1.1.1.0.1.0.1 in
+    let all : length r.entries ≡ document.entries = c.well_formed.1.1.0.1.1.1.1.1.1.0.1.0.1 in
     ap rules_of (c.paste.ensures.0 ∙ ap (λ a. paste w (width * i) a 12) made)
     ∙ put-rules w i r c.paste.ensures.1 (omega (arith, c.if-i-lt-SLOTS.true)) all
 

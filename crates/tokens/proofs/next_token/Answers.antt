@@ -7,21 +7,15 @@ use mathlib.Core.Path.{ap}
 use Rattle.places.specs.declared.Place.{Place}
 use Rattle.places.proofs.Leading.{leading-within}
 use Rattle.tokens.proofs.Tokens.{first-token, rest-tokens}
-use Rattle.tokens.proofs.next_token.Statement.{statement}
-use Rattle.tokens.proofs.next_token.Tie as tie
+use borrow.Author.Rules.{rules}
+use Rattle.tokens.proofs.next_token.Goals as goal
 
-past-blanks-requires : tie.Need-past-blanks-requires
-past-blanks-requires c κs = tt
-
-token-end-requires : tie.Need-token-end-requires
-token-end-requires c κs = tt
-
-returns : tie.Need-returns
+pub returns : goal.returns
 returns c =
-    let begin = c.before.past-blanks in
-    let end = c.token-end in
-    let line = c.before.before.before.args.line.now in
-    let place = c.before.before.before.args.place in
+    let begin = c.past_blanks-begin in
+    let end = c.token_end-end in
+    let line = c.args.line.now in
+    let place = c.args.place in
     let from = place.offset in
     let start = begin.result.offset in
     let passed = ap (λ (p : Place). p.offset) begin.ensures in
@@ -47,6 +41,3 @@ returns c =
       first = first-token line from start end.result passed end.ensures;
       rest = rest-tokens line from start end.result passed end.ensures;
     }
-
-pub next-token-spec : {M : Type 1} → statement M
-next-token-spec = tie.close (tie.spec past-blanks-requires token-end-requires returns)

@@ -1,0 +1,37 @@
+-- `sheet_printing::write_fields` meets its contract. The loop keeps: the fields below `i` are written.
+-- Assumes nothing.
+use Prim.Native.Nat.{◌+◌, ◌-◌, ◌*◌, ◌≤◌}
+use native.Mathlib.Omega.{arith}
+use lib.ListN.{length, take}
+use lib.Seq.{take_all}
+use Rattle.fields.specs.Fields.{fields}
+use Rattle.fields.specs.Written.{Wrote}
+use Rattle.fields.proofs.Wrote.{wrote_nothing, wrote-length}
+use Rattle.sheet_printing.proofs.Fields.{wrote-next-field}
+use borrow.Author.Rules.{rules}
+use Rattle.sheet_printing.proofs.write_fields.Goals as goal
+
+pub loop-i-init : goal.loop-i-init
+unfolding fields
+loop-i-init c = (omega arith, omega arith, wrote_nothing (omega arith))
+
+pub write_field-next-requires : goal.write_field-next-requires
+write_field-next-requires c =
+    omega (arith, wrote-length c.loop-i.invariant.2)
+
+pub loop-i-preserved : goal.loop-i-preserved
+loop-i-preserved c =
+    let l = c.loop-i in
+    let same = wrote-length l.invariant.2 in (
+      omega arith,
+      omega arith,
+      wrote-next-field _ l.i (omega arith) l.invariant.2 (c.write_field-next.ensures.wrote_in.fits (omega arith)),
+    )
+
+pub shape_of-out : goal.shape_of-out
+shape_of-out c = wrote-length c.loop-i.invariant.2
+
+pub returns : goal.returns
+returns c =
+    let over : length c.args.numbers.now ≤ c.loop-i.i = omega arith in
+    rw take_all at c.loop-i.invariant.2

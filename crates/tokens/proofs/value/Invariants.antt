@@ -1,0 +1,13 @@
+use Prim.Native.Nat.{◌-◌, ◌^◌, ◌≤◌, ◌<◌}
+use native.Mathlib.Omega.{arith}
+use mathlib.Core.Path.{◌≡◌, refl, ◌∙◌}
+use lib.ListN.{length, get_or, drop}
+use Rattle.tokens.specs.Numerals.{spelled_from}
+use Rattle.tokens.proofs.Numerals.{spelled-more, spelled-low, spelled-high, spelled-end, room-left, room_next}
+use Rattle.tokens.proofs.value.Given as goal
+
+abbrev pub invariant-loop-i : goal.invariant-loop-i
+invariant-loop-i l = (l.i ≤ length l.token) × (l.n < 10 ^ l.i) × (spelled_from l.n (drop l.i l.token) ≡ spelled_from 0 l.token)
+
+abbrev pub decreases-loop-i : goal.decreases-loop-i
+decreases-loop-i l = length l.token - l.i
