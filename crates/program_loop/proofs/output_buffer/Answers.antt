@@ -3,11 +3,7 @@ use Prim.Native.Nat.{ℕ}
 use mathlib.Core.Path.{sym}
 use lib.ListN.{length-replicate}
 use Rattle.program_loop.specs.Takes.{SPACE}
-use Rattle.program_loop.proofs.output_buffer.Statement.{statement}
-use Rattle.program_loop.proofs.output_buffer.Tie as tie
+use Rattle.program_loop.proofs.output_buffer.Goals as goal
 
-returns : tie.Need-returns
+pub returns : goal.returns
 returns c = sym (length-replicate {0} {A = ℕ} SPACE 0)
-
-pub output-buffer-spec : {M : Type 1} → statement M
-output-buffer-spec = tie.close (tie.spec returns)
