@@ -3,11 +3,7 @@ use Prim.Native.Nat.{ℕ}
 use mathlib.Core.Path.{sym}
 use lib.ListN.{length-replicate}
 use Rattle.sheet_meaning.specs.Sheets.{MOST}
-use Rattle.program_sheet.proofs.input_buffer.Statement.{statement}
-use Rattle.program_sheet.proofs.input_buffer.Tie as tie
+use Rattle.program_sheet.proofs.input_buffer.Goals as goal
 
-returns : tie.Need-returns
+pub returns : goal.returns
 returns c = sym (length-replicate {0} {A = ℕ} MOST 0)
-
-pub input-buffer-spec : {M : Type 1} → statement M
-input-buffer-spec = tie.close (tie.spec returns)
