@@ -1,0 +1,17 @@
+use Prim.Native.Nat.{ℕ, ◌-◌, ◌≤◌, ◌<◌}
+use native.Mathlib.Omega.{arith}
+use Rattle.theory.specs.Limits.{document}
+use Rattle.theory.proofs.Lists.{clash, not-true, not-false}
+use Rattle.table.specs.declared.Rule.{Rule}
+use Rattle.table.specs.Rules.{book_of, page_of}
+use Rattle.table.specs.Words.{rules_of}
+use Rattle.table.proofs.Words.{rules-length, told_of}
+use Rattle.checklist_frame.specs.Parts.{FreeOrMark}
+use Rattle.checklist_frame.proofs.Slots.{MarksTo, marks-more, marks-stop, marks-all}
+use Rattle.checklist_frame.proofs.marks_behind.Given as goal
+
+abbrev pub invariant-loop-s : goal.invariant-loop-s
+invariant-loop-s l = (l.n < l.s) × (l.s ≤ document.slots) × MarksTo (book_of (rules_of l.table)) l.n l.s
+
+abbrev pub decreases-loop-s : goal.decreases-loop-s
+decreases-loop-s l = document.slots - l.s

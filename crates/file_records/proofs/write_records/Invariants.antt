@@ -1,0 +1,22 @@
+use Prim.Native.Nat.{◌+◌, ◌-◌, ◌*◌, ◌≤◌, ◌<◌}
+use native.Mathlib.Omega.{arith}
+use mathlib.Core.Path.{◌≡◌, sym, subst}
+use lib.ListN.{get_or}
+use Rattle.theory.specs.Limits.{document}
+use Rattle.table.specs.Words.{rules_of}
+use Rattle.table.specs.Clean.{CleanRule}
+use Rattle.table.proofs.Words.{rules-length}
+use Rattle.fields.specs.Written.{Wrote}
+use Rattle.fields.proofs.Wrote.{wrote-length}
+use Rattle.file_blocks.specs.Files.{PLACE}
+use Rattle.file_records.proofs.Held.{slot-below}
+use Rattle.file_records.specs.Held.{slot}
+use Rattle.file_records.specs.Bytes.{records_bytes}
+use Rattle.file_records.proofs.Records.{wrote-no-record, wrote-next-record}
+use Rattle.file_records.proofs.write_records.Given as goal
+
+abbrev pub invariant-loop-k : goal.invariant-loop-k
+invariant-loop-k l = (l.k ≤ l.count) × Wrote (records_bytes (rules_of l.table) l.from l.k) l.initial.out l.at l.out (l.at + PLACE * l.k)
+
+abbrev pub decreases-loop-k : goal.decreases-loop-k
+decreases-loop-k l = l.count - l.k

@@ -1,0 +1,29 @@
+use Rattle.std.proofs.Common.{◌≡◌, suc, ◌-◌, ◌≤◌, length, sym, refl, ◌∙◌, arith, rules}
+use Rattle.theory.specs.Limits.{document}
+use Rattle.theory.proofs.Lists.{not-true, not-false}
+use Rattle.theory.proofs.Found.{found-filled}
+use Rattle.table.specs.Rules.{active_of}
+use Rattle.table.specs.Words.{rules_of}
+use Rattle.table.specs.Sets.{member, number}
+use Rattle.table.proofs.Words.{rules-length}
+use Rattle.model.proofs.Visits.{Left, left-start, left-idle, left-stop, left-add, left-rest, waits-sought}
+use Rattle.model.proofs.Visits.{NoneFrom, Seen, seen_start, seen-over, seen_here, seen-mark, seen_end}
+use Rattle.model.proofs.Rounds.{Going, going_start, going-few, room_of, head-below}
+use Rattle.model.proofs.Rounds.{strata-given, stratum-next, stratum-end}
+use Rattle.model.proofs.fill_stratum.Given as goal
+
+abbrev pub invariant-loop-i : goal.invariant-loop-i
+invariant-loop-i l =
+    Left (number l.strata) l.k (rules_of l.table) l.initial.found l.i l.found l.adds × Seen (number l.strata) l.k (rules_of l.table) l.found l.end l.last l.i
+    × (l.end ≤ document.slots)
+
+abbrev pub decreases-loop-i : goal.decreases-loop-i
+decreases-loop-i l = l.end - l.i
+
+abbrev pub invariant-loop-end : goal.invariant-loop-end
+invariant-loop-end l =
+    Going (active_of (rules_of l.table)) (number l.strata) l.k (member l.initial.found) (member l.found) l.rounds
+    × (length l.found ≡ length l.initial.found) × NoneFrom (number l.strata) l.k (rules_of l.table) l.found l.end × (l.end ≤ document.slots)
+
+abbrev pub decreases-loop-end : goal.decreases-loop-end
+decreases-loop-end l = suc document.slots - l.rounds

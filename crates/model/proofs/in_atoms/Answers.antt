@@ -1,0 +1,45 @@
+-- `model::in_atoms` answers the admissible model and the rounds of each layer. Assumes nothing.
+-- Before layer k all layers below it have ended; above the highest there are no heads.
+use Rattle.std.proofs.Common.{suc, ◌-◌, ◌<◌, refl, arith, rules}
+use Rattle.theory.specs.Limits.{document}
+use Rattle.table.specs.Rules.{book_of}
+use Rattle.table.specs.Words.{rules_of}
+use Rattle.table.specs.Sets.{number}
+use Rattle.table.proofs.Words.{rules-length}
+use Rattle.model.proofs.Rounds.{Between, between_start, between_next, between-end, stratum-room}
+use borrow.Author.Rules.{rules}
+use Rattle.model.proofs.in_atoms.Goals as goal
+use Rattle.model.proofs.in_atoms.Goals.{After-fill_stratum-n}
+
+pub loop-k-init : goal.loop-k-init
+loop-k-init c =
+    between_start (rules_of c.args.table.now) _ c.requires _ c.highest-top.ensures document.atoms
+    (suc document.slots) refl refl
+
+pub fill_stratum-n-requires : goal.fill_stratum-n-requires
+fill_stratum-n-requires c = c.loop-k.invariant.ready
+
+-- the highest layer has a place in the array of rounds
+room :
+    (c : After-fill_stratum-n)
+    → c.highest-top.result < suc document.slots
+room c =
+    let len = rules-length c.args.table.now in
+    stratum-room (rules_of c.args.table.now) _ c.requires _ c.highest-top.ensures len
+
+pub bounds-rounds-k : goal.bounds-rounds-k
+bounds-rounds-k c = (let r = room c in search rules)
+
+pub returns-then-k-top : goal.returns-then-k-top
+returns-then-k-top c =
+    let len = rules-length c.args.table.now in
+    let told = c.highest-top.ensures in
+    between-end (rules_of c.args.table.now) _ c.requires _ told len _ _ _ _ _
+    c.loop-k.invariant c.fill_stratum-n.ensures _ c.if-k-top.true
+
+pub loop-k-preserved : goal.loop-k-preserved
+loop-k-preserved c =
+    let len = rules-length c.args.table.now in
+    let told = c.highest-top.ensures in
+    between_next (rules_of c.args.table.now) _ c.requires _ told len _ _ _ _ _
+    c.loop-k.invariant c.fill_stratum-n.ensures (omega (arith, c.if-k-top.false))

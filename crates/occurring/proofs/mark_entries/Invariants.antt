@@ -1,0 +1,16 @@
+use Rattle.theory.specs.Limits.{document}
+use native.Mathlib.Omega.{arith}
+use Prim.Native.Nat.{◌-◌, ◌≤◌}
+use mathlib.Core.Path.{◌≡◌, ◌∙◌}
+use lib.ListN.{length, take, length-map}
+use Rattle.table.specs.Rules.{numbers}
+use Rattle.table.proofs.Entries.{entries-are}
+use Rattle.occurring.specs.Marks.{Marked}
+use Rattle.occurring.proofs.Marks.{marked-none, front-next}
+use Rattle.occurring.proofs.mark_entries.Given as goal
+
+abbrev pub invariant-loop-j : goal.invariant-loop-j
+invariant-loop-j l = (l.j ≤ l.n) × Marked (numbers (take l.j l.rule.entries)) l.initial.flags l.flags
+
+abbrev pub decreases-loop-j : goal.decreases-loop-j
+decreases-loop-j l = l.n - l.j
