@@ -1,0 +1,20 @@
+use Prim.Native.Nat.{◌-◌}
+use native.Mathlib.Omega.{arith}
+use mathlib.Core.Path.{refl}
+use mathlib.Core.Bool.{false}
+use Rattle.theory.specs.Limits.{document}
+use Rattle.theory.proofs.Lists.{not-true, not-false}
+use Rattle.table.specs.Sets.{member, number}
+use Rattle.table.specs.Rules.{book_of}
+use Rattle.table.specs.Words.{rules_of, depth_at, spoiler_at}
+use Rattle.table.proofs.Members.{all_alike}
+use Rattle.certificate.proofs.Walk.{Walked, walk-starts, walk-stops, walk-goes, walk_ends, compared_at, table-long}
+use Rattle.certificate.proofs.confirmed.Given as goal
+
+abbrev pub invariant-loop-i : goal.invariant-loop-i
+invariant-loop-i l =
+    Walked (book_of (rules_of l.table)) (member l.flags) (number l.depths) (depth_at l.table) (spoiler_at l.table)
+    document.atoms l.given l.i
+
+abbrev pub decreases-loop-i : goal.decreases-loop-i
+decreases-loop-i l = document.slots - l.i
