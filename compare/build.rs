@@ -1,4 +1,4 @@
-//! Links the proved engine's phases: the static library that `rt staticlib probe` writes.
+//! Links the proved engine's phases: the static library that `./build probe` makes.
 
 use std::path::Path;
 
@@ -11,7 +11,7 @@ fn main() {
     println!("cargo:rerun-if-changed={}", library.display());
     assert!(
         library.exists(),
-        "{} is missing: run `rt staticlib probe` first",
+        "{} is missing: run `./build probe` first",
         library.display()
     );
     println!("cargo:rustc-link-search=native={}", folder.display());

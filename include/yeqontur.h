@@ -19,7 +19,7 @@
  * place (yeqontur_add_to and those behind it) take no more for many than for one.
  *
  * The library is for x86-64. Build with `pkg-config --cflags --libs yeqontur` where it is installed (./install PREFIX);
- * in the repository with -Iinclude and target/staticlib/libyeqontur.a, which `rt staticlib yeqontur` makes.
+ * in the repository with -Iinclude and target/staticlib/libyeqontur.a, which `./build yeqontur` makes.
  */
 #ifndef YEQONTUR_H
 #define YEQONTUR_H

@@ -1,6 +1,6 @@
 //! Links the proved library, and takes the words of the refusals from the C header, where they stand once.
 //!
-//! Header and library lie in the repository that this crate is part of (`rt staticlib yeqontur` makes the library), or
+//! Header and library lie in the repository that this crate is part of (`./build yeqontur` makes the library), or
 //! under the prefix that it was installed to (`./install PREFIX` puts this crate into PREFIX/share/yeqontur/rust).
 
 use std::path::PathBuf;
@@ -27,7 +27,7 @@ fn found() -> (PathBuf, PathBuf) {
     let library = folder.join("libyeqontur.a");
     assert!(
         library.exists(),
-        "{} is missing: run `rt staticlib yeqontur` in the repository, or ./install again",
+        "{} is missing: run `./build yeqontur` in the repository, or ./install again",
         library.display()
     );
     println!("cargo:rerun-if-changed={}", header.display());

@@ -2,7 +2,7 @@
 //! failed read is the input's end, and what came before it is saved or loaded; a write that failed is told in one line
 //! on standard error.
 
-use crate::broken::{closed_pipe, ended, full_device, shell, start, Left, BROKEN_PIPE};
+use crate::broken::{closed_pipe, ended, full_device, shell, start, Left};
 use oracle::file;
 use oracle::saving;
 use oracle::sheet;
@@ -89,13 +89,13 @@ fn closed_output(tried: &Tried) -> bool {
     left.is_some_and(|left| left.told())
 }
 
-/// As any filter, the program is ended by the signal, without a word.
+/// A program of today's kit ignores the signal: the write fails, and that is told.
 fn pipe_that_nobody_reads(tried: &Tried) -> bool {
     let left = tried.left(&mut tried.command(), closed_pipe(), Stdio::piped());
-    left.is_some_and(|left| left.signal == Some(BROKEN_PIPE) && left.said.is_empty())
+    left.is_some_and(|left| left.told())
 }
 
-/// Where the signal is ignored the write fails, and that is told.
+/// The same where whoever starts the program ignores the signal.
 fn pipe_that_nobody_reads_no_signal(tried: &Tried) -> bool {
     let mut command = shell(tried.program, "trap '' PIPE; exec \"$0\"");
     let left = tried.left(&mut command, closed_pipe(), Stdio::piped());

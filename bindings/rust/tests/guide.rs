@@ -49,7 +49,7 @@ fn the_commands_of_the_guide_print_what_it_says() {
     let commands = blocks("sh");
     assert_eq!((shown.len(), commands.len()), (4, 9));
     assert_eq!(shown[0], file("examples/checklist.out"));
-    assert_eq!(commands[0], "rt staticlib yeqontur\n");
+    assert_eq!(commands[0], "./build yeqontur\n");
     for (i, command) in commands[1..].iter().enumerate() {
         assert_eq!(printed(command), shown[i / 2], "{command}");
     }

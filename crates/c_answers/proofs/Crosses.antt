@@ -1,11 +1,9 @@
 -- What crosses, by the case of the answer. Assumes nothing.
 use Prim.Native.Nat.{ℕ}
-use mathlib.Core.Path.{◌≡◌, refl, sym, ◌∙◌, ap, ap₂, subst}
+use mathlib.Core.Path.{◌≡◌, refl, sym, ◌∙◌, ap, ap₂}
 use mathlib.Core.Bool.{cond}
 use mathlib.Core.Logic.{⊎_elim}
 use mathlib.Core.List.{List, [], ◌∷◌}
-use denote.Enum.Declared.{tag_of}
-use types.Run.{OneOf, miss}
 use Rattle.table.specs.declared.Slot.{Slot}
 use Rattle.table.specs.declared.Table.{Table}
 use Rattle.refusals.specs.declared.Refusal.{Refusal}
@@ -28,7 +26,6 @@ use Rattle.refusals.specs.Refusals.{number_of, needed_by}
 use Rattle.checklist_meaning.specs.declared.CompleteAnswer.{CompleteAnswer}
 use Rattle.checklist_meaning.specs.declared.CompleteAnswer.TheVariants as complete
 use Rattle.refusals.proofs.Refusals.{Plain, plain-or-11}
-use Rattle.refusals.specs.contracts.Refusal.{the_type}
 use Rattle.c_answers.specs.declared.Change.{Change}
 use Rattle.c_answers.specs.declared.AtomLabel.{AtomLabel}
 use Rattle.c_answers.specs.declared.SlotRule.{SlotRule}
@@ -161,14 +158,10 @@ list-refused x f n m e d b =
 pub buffer-needed : (f : Refusal) (n : ℕ) → f ≡ BufferTooShort n → n ≡ needed_by f
 buffer-needed f n e = ap needed_by (sym e)
 
--- Every refusal but 11, whose place in the enum is 10, needs no entries.
+-- Every refusal but 11 needs no entries.
 
-abbrev pub others : List ℕ
-others = 0 ∷ 1 ∷ 2 ∷ 3 ∷ 4 ∷ 5 ∷ 6 ∷ 7 ∷ 8 ∷ 9 ∷ 11 ∷ 12 ∷ 13 ∷ 14 ∷ 15 ∷ 16 ∷ 17 ∷ 18 ∷ 19 ∷ []
-
-pub none_needed : (f : Refusal) → OneOf others (tag_of the_type f) → 0 ≡ needed_by f
+pub none_needed : (f : Refusal) → ((m : ℕ) → f ≡ BufferTooShort m → ⊥) → 0 ≡ needed_by f
 none_needed f h = ⊎_elim
     (λ (p : Plain f). sym p.none)
-    (λ (b : (m : ℕ) × (f ≡ BufferTooShort m)).
-    absurd (miss others 10 tt (subst (λ (g : Refusal). OneOf others (tag_of the_type g)) b.1 h)))
+    (λ (b : (m : ℕ) × (f ≡ BufferTooShort m)). absurd (h b.0 b.1))
     (plain-or-11 f)

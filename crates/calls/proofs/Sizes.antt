@@ -9,4 +9,4 @@ use Rattle.table.specs.contracts.Table as table-type
 use Rattle.calls.specs.Ends.{Sized}
 
 pub table-sized : (t : Table) (vs : List Val) → Is (row table-type.the_type) t vs → Sized t
-table-sized t vs p = record { long = simp length-map at p.1.1.0.1.0.1 }
+table-sized t vs p = record { long = p.1.1.0.1.0.1 }

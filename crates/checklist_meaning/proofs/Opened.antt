@@ -7,12 +7,12 @@ use mathlib.Core.Logic.{⊎_elim}
 use mathlib.Core.Bool.{true, false}
 use mathlib.Core.List.Memᴰ
 use mathlib.Core.List.{List, [], ◌∷◌, ◌++◌, map, map-append}
-use mathlib.Core.Option.{Option, none, some, none-ne-some}
+use mathlib.Core.Option.{none, some, none-ne-some}
 use lib.Dec.{leb, ltb}
-use lib.ListN.{length, length-append, length-map, length-replicate, get_or, set, replicate, get_or-append}
+use lib.ListN.{length, length-append, length-map, get_or, set, replicate, get_or-append}
 use lib.Seq.{append_snoc, get_or-append-add, get_or_at, set_at}
 use Rattle.theory.specs.Lists.{every}
-use Rattle.theory.specs.Rules.{Rule, Page, Pages, all, rule_on, new_page, Held, Ascending, entries}
+use Rattle.theory.specs.Rules.{Rule, Pages, all, rule_on, new_page, Held, Ascending, entries}
 use Rattle.theory.specs.Rules.{kept}
 use Rattle.theory.specs.Limits.{document}
 use Rattle.theory.specs.Questions.{first_no, rule_questions}

@@ -2,8 +2,7 @@
 -- the table made of them holds the frame. Assumes nothing.
 use Prim.Native.Nat.{ℕ, zero, suc, ◌+◌, ◌-◌, ◌*◌, ◌≤◌, ◌<◌}
 use native.Mathlib.Omega.{arith}
-use native.Mathlib.Decide.{ℕ_discrete}
-use mathlib.Core.Path.{◌≡◌, refl, sym, ◌∙◌, ap, ap₂, subst}
+use mathlib.Core.Path.{◌≡◌, sym, ◌∙◌, ap, ap₂, subst}
 use mathlib.Core.Bool.{Bool, true, false}
 use mathlib.Core.List.{List, [], ◌∷◌}
 use mathlib.Core.Option.{none, some, some-injective}
@@ -14,12 +13,11 @@ use Rattle.theory.specs.Dependencies.{NegativeCycle}
 use Rattle.theory.specs.Questions.{first_no, rule_questions}
 use Rattle.theory.specs.Limits.{document}
 use Rattle.theory.proofs.Questions.{first_no-yes, first_no-here}
-use Rattle.table.specs.declared.Atom.{Atom}
 use Rattle.table.specs.declared.Rule.{Rule}
 use Rattle.table.specs.declared.Table.{Table}
-use Rattle.table.specs.Rules.{book_of, no_atom, page_of, program_of, slot_of}
+use Rattle.table.specs.Rules.{book_of, no_atom, page_of, slot_of}
 use Rattle.table.specs.Words.{rules_of, table_of, words}
-use Rattle.table.specs.Clean.{CleanRule, WellFormed, empty_table}
+use Rattle.table.specs.Clean.{CleanRule, empty_table}
 use Rattle.table.proofs.Empty.{free-book}
 use Rattle.table.proofs.Members.{all_alike}
 use Rattle.table.proofs.Programs.{book-set}

@@ -1,16 +1,14 @@
 -- How loading ends, from the answers of its questions. Assumes nothing.
 use Prim.Native.Nat.{ℕ}
-use native.Mathlib.Omega.{arith}
 use mathlib.Core.Path.{◌≡◌, refl, sym, ◌∙◌, ap, subst}
 use mathlib.Core.Bool.{true, false, ◌&&◌}
 use mathlib.Core.List.{List, map}
-use lib.Dec.{ltb}
 use Rattle.theory.specs.Lists.{every}
 use Rattle.theory.specs.Rules.{all, Held, Pages, Program, Rule, same}
 use Rattle.theory.specs.Dependencies.{NegativeCycle}
-use Rattle.theory.specs.Questions.{first_no, rules, stratified}
+use Rattle.theory.specs.Questions.{first_no}
 use Rattle.theory.specs.Limits.{document}
-use Rattle.theory.proofs.Lists.{and_l, and_r, and-of, unless, clash}
+use Rattle.theory.proofs.Lists.{and-of, unless, clash}
 use Rattle.theory.proofs.Questions.{first_no-yes, first_no-here}
 use Rattle.theory.proofs.Cycles.{cycle-found, stratified-iff}
 use Rattle.table.specs.declared.Table.{Table}
@@ -28,7 +26,7 @@ use Rattle.file_blocks.proofs.Sequences.{places-eight}
 use Rattle.file_blocks.proofs.Records.{distinct-rules}
 use Rattle.file_loading.specs.Reading.{all_are_right}
 use Rattle.calls.specs.declared.ChangeAnswer.{ChangeAnswer}
-use Rattle.calls.specs.declared.ChangeAnswer.TheVariants.{Accepted, Refused}
+use Rattle.calls.specs.declared.ChangeAnswer.TheVariants.{Refused}
 use Rattle.refusals.specs.declared.Refusal.TheVariants.{WrongLength, WrongChecksum, WrongBlock, WrongRecord}
 use Rattle.calls.specs.Ends as contract
 use Rattle.calls.specs.Ends.{LoadEnds}

@@ -12,7 +12,6 @@ use Rattle.theory.proofs.Lists.{not-true, clash}
 use Rattle.table.specs.declared.Table.{Table}
 use Rattle.table.specs.Sound.{Sound}
 use Rattle.fields.specs.Written.{put, Wrote}
-use Rattle.file_blocks.specs.Places.{records}
 use Rattle.file_blocks.specs.Files.{BLOCK, blocks_for, file_of}
 use Rattle.file_blocks.proofs.RoundTrips.{file-length}
 use Rattle.refusals.specs.declared.Refusal.TheVariants.{BufferTooShort, TableUnsound}

@@ -2,9 +2,9 @@
 use Prim.Native.Nat.{ℕ, suc, ◌+◌, ◌-◌, ◌*◌, ◌/◌, ◌%◌, ◌≤◌, ◌<◌}
 use native.Mathlib.Omega.{arith}
 use native.Mathlib.Numerals.{add-one}
-use mathlib.Core.Path.{◌≡◌, refl, sym, ◌∙◌, ap, ap₂, subst}
-use mathlib.Core.Logic.{◌↔◌, ⊎_elim}
-use mathlib.Core.Bool.{Bool, true, false, not, ◌&&◌}
+use mathlib.Core.Path.{◌≡◌, refl, sym, ◌∙◌, ap, subst}
+use mathlib.Core.Logic.{⊎_elim}
+use mathlib.Core.Bool.{Bool, true, false, not}
 use mathlib.Core.List.{List, [], ◌∷◌, map}
 use mathlib.Core.Option.{Option, none, some, some-injective}
 use lib.Dec.{eqb, leb, ltb}
@@ -37,7 +37,6 @@ use Rattle.file_blocks.specs.Questions.{pages_with}
 use Rattle.file_blocks.proofs.Written.{zeros-every}
 use Rattle.file_blocks.proofs.Reading.{place_at, word-drop}
 use Rattle.file_blocks.proofs.Records.{ascends-sorted}
-use Rattle.file_loading.specs.declared.Records.{Records}
 use Rattle.file_loading.specs.Reading.{atom, slot_from, Stands, all_are_right, ReadFrom}
 
 -- Atoms made of numbers have these numbers.

@@ -4,10 +4,10 @@ use native.Mathlib.Omega.{arith}
 use native.Mathlib.Numerals.{add-one}
 use mathlib.Core.Path.{◌≡◌, refl, sym, ◌∙◌, ap, ap₂}
 use mathlib.Core.Bool.{Bool, true, false, ◌&&◌}
-use mathlib.Core.List.{List, [], ◌∷◌}
+use mathlib.Core.List.{List, []}
 use lib.ListN.{take, drop}
 use Rattle.theory.specs.Lists.{every}
-use Rattle.file_blocks.specs.Questions.{blocks_in, blocks, block_count, summed, numbered, filled}
+use Rattle.file_blocks.specs.Questions.{blocks_in, block_count, summed, numbered, filled}
 use Rattle.file_blocks.proofs.Reading.{blocks-next}
 use Rattle.file_questions.specs.declared.Checked.{Checked}
 use Rattle.file_questions.specs.Blocks.{block_numbered, CheckedNext, CheckedOf}

@@ -1,17 +1,17 @@
 -- What the tests of a file's length, of a block's sums and of its numbers tell. Assumes nothing.
 use Prim.Native.Nat.{ℕ, suc, ◌+◌, ◌*◌, ◌%◌, ◌/◌, ◌≤◌, ◌<◌}
 use native.Mathlib.Omega.{arith}
-use mathlib.Core.Path.{◌≡◌, refl, sym, ◌∙◌, ap}
+use mathlib.Core.Path.{◌≡◌, sym, ◌∙◌, ap}
 use mathlib.Core.Bool.{Bool, true, false, cond, ◌&&◌, ◌||◌}
 use mathlib.Core.List.{List}
 use lib.Dec.{eqb, leb, ltb}
 use lib.ListN.{length, take, length-take}
-use Rattle.theory.proofs.Lists.{and_l, and_r, and-of, unless, same_test, eqb-eq, eqb_of, eqb-not, leb-le, le-leb, lt-ltb, ltb-lt}
+use Rattle.theory.proofs.Lists.{and_r, and-of, unless, same_test, eqb-eq, eqb_of, eqb-not, leb-le, le-leb, lt-ltb, ltb-lt}
 use Rattle.questions.proofs.Refusals.{both-no, both-no-2}
 use Rattle.file_blocks.specs.Words.{word_at}
 use Rattle.file_blocks.specs.Sums.{sum_a, sum_b}
 use Rattle.file_blocks.specs.Files.{BLOCK, BLOCKS, BODY}
-use Rattle.file_blocks.specs.Questions.{block_count, whole, summed, counted}
+use Rattle.file_blocks.specs.Questions.{whole, summed, counted}
 use Rattle.file_blocks.proofs.Reading.{whole_parts}
 use Rattle.file_questions.specs.Blocks.{block_numbered}
 

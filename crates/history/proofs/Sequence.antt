@@ -336,10 +336,10 @@ pub changes-answered :
     (B : Pages) (cs : List book.Call) → calls_answers document B (map change cs) ≡ answers document B cs
 unfolding calls_answers answers
 changes-answered B [] = refl
-changes-answered B (c ∷ cs) = ap (λ (xs : List Answer). answer document B c ∷ xs) (changes-answered _ cs)
+changes-answered B (c ∷ cs) = ap (λ (xs : List Answer). answer document B c ∷ xs) (changes-answered (after document B c) cs)
 
 pub changes-after :
     (B : Pages) (cs : List book.Call) → calls_after document B (map change cs) ≡ after_all document B cs
 unfolding calls_after after_all
 changes-after B [] = refl
-changes-after B (c ∷ cs) = changes-after _ cs
+changes-after B (c ∷ cs) = changes-after (after document B c) cs

@@ -1,3 +1,2 @@
 // The claim over sequences has no code: its definitions are in specs/, the laws about them in proofs/.
 #![tactic(auto)]
-

@@ -3,6 +3,6 @@
 // crates/program_files/specs/Loads.antt). What it prints is the same for all that follows them.
 #![tactic(auto)]
 
-fn main() {
-    program_files::load_run();
+fn main(rt: HostRuntime) {
+    program_files::load_run(&rt);
 }

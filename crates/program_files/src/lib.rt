@@ -52,18 +52,18 @@ fn count_of(answer: ListAnswer) -> usize
 // Reads a sheet to its end, showing no reply, saves the table after its last line and writes the file on standard
 // output, and nothing else. By the law `saved-book` (proofs/Books.antt) that is the file of the plain book's pages
 // after the calls that the sheet's lines are.
-pub fn save_input(input: &mut [u8], file: &mut [u8]) -> Saved
+pub fn save_input(rt: &HostRuntime, input: &mut [u8], file: &mut [u8]) -> Saved
     requires { (length input.old ≡ MOST) × (length file.old ≡ LONGEST) }
     ensures { SavesInput input.new file.old file.new result }
 {
-    let last = leave_input(input);
+    let last = leave_input(rt, input);
     let reply = last.reply;
     let table = reply.table;
     let answer = save(&table.words, file);
     let count = count_of(answer);
     let mut shown = last.shown;
     let mut lost = last.lost;
-    show(true, file, count, &mut shown, &mut lost);
+    show(rt, true, file, count, &mut shown, &mut lost);
     Saved {
         last: last,
         count: count,
@@ -73,18 +73,18 @@ pub fn save_input(input: &mut [u8], file: &mut [u8]) -> Saved
 }
 
 // The whole of the saving program. What it hands back is for its contract alone.
-pub fn save_run() -> Saved
+pub fn save_run(rt: &HostRuntime) -> Saved
     ensures { SavesSheet result }
 {
     let mut input = input_buffer();
     let mut file: [u8; LONGEST] = [0; LONGEST];
-    save_input(&mut input, &mut file)
+    save_input(rt, &mut input, &mut file)
 }
 
 // Reads an input and prints the lines of it on standard output. The buffer has room for one byte more than a file can
 // have, and no more is read: what is printed of a longer input is the same, `refused 16` (the laws `longer-16` and
 // `first-bytes`, crates/file_lines/proofs/Books.antt).
-pub fn load_input(file: &mut [u8], out: &mut [u8]) -> Listed
+pub fn load_input(rt: &HostRuntime, file: &mut [u8], out: &mut [u8]) -> Listed
     requires { (length file.old ≡ LONGEST + 1) × (length out.old ≡ SPACE) }
     ensures { LoadsInput file.new out.new result }
 {
@@ -93,6 +93,7 @@ pub fn load_input(file: &mut [u8], out: &mut [u8]) -> Listed
     let mut shown: usize = 0;
     let mut lost: usize = 0;
     take_input(
+        rt,
         Task::Keep,
         Sheet::start(),
         file,
@@ -105,7 +106,7 @@ pub fn load_input(file: &mut [u8], out: &mut [u8]) -> Listed
     let n = read;
     let answer = load_lines(&file[..n], out);
     let printed = count_of(answer);
-    show(true, out, printed, &mut shown, &mut lost);
+    show(rt, true, out, printed, &mut shown, &mut lost);
     Listed {
         read: read,
         got: got,
@@ -116,10 +117,10 @@ pub fn load_input(file: &mut [u8], out: &mut [u8]) -> Listed
 }
 
 // The whole of the loading program. What it hands back is for its contract alone.
-pub fn load_run() -> Listed
+pub fn load_run(rt: &HostRuntime) -> Listed
     ensures { LoadsFile result }
 {
     let mut file: [u8; LONGEST + 1] = [0; LONGEST + 1];
     let mut out = output_buffer();
-    load_input(&mut file, &mut out)
+    load_input(rt, &mut file, &mut out)
 }

@@ -6,8 +6,16 @@ use mathlib.Core.List.{List, ◌++◌}
 use lib.ListN.{length, take, drop, length-take, length-drop}
 use lib.Seq.{take-add, take-append-le, drop_at, length-take-le}
 use borrow.Rule.Slice.PartMut.{mid_of, post_of, put_mid, same_len_mid, take_put}
+use Rattle.std.specs.Prelude.{Result, Ok, Err}
+use Rattle.std.specs.Result.{result_unwrap_or}
+use Rattle.std.specs.Io.{ReadsAtMost}
 use Rattle.program_io.specs.Told.{Given, given_more}
 use Rattle.program_io.specs.Reads.{ReadsPart, ReadsOn}
+
+-- How many bytes a read got that may have failed: those stand in the buffer.
+pub got-inside : {E : Type 0} (r : Result ℕ E) (part : List ℕ) → ReadsAtMost r part → result_unwrap_or r 0 ≤ length part
+got-inside (Ok n) part most = omega (arith, most)
+got-inside (Err e) part most = omega arith
 
 -- What a read got was given.
 pub part-given :

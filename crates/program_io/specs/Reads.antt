@@ -1,5 +1,5 @@
 -- What a read leaves in a buffer. Assumes nothing.
-use Rattle.std.specs.Prelude.{ℕ, ◌+◌, ◌≤◌, ◌≡◌, List, ◌++◌, length, take, drop}
+use Rattle.std.specs.Prelude.{ℕ, ◌+◌, ◌≤◌, ◌≡◌, List, ◌++◌, length, take}
 use Rattle.program_io.specs.Told.{Given}
 
 -- One read into a part of a buffer: what it got stands at the start of the part, and is counted with what was read

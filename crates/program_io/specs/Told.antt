@@ -1,6 +1,6 @@
--- What standard input gave and what standard output was handed. No contract of C names these bytes, so both are shut:
+-- What standard input gave and what standard output was handed. No contract of std names these bytes, so both are shut:
 -- outside this file nothing is known of them but these laws. The laws that make more of them are cited by the two
--- functions that make the calls of C, `read_part` and `write_out`, and by no other. Assumes nothing.
+-- functions that make std's calls, `read_part` and `write_out`, and by no other. Assumes nothing.
 use Rattle.std.specs.Prelude.{ℕ, ◌+◌, ◌-◌, ◌≤◌, ◌<◌, ◌≡◌, refl, Bool, true, false, List, [], ◌++◌, length, take}
 use Rattle.std.proofs.Common.{arith, length-append}
 

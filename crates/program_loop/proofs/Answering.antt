@@ -5,7 +5,7 @@ use mathlib.Core.Path.{◌≡◌, refl, sym, ◌∙◌, ap, subst}
 use mathlib.Core.Bool.{Bool, true, false}
 use mathlib.Core.List.{List, [], ◌++◌, append-nil}
 use lib.ListN.{length, take, drop, length-take, length-append, length-drop}
-use lib.Seq.{length-take-le, take_all, take-length, take-add, take-take, take-append-add}
+use lib.Seq.{length-take-le, take_all, take-add, take-take, take-append-add}
 use Rattle.sheet_feed.specs.declared.Sheet.{Sheet}
 use Rattle.sheet_feed.specs.declared.Fed.{Fed}
 use Rattle.sheet_feed.specs.Sheets.{Feeds}

@@ -30,6 +30,7 @@ pub fn output_buffer() -> [u8; SPACE]
 
 // Answers the lines of a piece: all of its bytes are fed, in order, unless what is shown can't be written.
 fn answer(
+    rt: &HostRuntime,
     sheet: Sheet,
     piece: &[u8],
     showing: bool,
@@ -47,7 +48,7 @@ fn answer(
     let mut from: usize = 0;
     while *lost == 0 && from < piece.len() {
         let fed = feed(s, &piece[from..], out);
-        show(showing, out, fed.printed, shown, lost);
+        show(rt, showing, out, fed.printed, shown, lost);
         s = fed.sheet;
         from += fed.read;
     }
@@ -56,6 +57,7 @@ fn answer(
 
 // Does the task on the bytes of the input from one place to another. What is kept stays in the input.
 fn take_piece(
+    rt: &HostRuntime,
     task: Task,
     sheet: Sheet,
     input: &[u8],
@@ -73,13 +75,14 @@ fn take_piece(
     ensures sound_2 { Sound result.table }
 {
     match task {
-        Task::Answer(showing) => answer(sheet, &input[from..end], showing, out, shown, lost),
+        Task::Answer(showing) => answer(rt, sheet, &input[from..end], showing, out, shown, lost),
         Task::Keep => sheet,
     }
 }
 
 // Reads once, and does the task on the bytes that this read got. The function that does it can't write them.
 fn take_read(
+    rt: &HostRuntime,
     task: Task,
     sheet: Sheet,
     input: &mut [u8],
@@ -98,14 +101,15 @@ fn take_read(
     ensures sound_2 { Sound result.table }
 {
     let from = *read;
-    read_on(input, read, got, lost);
+    read_on(rt, input, read, got, lost);
     let end = *read;
-    take_piece(task, sheet, input, from, end, out, shown, lost)
+    take_piece(rt, task, sheet, input, from, end, out, shown, lost)
 }
 
 // Reads and does the task until a write fails, a read gives nothing, or the buffer is full: a program reads no more
 // bytes than the buffer has that it lends.
 pub fn take_input(
+    rt: &HostRuntime,
     task: Task,
     sheet: Sheet,
     input: &mut [u8],
@@ -124,7 +128,7 @@ pub fn take_input(
 {
     let mut s = sheet;
     while *lost == 0 && *got > 0 && *read < input.len() {
-        s = take_read(task, s, input, out, read, got, shown, lost);
+        s = take_read(rt, task, s, input, out, read, got, shown, lost);
     }
     s
 }

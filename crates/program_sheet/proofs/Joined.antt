@@ -2,14 +2,14 @@
 -- and the table that the input leaves is the book's. Unless the output could not be written, that input is all that
 -- standard input gave up to its end or to 1,048,576 bytes, and all that the book prints of it was handed to standard
 -- output. Assumes nothing.
-use Prim.Native.Nat.{ℕ, ◌+◌, ◌-◌, ◌≤◌, ◌<◌}
+use Prim.Native.Nat.{ℕ, ◌-◌, ◌≤◌, ◌<◌}
 use native.Mathlib.Omega.{arith}
-use mathlib.Core.Path.{◌≡◌, refl, sym, ◌∙◌, ap, subst}
+use mathlib.Core.Path.{◌≡◌, sym, subst}
 use mathlib.Core.Logic.{⊎_elim}
 use mathlib.Core.Bool.{Bool, true, false}
 use mathlib.Core.List.{List, [], ◌++◌}
 use lib.ListN.{length, take, length-take}
-use lib.Seq.{take_all, take-length, length-take-le}
+use lib.Seq.{take_all}
 use Rattle.theory.proofs.Lists.{le-or-lt}
 use Rattle.sheet_meaning.specs.Sheets.{MOST, SheetPrints, ProgramPrints}
 use Rattle.sheet_meaning.specs.Calls.{calls_of}
@@ -17,8 +17,8 @@ use Rattle.sheet_meaning.specs.Seen.{BookPrints}
 use Rattle.sheet_meaning.proofs.Books.{sheet-book, sheet-history}
 use Rattle.history.specs.Claim.{book_answers, History}
 use Rattle.sheet_feed.proofs.Whole.{pieces_end}
-use Rattle.program_io.specs.Told.{Given, Shown, shown_none, shown_of, Writes}
-use Rattle.program_io.proofs.Writing.{writes_then, shown-append}
+use Rattle.program_io.specs.Told.{Given, Shown, shown_none}
+use Rattle.program_io.proofs.Writing.{writes_then}
 use Rattle.program_sheet.specs.declared.Last.{Last}
 use Rattle.program_sheet.specs.Answered.{AnswersLast}
 

@@ -29,6 +29,7 @@ pub struct Last {
 
 // Replies to the last line, which may lack its newline. Once something can't be written, nothing more is.
 fn reply_last(
+    rt: &HostRuntime,
     sheet: Sheet,
     showing: bool,
     out: &mut [u8],
@@ -45,12 +46,12 @@ fn reply_last(
     if *lost > 0 {
         return reply;
     }
-    show(showing, out, reply.next, shown, lost);
+    show(rt, showing, out, reply.next, shown, lost);
     reply
 }
 
 // Answers each line as it comes, and then the last one.
-fn answer_from(sheet: Sheet, showing: bool, input: &mut [u8]) -> Last
+fn answer_from(rt: &HostRuntime, sheet: Sheet, showing: bool, input: &mut [u8]) -> Last
     requires sound { Sound sheet.table }
     requires input_len { length input.old ≡ MOST }
     ensures answers_from { AnswersFrom sheet showing input.new result }
@@ -62,6 +63,7 @@ fn answer_from(sheet: Sheet, showing: bool, input: &mut [u8]) -> Last
     let mut shown: usize = 0;
     let mut lost: usize = 0;
     let at_last = take_input(
+        rt,
         Task::Answer(showing),
         sheet,
         input,
@@ -71,7 +73,7 @@ fn answer_from(sheet: Sheet, showing: bool, input: &mut [u8]) -> Last
         &mut shown,
         &mut lost,
     );
-    let reply = reply_last(at_last, showing, &mut out, &mut shown, &mut lost);
+    let reply = reply_last(rt, at_last, showing, &mut out, &mut shown, &mut lost);
     Last {
         reply: reply,
         read: read,
@@ -83,19 +85,19 @@ fn answer_from(sheet: Sheet, showing: bool, input: &mut [u8]) -> Last
 
 // The same from the start: line 1 with the empty table. By the laws of proofs/Joined.antt, what is shown is what the
 // plain book prints of the bytes that standard input gave.
-pub fn answer_input(input: &mut [u8]) -> Last
+pub fn answer_input(rt: &HostRuntime, input: &mut [u8]) -> Last
     requires { length input.old ≡ MOST }
     ensures { AnswersLast true input.new result }
 {
-    answer_from(Sheet::start(), true, input)
+    answer_from(rt, Sheet::start(), true, input)
 }
 
 // The same with no reply shown: the table after the last line is all that a sheet leaves.
-pub fn leave_input(input: &mut [u8]) -> Last
+pub fn leave_input(rt: &HostRuntime, input: &mut [u8]) -> Last
     requires { length input.old ≡ MOST }
     ensures { AnswersLast false input.new result }
 {
-    answer_from(Sheet::start(), false, input)
+    answer_from(rt, Sheet::start(), false, input)
 }
 
 // Zeros, for all the bytes that a program reads.
@@ -106,9 +108,9 @@ pub fn input_buffer() -> [u8; MOST]
 }
 
 // The whole of the sheet program. What it hands back is for its contract alone.
-pub fn run() -> Last
+pub fn run(rt: &HostRuntime) -> Last
     ensures { AnswersSheet result }
 {
     let mut input = input_buffer();
-    answer_input(&mut input)
+    answer_input(rt, &mut input)
 }

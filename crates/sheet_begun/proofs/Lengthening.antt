@@ -6,8 +6,8 @@ use native.Mathlib.Numerals.{add-one}
 use mathlib.Core.Path.{◌≡◌, refl, sym, ◌∙◌, ap, subst}
 use mathlib.Core.Logic.{◌⊎◌, inl, inr, ⊎_elim}
 use mathlib.Core.List.{List, [], ◌∷◌, ◌++◌, append-nil, append_assoc}
-use lib.ListN.{length, take, get_or, set, length-append, length-map}
-use lib.Seq.{take_all, take-take, take-append-le, take-append-add, length-take-le, take-suc, take-suc-set}
+use lib.ListN.{length, take, get_or, set, length-append}
+use lib.Seq.{take_all, take-append-le, take-append-add, length-take-le, take-suc, take-suc-set}
 use mir.Val.{Val}
 use denote.Struct.Declared.{row}
 use denote.Laws.{Is}
@@ -61,7 +61,7 @@ take_within n xs long = go (dec_le n ENOUGH)
 
 -- The array of the line at hand has 121 bytes.
 pub begun_sized : (k : Begun) (vs : List Val) → Is (row begun-type.the_type) k vs → length k.bytes ≡ ENOUGH
-begun_sized k vs p = simp length-map at p.1.1.1.0.1.0.1
+begun_sized k vs p = p.1.1.1.0.1.0.1
 
 -- Every line at hand that the code can have stands for a line: so no contract on it is silent.
 pub begun-of-some :

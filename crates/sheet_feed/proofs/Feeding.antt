@@ -63,7 +63,7 @@ lacks at length e f = omega (arith, leb-false LABELS_ROOM (length - at) (sym e �
 
 -- The bytes of a sheet's line at hand.
 pub sheet-sized : (c : Sheet) (vs : List Val) → Is (row sheet-type.the_type) c vs → length c.begun.bytes ≡ ENOUGH
-sheet-sized c vs p = simp length-map at p.1.1.1.0.1.1.1.0.1.0.1
+sheet-sized c vs p = p.1.1.1.0.1.1.1.0.1.0.1
 
 -- Nothing is read.
 pub feeds-nothing :

@@ -21,5 +21,5 @@ pub labels-small :
     → (k : ℕ) → k < 256 → Small (get_or labels k absent_label)
 labels-small labels vs p k l =
     let long = p.1.0.1 in
-    each_at _ Small (λ x us q. (q.1.1.1.0.1, q.1.1.1.1.0.1.1.0.1)) labels _ p.1.1 k absent_label
-    (omega arith)
+    each_at (row label-type.the_type).own_val Small (λ x us q. (q.1.1.1.0.1, q.1.1.1.1.0.1.1.0.1)) labels _ p.1.1 k
+    absent_label (omega arith)

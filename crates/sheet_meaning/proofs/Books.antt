@@ -14,7 +14,7 @@ use Rattle.table.specs.Clean.{empty_table}
 use Rattle.table.specs.Sound.{Sound}
 use Rattle.table.proofs.Empty.{empty-sound}
 use Rattle.calls.specs.Ends.{held}
-use Rattle.history.specs.Calls.{Call, calls_after}
+use Rattle.history.specs.Calls.{Call, call_after, calls_after}
 use Rattle.history.specs.Claim.{Trace, stop, call, book_answers, History}
 use Rattle.history.proofs.Sequence.{history, trace-agrees, empty-held}
 use Rattle.sheet_lines.specs.Readings.{Line, is_blank, reading, blank, spaces}
@@ -62,7 +62,7 @@ after-join :
     → calls_after document B (cs ++ ds) ≡ calls_after document (calls_after document B cs) ds
 unfolding calls_after
 after-join B [] ds = refl
-after-join B (c ∷ cs) ds = after-join _ cs ds
+after-join B (c ∷ cs) ds = after-join (call_after document B c) cs ds
 
 calls-join : (ls ms : List (List ℕ)) → lines_calls (ls ++ ms) ≡ lines_calls ls ++ lines_calls ms
 unfolding lines_calls

@@ -23,6 +23,19 @@ use Rattle.sheet_scanner.specs.Judging.{Answered, Judges, Unless, Unread}
 pub told : (p : Parsed) (x : Reading) → p.reading ≡ x → reading_of p ≡ line_of x (positives_in p) (negatives_in p)
 told p x e = ap (λ (y : Reading). line_of y (positives_in p) (negatives_in p)) e
 
+-- The numbers of the cases that are left of the reading where it is none of some.
+pub no_command-keys : (x : Reading) → ((c : Command) → x ≡ reading-of.Command c → ⊥) → OneOf (0 ∷ 1 ∷ 2 ∷ []) (tag_of T.the_type x)
+no_command-keys reading-of.Blank n = inl refl
+no_command-keys reading-of.LineTooLong n = inr (inl refl)
+no_command-keys reading-of.NotACommand n = inr (inr refl)
+no_command-keys (reading-of.Command c) n = absurd (n c refl)
+
+pub neither-keys : (x : Reading) → (x ≡ reading-of.Blank → ⊥) → (x ≡ reading-of.LineTooLong → ⊥) → OneOf (2 ∷ 3 ∷ []) (tag_of T.the_type x)
+neither-keys reading-of.Blank b m = absurd (b refl)
+neither-keys reading-of.LineTooLong b m = absurd (m refl)
+neither-keys reading-of.NotACommand b m = inl refl
+neither-keys (reading-of.Command c) b m = inr refl
+
 -- What a `match` tells of the reading, by the numbers of its cases in order.
 pub neither : {P : Type 0} (x : Reading) → OneOf (2 ∷ 3 ∷ []) (tag_of T.the_type x) → Unless x P → P
 neither reading-of.Blank (inl e) p = absurd (omega (arith, e))

@@ -2,6 +2,6 @@
 // replaced. It reads at most the first 1,048,576 bytes of its input (`MOST` in crates/sheet_meaning/specs/Sheets.antt).
 #![tactic(auto)]
 
-fn main() {
-    program_sheet::run();
+fn main(rt: HostRuntime) {
+    program_sheet::run(&rt);
 }

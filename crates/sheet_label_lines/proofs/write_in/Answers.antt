@@ -3,7 +3,6 @@ use native.Mathlib.Omega.{arith}
 use Rattle.fields.specs.Texts.{bytes}
 use Rattle.sheet_label_lines.specs.LabelLines.{in_line}
 use Rattle.fields.proofs.Wrote.{wrote_then}
-use borrow.Author.Rules.{rules}
 use Rattle.sheet_label_lines.proofs.write_in.Goals as goal
 
 pub returns : goal.returns

@@ -5,7 +5,6 @@ use Rattle.fields.specs.Texts.{bytes}
 use Rattle.sheet_label_lines.specs.LabelLines.{label_line}
 use Rattle.fields.proofs.Wrote.{wrote_nothing, wrote_then}
 use Rattle.sheet_label_lines.proofs.Lengths.{wrote-atom}
-use borrow.Author.Rules.{rules}
 use Rattle.sheet_label_lines.proofs.write_label.Goals as goal
 
 pub returns-then-label-eq0 : goal.returns-then-label-eq0

@@ -1,16 +1,13 @@
 -- `sheet_label_lines::write_labels` meets its contract. The loop keeps: the lines of the atoms below `atom` are
 -- written. Assumes nothing.
-use Prim.Native.Nat.{◌+◌, ◌-◌, ◌*◌, ◌≤◌}
 use native.Mathlib.Omega.{arith}
 use mathlib.Core.Path.{◌≡◌}
 use lib.ListN.{get_or}
 use Rattle.table.specs.Labels.{label_listed, absent_label}
 use Rattle.sheet_label_lines.specs.LabelLines.{label_lines}
-use Rattle.fields.specs.Written.{Wrote}
 use Rattle.fields.proofs.Wrote.{wrote-all, wrote_none, wrote_nothing, wrote-length}
 use Rattle.sheet_label_lines.proofs.Lengths.{wrote-next-label, label-length}
 use Rattle.sheet_label_lines.proofs.Sizes.{labels-small}
-use borrow.Author.Rules.{rules}
 use Rattle.sheet_label_lines.proofs.write_labels.Goals as goal
 
 pub returns-then-bytes_left-lt-LABELS_ROOM : goal.returns-then-bytes_left-lt-LABELS_ROOM

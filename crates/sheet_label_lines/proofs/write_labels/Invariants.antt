@@ -1,13 +1,7 @@
 use Prim.Native.Nat.{◌+◌, ◌-◌, ◌*◌, ◌≤◌}
-use native.Mathlib.Omega.{arith}
-use mathlib.Core.Path.{◌≡◌}
-use lib.ListN.{get_or}
-use Rattle.table.specs.Labels.{label_listed, absent_label}
+use Rattle.table.specs.Labels.{label_listed}
 use Rattle.sheet_label_lines.specs.LabelLines.{label_lines}
 use Rattle.fields.specs.Written.{Wrote}
-use Rattle.fields.proofs.Wrote.{wrote-all, wrote_none, wrote_nothing, wrote-length}
-use Rattle.sheet_label_lines.proofs.Lengths.{wrote-next-label, label-length}
-use Rattle.sheet_label_lines.proofs.Sizes.{labels-small}
 use Rattle.sheet_label_lines.proofs.write_labels.Given as goal
 
 abbrev pub invariant-loop-atom : goal.invariant-loop-atom

@@ -1,17 +1,8 @@
-use Prim.Native.Nat.{ℕ, ◌≤◌}
-use native.Mathlib.Omega.{arith}
-use mathlib.Core.Path.{◌≡◌, refl, sym, ◌∙◌, ap}
-use mathlib.Core.List.{List}
-use mathlib.Core.Option.{some, none}
+use Prim.Native.Nat.{◌≤◌}
 use lib.ListN.{length, drop}
 use Rattle.tokens.specs.Tokens.{tokens}
 use Rattle.places.specs.Places.{Onward}
-use Rattle.tokens.specs.Numerals.{numeral}
-use Rattle.tokens.specs.Parts.{first_of, as_option}
-use Rattle.places.proofs.Places.{onward-here, onward_then}
-use Rattle.sheet_lines.proofs.Commands.{advance}
-use Rattle.sheet_lines.proofs.Entries.{Collecting, collect-start, collect-next}
-use Rattle.sheet_lines.proofs.Entries.{collect-entries, collect-count, collect-rest}
+use Rattle.sheet_lines.proofs.Entries.{Collecting}
 use Rattle.sheet_lines.proofs.read.collect.Given as goal
 
 abbrev pub invariant-loop-n : goal.invariant-loop-n

@@ -1,11 +1,9 @@
 -- `sheet_lines::read::labels_form` meets its contract. Assumes nothing.
 use mathlib.Core.Path.{sym, ◌∙◌, ap}
-use borrow.Author.Tests.{not-true, not-false}
 use Rattle.sheet_lines.specs.Readings.{whether}
 use Rattle.places.proofs.Places.{onward-here}
 use Rattle.sheet_lines.proofs.Answers.{as_read}
 use Rattle.sheet_lines.proofs.Commands.{labels-form-last, labels-form-more}
-use borrow.Author.Rules.{rules}
 use Rattle.sheet_lines.proofs.read.labels_form.Goals as goal
 
 pub returns-then-not-ended : goal.returns-then-not-ended

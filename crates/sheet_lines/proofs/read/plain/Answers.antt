@@ -2,7 +2,6 @@
 use native.Mathlib.Omega.{arith}
 use mathlib.Core.Path.{refl}
 use Rattle.sheet_lines.proofs.Answers.{none-positive, none-negative}
-use borrow.Author.Rules.{rules}
 use Rattle.sheet_lines.proofs.read.plain.Goals as goal
 
 pub returns : goal.returns

@@ -5,7 +5,6 @@ use mathlib.Core.Path.{◌≡◌, sym, ap}
 use mathlib.Core.List.{List}
 use Rattle.sheet_lines.specs.Parts.{command_for}
 use Rattle.sheet_lines.specs.declared.read.Purpose.{Purpose}
-use borrow.Author.Rules.{rules}
 use Rattle.sheet_lines.proofs.read.with_head.Goals as goal
 
 -- the command of a change that is known to be another

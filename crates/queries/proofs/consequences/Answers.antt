@@ -1,0 +1,30 @@
+-- `queries::consequences` meets its contract. Assumes nothing.
+use Rattle.theory.specs.Rules.{all}
+use Rattle.theory.specs.Explanations.{Consequence}
+use Rattle.table.specs.Words.{table_of}
+use Rattle.calls.specs.Ends.{held}
+use Rattle.calls.proofs.Asking.{ask-passed}
+use Rattle.reading.proofs.SoundArrays.{sound-bounded}
+use Rattle.queries.proofs.Ends.{set-refused, set-ends}
+use borrow.Author.Rules.{rules}
+use Rattle.queries.proofs.consequences.Goals as goal
+
+pub following-flags-requires : goal.following-flags-requires
+following-flags-requires c =
+    let t = table_of c.args.table.now in
+    sound-bounded t (ask-passed t _ _ c.ask_atom-asked.ensures _ c.in-Passed.is).sound
+
+pub returns-in-Refused : goal.returns-in-Refused
+returns-in-Refused c =
+    let t = table_of c.args.table.now in
+    set-refused t c.args.atom _ c.ask_atom-asked.ensures (λ M. Consequence (all (held t))) _
+    c.in-Refused.is _
+
+pub returns-in-Passed : goal.returns-in-Passed
+returns-in-Passed c =
+    let t = table_of c.args.table.now in
+    let passes = ask-passed t c.args.atom _ c.ask_atom-asked.ensures _ c.in-Passed.is in
+    set-ends t c.args.atom _ c.ask_atom-asked.ensures (λ M. Consequence (all (held t))) _
+    c.in-Passed.is _
+    passes.sound.kept.admissible c.following-flags.result c.following-flags.ensures _ _ _
+    c.write_marked.ensures

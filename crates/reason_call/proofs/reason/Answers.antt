@@ -1,0 +1,18 @@
+-- `reason_call::reason` meets its contract: 15 is asked first. Assumes nothing.
+use Rattle.theory.proofs.Lists.{clash, not-true, not-false}
+use Rattle.calls.specs.Ends.{unsound}
+use borrow.Author.Rules.{rules}
+use Rattle.reason_call.proofs.reason.Goals as goal
+
+pub returns-then-not-sound : goal.returns-then-not-sound
+returns-then-not-sound c =
+    let told = c.sound in
+    unsound (λ S. clash (told.ensures.1 S) c.if-not-sound.true)
+
+pub reason_of_sound-requires : goal.reason_of_sound-requires
+reason_of_sound-requires c =
+    let told = c.sound in
+    told.ensures.0 c.if-not-sound.false
+
+pub returns : goal.returns
+returns c = c.reason_of_sound.ensures

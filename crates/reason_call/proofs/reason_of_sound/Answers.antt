@@ -1,0 +1,29 @@
+-- `reason_call::reason_of_sound` meets its contract: each refusal is that of the first question answered no. Assumes
+-- nothing.
+use Prim.Native.Nat.{◌<◌}
+use mathlib.Core.Path.{sym, subst}
+use Rattle.theory.specs.Questions.{atom_questions}
+use Rattle.theory.specs.Limits.{document}
+use Rattle.theory.proofs.Questions.{first_no-before}
+use Rattle.table.specs.Words.{table_of}
+use Rattle.calls.proofs.Asking.{ask-passed, list-refused, passes-low}
+use Rattle.reason_call.proofs.Reasons.{ends_asked}
+use borrow.Author.Rules.{rules}
+use Rattle.reason_call.proofs.reason_of_sound.Goals as goal
+
+pub write_reason-requires : goal.write_reason-requires
+write_reason-requires c =
+    let t = table_of c.args.table.now in
+    let passes = ask-passed t c.args.atom _ c.atom_asked-asked.ensures _ c.in-Passed.is in
+    (c.requires, subst (λ k. k < document.atoms) (sym passes.atom) (passes-low t c.args.atom _ passes))
+
+pub returns-in-Refused : goal.returns-in-Refused
+returns-in-Refused c =
+    list-refused (table_of c.args.table.now) c.args.atom _ c.atom_asked-asked.ensures _
+    c.in-Refused.is _ _ _ (first_no-before (atom_questions document c.args.atom) _)
+
+pub returns-in-Passed : goal.returns-in-Passed
+returns-in-Passed c =
+    let t = table_of c.args.table.now in
+    let passes = ask-passed t c.args.atom _ c.atom_asked-asked.ensures _ c.in-Passed.is in
+    ends_asked t c.args.atom _ passes _ _ _ c.write_reason.ensures
