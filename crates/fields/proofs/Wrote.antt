@@ -4,9 +4,9 @@ use native.Mathlib.Omega.{arith}
 use native.Mathlib.Numerals.{add-one}
 use mathlib.Core.Path.{◌≡◌, refl, sym, ◌∙◌, ap}
 use mathlib.Core.List.{List, [], ◌∷◌, ◌++◌, append-nil}
-use lib.ListN.{length, take, drop, get_or, set, length-append, take-append-drop, length-take}
-use lib.Seq.{take_at, drop_at, drop-append_seam, set_split, length-take-le}
-use Rattle.fields.specs.Fields.{decimal, field, fields}
+use lib.ListN.{length, take, drop, get_or, set, length-append, take-append-drop}
+use lib.Seq.{take_at, drop_at, set_split, length-take-le}
+use Rattle.fields.specs.Fields.{field, fields}
 use Rattle.fields.specs.Written.{put, Wrote, WroteIn}
 use Rattle.fields.proofs.Buffers.{put-length, put-put}
 use Rattle.fields.proofs.Decimals.{decimal-length}

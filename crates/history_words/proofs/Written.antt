@@ -332,7 +332,7 @@ written-from-fits n [] f l = below-nil
 written-from-fits n (c ∷ cs) f l =
     let e = length-append (call_file c) (loaded_files cs) in
     below-append (call_words n c) (call_fits n c (f c (Memᴰ.head refl)) (omega (arith, e)))
-    (written-from-fits _ cs (λ d m. f d (Memᴰ.tail m)) (omega (arith, e)))
+    (written-from-fits (n + length (call_file c)) cs (λ d m. f d (Memᴰ.tail m)) (omega (arith, e)))
 
 pub written-fits :
     (cs : List Call) → ((c : Call) → Memᴰ c cs → CallFits c) → length (loaded_files cs) < 2 ^ 32

@@ -1,12 +1,12 @@
 -- Laws of what the slots keep of each atom, gathered into arrays by a walk down the slots. Assumes nothing.
-use Prim.Native.Nat.{ℕ, zero, suc, ◌+◌, ◌≤◌, ◌<◌}
+use Prim.Native.Nat.{ℕ, zero, suc, ◌≤◌, ◌<◌}
 use native.Mathlib.Omega.{arith}
 use native.Mathlib.Decide.{ℕ_discrete}
 use mathlib.Core.Path.{◌≡◌, refl, sym, ◌∙◌, ap, ap₂, fun_ext}
 use mathlib.Core.Bool.{Bool, true, false, not, ◌&&◌, cond}
 use mathlib.Core.Logic.{⊎_elim}
 use mathlib.Core.List.Memᴰ
-use mathlib.Core.List.{List, [], ◌∷◌}
+use mathlib.Core.List.{List}
 use mathlib.Core.Option.{Option, none, some}
 use lib.Dec.{eqb}
 use lib.ListN.{length, get_or, set, drop, length-set, replicate, length-replicate, drop_of_length-le, get_or-eq_default}
@@ -17,19 +17,18 @@ use Rattle.theory.specs.Limits.{document}
 use Rattle.theory.specs.Labels.{Label, absent, out}
 use Rattle.theory.specs.Questions.{is_in_label}
 use Rattle.theory.specs.Certificate.{depth_in, slot_in, kept_in, kept_depth, kept_slot}
-use Rattle.theory.specs.Slots.{keeps?, kept_from, label_from, label_by, occurs?}
+use Rattle.theory.specs.Slots.{keeps?, kept_from, label_from, occurs?}
 use Rattle.theory.proofs.Lists.{eqb_of, eqb-not, le-or-lt}
 use Rattle.table.specs.declared.Rule.{Rule}
 use Rattle.table.specs.declared.arrays.LabelArrays.{LabelArrays}
 use Rattle.table.specs.Sets.{member, number}
-use Rattle.table.specs.Rules.{slot_of, rule_of, program_of, book_of, past_rule}
+use Rattle.table.specs.Rules.{slot_of, program_of, past_rule}
 use Rattle.table.specs.Words.{rules_of, depth_at}
 use Rattle.theory.proofs.Slots.{found-kept}
 use Rattle.table.specs.Labels.{label_at}
 use Rattle.table.specs.Arrays.{ArraysOf, Noted}
 use Rattle.table.proofs.Members.{all_alike, mark-in, mark-other, number_same, number-other}
 use Rattle.table.proofs.Programs.{program-at, program-length, slot_rule}
-use Rattle.table.proofs.Words.{rules-length}
 
 -- What a slot found tells of its atom.
 abbrev told_flag : Option ℕ → Bool

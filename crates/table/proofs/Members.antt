@@ -8,7 +8,7 @@ use lib.Dec.{eqb}
 use lib.ListN.{length, get_or, set, replicate}
 use lib.Seq.{get_or-set_same, get_or-set_other}
 use Rattle.theory.specs.Models.{AtomSet}
-use Rattle.theory.proofs.Lists.{not-true, not-false, clash, test, eqb-eq, eqb_of, or_r}
+use Rattle.theory.proofs.Lists.{clash, test, eqb-eq, eqb_of, or_r}
 use Rattle.table.specs.Sets.{member, number, standing}
 
 -- An atom is as wanted exactly if the test of whether it is in the set answers what is wanted.

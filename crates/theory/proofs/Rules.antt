@@ -1,11 +1,10 @@
 -- Laws of programs, held rules and valid rules. Assumes nothing.
 use Prim.Native.Nat.{ℕ, zero, suc}
 use mathlib.Core.Path.{◌≡◌, refl, sym, ◌∙◌, ap}
-use mathlib.Core.Logic.{◌⊎◌, inl, inr, ⊎_elim}
-use mathlib.Core.Bool.{Bool, true, false, not, ◌&&◌, true≢false}
+use mathlib.Core.Logic.{⊎_elim}
+use mathlib.Core.Bool.{Bool, true, false, not, true≢false}
 use mathlib.Core.List.{List, [], ◌∷◌, ◌++◌, Memᴰ}
 use mathlib.Core.Option.{Option, none, some, some-injective, none-ne-some}
-use lib.ListN.{get_or}
 use Rattle.theory.specs.Lists.{◌∈◌, any, every}
 use Rattle.theory.specs.Rules.{any_rule, entries, Held, Occurs, passes, Program, Rule}
 use Rattle.theory.specs.Models.{AtomSet, valid}

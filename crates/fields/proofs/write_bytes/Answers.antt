@@ -1,6 +1,6 @@
 -- `fields::write_bytes` meets its contract. The loop's invariant: the bytes passed stand at their places, and
 -- every other byte is as it was. Assumes nothing.
-use Prim.Native.Nat.{◌+◌, ◌-◌, ◌≤◌}
+use Prim.Native.Nat.{◌+◌, ◌≤◌}
 use native.Mathlib.Omega.{arith}
 use native.Mathlib.Numerals.{add-one}
 use mathlib.Core.Path.{◌≡◌, refl, ◌∙◌, ap}

@@ -3,7 +3,6 @@ use native.Mathlib.Omega.{arith}
 use Rattle.fields.specs.Fields.{field}
 use Rattle.fields.proofs.Decimals.{decimal-length}
 use Rattle.fields.proofs.Wrote.{wrote-all, wrote_none, wrote_then}
-use borrow.Author.Rules.{rules}
 use Rattle.fields.proofs.write_field.Goals as goal
 
 pub returns-then-bytes_left-lt11 : goal.returns-then-bytes_left-lt11

@@ -1,14 +1,13 @@
 -- `fields::write_number` meets its contract. The loop's invariant: the digits of what is left, then those stored,
 -- are the number's, and what is left is below the power of ten for which there is room. Assumes nothing.
-use Prim.Native.Nat.{◌+◌, ◌-◌, ◌%◌, ◌^◌, ◌≤◌, ◌<◌}
+use Prim.Native.Nat.{◌+◌, ◌-◌, ◌%◌, ◌≤◌, ◌<◌}
 use native.Mathlib.Omega.{arith}
 use mathlib.Core.Path.{◌≡◌, refl, ◌∙◌}
-use mathlib.Core.List.{◌++◌, append-nil}
+use mathlib.Core.List.{append-nil}
 use lib.ListN.{length, drop, take, set, length-set, length-drop}
 use lib.Seq.{take_all}
 use Rattle.fields.specs.Fields.{decimal}
 use Rattle.fields.proofs.Decimals.{digit-next, digit-first, room-for-more, room-behind}
-use borrow.Author.Rules.{rules}
 use Rattle.fields.proofs.write_number.Goals as goal
 
 pub loop-rest-init : goal.loop-rest-init

@@ -1,11 +1,8 @@
-use Prim.Native.Nat.{◌+◌, ◌-◌, ◌%◌, ◌^◌, ◌≤◌, ◌<◌}
-use native.Mathlib.Omega.{arith}
-use mathlib.Core.Path.{◌≡◌, refl, ◌∙◌}
-use mathlib.Core.List.{◌++◌, append-nil}
-use lib.ListN.{length, drop, take, set, length-set, length-drop}
-use lib.Seq.{take_all}
+use Prim.Native.Nat.{◌+◌, ◌^◌, ◌≤◌, ◌<◌}
+use mathlib.Core.Path.{◌≡◌}
+use mathlib.Core.List.{◌++◌}
+use lib.ListN.{length, drop}
 use Rattle.fields.specs.Fields.{decimal}
-use Rattle.fields.proofs.Decimals.{digit-next, digit-first, room-for-more, room-behind}
 use Rattle.fields.proofs.write_number.Given as goal
 
 abbrev pub invariant-loop-rest : goal.invariant-loop-rest

@@ -3,8 +3,6 @@
 use mathlib.Core.Path.{◌≡◌, sym, ap}
 use Rattle.refusals.specs.declared.Refusal.{Refusal}
 use Rattle.refusals.specs.Refusals.{number_of}
-use borrow.Author.Rules.{rules}
-use Rattle.refusals.proofs.refusal_number.Goals as goal
 
 told : (f g : Refusal) → f ≡ g → number_of g ≡ number_of f
 told f g e = ap number_of (sym e)

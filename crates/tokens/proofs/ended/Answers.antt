@@ -2,7 +2,6 @@
 use mathlib.Core.Path.{ap}
 use Rattle.places.specs.declared.Place.{Place}
 use Rattle.tokens.proofs.Tokens.{empty-from}
-use borrow.Author.Rules.{rules}
 use Rattle.tokens.proofs.ended.Goals as goal
 
 pub returns : goal.returns

@@ -1,6 +1,5 @@
 -- `tokens::is` meets its contract. Assumes nothing.
 use Rattle.tokens.proofs.Tokens.{one-not, one-is}
-use borrow.Author.Rules.{rules}
 use Rattle.tokens.proofs.is.Goals as goal
 
 pub returns-then-token-ne1 : goal.returns-then-token-ne1

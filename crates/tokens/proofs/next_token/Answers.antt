@@ -7,7 +7,6 @@ use mathlib.Core.Path.{ap}
 use Rattle.places.specs.declared.Place.{Place}
 use Rattle.places.proofs.Leading.{leading-within}
 use Rattle.tokens.proofs.Tokens.{first-token, rest-tokens}
-use borrow.Author.Rules.{rules}
 use Rattle.tokens.proofs.next_token.Goals as goal
 
 pub returns : goal.returns

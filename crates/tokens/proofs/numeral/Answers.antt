@@ -2,9 +2,7 @@
 -- definition. Assumes nothing.
 use native.Mathlib.Omega.{arith}
 use mathlib.Core.Path.{◌∙◌}
-use mathlib.Core.Logic.{⊎_elim}
 use Rattle.tokens.proofs.Numerals.{numeral-empty, numeral-long, numeral-needless, numeral-other, numeral-digit}
-use borrow.Author.Rules.{rules}
 use Rattle.tokens.proofs.numeral.Goals as goal
 use Rattle.tokens.proofs.numeral.Goals.{then-n-gt1+else-token-eq48, else-n-gt1}
 

@@ -1,15 +1,11 @@
 -- `tokens::token_end` meets its contract: it passes the bytes of a token.
 -- The loop's invariant: the offset where it will end is the one that is asked for. Assumes nothing.
-use Prim.Native.Nat.{◌+◌, ◌-◌}
 use native.Mathlib.Omega.{arith}
-use mathlib.Core.Path.{◌≡◌, refl, ap}
+use mathlib.Core.Path.{refl, ap}
 use mathlib.Core.Bool.{not}
-use lib.ListN.{length, drop}
 use borrow.Author.Tests.{eq-eqb, ne_eqb}
 use Rattle.tokens.specs.Tokens.{in_token}
-use Rattle.places.specs.Places.{leading}
 use Rattle.places.proofs.Leading.{seek-next, seek_stop, seek-end}
-use borrow.Author.Rules.{rules}
 use Rattle.tokens.proofs.token_end.Goals as goal
 
 pub loop-i-init : goal.loop-i-init

@@ -1,12 +1,8 @@
 use Prim.Native.Nat.{◌+◌, ◌-◌}
-use native.Mathlib.Omega.{arith}
-use mathlib.Core.Path.{◌≡◌, refl, ap}
-use mathlib.Core.Bool.{not}
+use mathlib.Core.Path.{◌≡◌}
 use lib.ListN.{length, drop}
-use borrow.Author.Tests.{eq-eqb, ne_eqb}
 use Rattle.tokens.specs.Tokens.{in_token}
 use Rattle.places.specs.Places.{leading}
-use Rattle.places.proofs.Leading.{seek-next, seek_stop, seek-end}
 use Rattle.tokens.proofs.token_end.Given as goal
 
 abbrev pub invariant-loop-i : goal.invariant-loop-i

@@ -1,10 +1,9 @@
 -- `tokens::value` meets its contract. The loop's invariant: the bytes left, after the digits passed, spell what
 -- the token does, and what was passed is below a power of ten, so that no sum wraps. Assumes nothing.
-use Prim.Native.Nat.{◌-◌, ◌^◌, ◌≤◌, ◌<◌}
+use Prim.Native.Nat.{◌-◌}
 use native.Mathlib.Omega.{arith}
-use mathlib.Core.Path.{◌≡◌, refl, ◌∙◌}
-use lib.ListN.{length, get_or, drop}
-use Rattle.tokens.specs.Numerals.{spelled_from}
+use mathlib.Core.Path.{refl, ◌∙◌}
+use lib.ListN.{get_or}
 use Rattle.tokens.proofs.Numerals.{spelled-more, spelled-low, spelled-high, spelled-end, room-left, room_next}
 use borrow.Author.Rules.{rules}
 use Rattle.tokens.proofs.value.Goals as goal

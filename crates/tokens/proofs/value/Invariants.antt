@@ -1,9 +1,7 @@
 use Prim.Native.Nat.{◌-◌, ◌^◌, ◌≤◌, ◌<◌}
-use native.Mathlib.Omega.{arith}
-use mathlib.Core.Path.{◌≡◌, refl, ◌∙◌}
-use lib.ListN.{length, get_or, drop}
+use mathlib.Core.Path.{◌≡◌}
+use lib.ListN.{length, drop}
 use Rattle.tokens.specs.Numerals.{spelled_from}
-use Rattle.tokens.proofs.Numerals.{spelled-more, spelled-low, spelled-high, spelled-end, room-left, room_next}
 use Rattle.tokens.proofs.value.Given as goal
 
 abbrev pub invariant-loop-i : goal.invariant-loop-i

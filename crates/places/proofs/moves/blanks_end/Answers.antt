@@ -1,14 +1,10 @@
 -- `places::moves::blanks_end` meets its contract: it passes the blanks that lead from an offset.
 -- The loop's invariant: the offset where it will end is the one that is asked for. Assumes nothing.
-use Prim.Native.Nat.{◌-◌}
 use native.Mathlib.Omega.{arith}
-use mathlib.Core.Path.{◌≡◌, refl}
-use lib.ListN.{length}
+use mathlib.Core.Path.{refl}
 use borrow.Author.Tests.{eq-eqb, ne_eqb}
 use Rattle.places.specs.Places.{is_space}
-use Rattle.places.specs.Places.{blanks_end}
 use Rattle.places.proofs.Leading.{seek-next, seek_stop, seek-end}
-use borrow.Author.Rules.{rules}
 use Rattle.places.proofs.moves.blanks_end.Goals as goal
 
 pub loop-i-init : goal.loop-i-init

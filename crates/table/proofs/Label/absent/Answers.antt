@@ -1,6 +1,5 @@
 -- `table::Label::absent` meets its contract. Assumes nothing.
 use mathlib.Core.Path.{refl}
-use borrow.Author.Rules.{rules}
 use Rattle.table.proofs.Label.absent.Goals as goal
 
 pub returns : goal.returns

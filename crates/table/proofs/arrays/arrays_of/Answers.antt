@@ -1,13 +1,10 @@
 -- `table::arrays::arrays_of` meets its contract: by what the slots from the one at hand on keep. Assumes nothing.
-use Prim.Native.Nat.{suc, ◌-◌, ◌≤◌, ◌<◌}
+use Prim.Native.Nat.{◌-◌}
 use native.Mathlib.Omega.{arith}
-use mathlib.Core.Path.{◌≡◌}
-use lib.ListN.{length}
 use Rattle.theory.specs.Limits.{document}
 use Rattle.table.specs.Words.{rules_of, depth_at}
 use Rattle.table.proofs.Words.{rules-length}
-use Rattle.table.proofs.LabelArrays.{Read, read_none, read_down, read_all}
-use borrow.Author.Rules.{rules}
+use Rattle.table.proofs.LabelArrays.{read_none, read_down, read_all}
 use Rattle.table.proofs.arrays.arrays_of.Goals as goal
 
 pub loop-left-init : goal.loop-left-init

@@ -1,11 +1,7 @@
-use Prim.Native.Nat.{suc, ◌-◌, ◌≤◌, ◌<◌}
-use native.Mathlib.Omega.{arith}
-use mathlib.Core.Path.{◌≡◌}
-use lib.ListN.{length}
+use Prim.Native.Nat.{◌≤◌}
 use Rattle.theory.specs.Limits.{document}
 use Rattle.table.specs.Words.{rules_of, depth_at}
-use Rattle.table.proofs.Words.{rules-length}
-use Rattle.table.proofs.LabelArrays.{Read, read_none, read_down, read_all}
+use Rattle.table.proofs.LabelArrays.{Read}
 use Rattle.table.proofs.arrays.arrays_of.Given as goal
 
 abbrev pub invariant-loop-left : goal.invariant-loop-left

@@ -1,8 +1,7 @@
 -- `table::arrays::note` meets its contract. Assumes nothing.
-use mathlib.Core.Path.{◌≡◌, refl, sym, ◌∙◌}
+use mathlib.Core.Path.{refl, sym, ◌∙◌}
 use mathlib.Core.Option.{none-ne-some}
 use Rattle.table.proofs.Programs.{slot_held, slot-state}
-use borrow.Author.Rules.{rules}
 use Rattle.table.proofs.arrays.note.Goals as goal
 
 pub returns-then-rule-eq0 : goal.returns-then-rule-eq0

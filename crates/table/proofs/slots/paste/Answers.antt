@@ -1,11 +1,8 @@
 -- `table::slots::paste` meets its contract. Assumes nothing.
-use Prim.Native.Nat.{◌-◌, ◌≤◌}
 use native.Mathlib.Omega.{arith}
 use mathlib.Core.Path.{◌≡◌, ◌∙◌, ap}
-use lib.ListN.{length}
 use lib.Seq.{paste, paste-zero}
 use Rattle.table.proofs.Pasting.{paste-next}
-use Rattle.table.specs.Words.{words}
 use borrow.Author.Rules.{rules}
 use Rattle.table.proofs.slots.paste.Goals as goal
 

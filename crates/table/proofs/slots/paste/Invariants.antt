@@ -1,9 +1,7 @@
 use Prim.Native.Nat.{◌-◌, ◌≤◌}
-use native.Mathlib.Omega.{arith}
-use mathlib.Core.Path.{◌≡◌, ◌∙◌, ap}
+use mathlib.Core.Path.{◌≡◌}
 use lib.ListN.{length}
-use lib.Seq.{paste, paste-zero}
-use Rattle.table.proofs.Pasting.{paste-next}
+use lib.Seq.{paste}
 use Rattle.table.specs.Words.{words}
 use Rattle.table.proofs.slots.paste.Given as goal
 

@@ -2,12 +2,11 @@
 use Prim.Native.Nat.{◌*◌}
 use native.Mathlib.Omega.{arith}
 use mathlib.Core.Path.{◌≡◌, sym, ◌∙◌, ap}
-use lib.ListN.{length, length-map}
+use lib.ListN.{length}
 use lib.Seq.{paste, set_out}
 use Rattle.theory.specs.Limits.{document}
-use Rattle.table.specs.Words.{width, rules_of, rule_words, with_rule}
+use Rattle.table.specs.Words.{width, rules_of}
 use Rattle.table.proofs.Words.{put-rules, rules-length}
-use borrow.Author.Rules.{rules}
 use Rattle.table.proofs.slots.put_rule.Goals as goal
 
 pub returns-then-i-lt-SLOTS : goal.returns-then-i-lt-SLOTS

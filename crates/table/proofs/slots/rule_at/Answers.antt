@@ -1,7 +1,6 @@
 -- `table::slots::rule_at` meets its contract. Assumes nothing.
 use mathlib.Core.Path.{sym, ◌∙◌}
 use Rattle.table.proofs.Words.{rules-at}
-use borrow.Author.Rules.{rules}
 use Rattle.table.proofs.slots.rule_at.Goals as goal
 
 pub returns : goal.returns

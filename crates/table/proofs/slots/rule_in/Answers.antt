@@ -6,7 +6,6 @@ use Rattle.table.specs.Words.{rules_of}
 use Rattle.table.specs.Clean.{free_rule}
 use Rattle.table.proofs.Entries.{past, there}
 use Rattle.table.proofs.Words.{rules-length}
-use borrow.Author.Rules.{rules}
 use Rattle.table.proofs.slots.rule_in.Goals as goal
 
 pub returns-then-i-lt-SLOTS : goal.returns-then-i-lt-SLOTS

@@ -1,9 +1,7 @@
 -- `table::turns::slot_at` meets its contract. Assumes nothing.
 use native.Mathlib.Omega.{arith}
 use Rattle.theory.specs.Limits.{document}
-use Rattle.theory.proofs.Lists.{not-true, not-false}
 use Rattle.table.proofs.SlotsInTurn.{slot-at-up, slot-at-down}
-use borrow.Author.Rules.{rules}
 use Rattle.table.proofs.turns.slot_at.Goals as goal
 
 pub returns-then-not-down : goal.returns-then-not-down
