@@ -1,7 +1,6 @@
 -- `history_replay::accepted` meets its contract. Assumes nothing.
 use native.Mathlib.Omega.{arith}
 use Rattle.history_replay.proofs.Stepping.{small, accepted-refused}
-use borrow.Author.Rules.{rules}
 use Rattle.history_replay.proofs.accepted.Goals as goal
 
 pub overflow_add-result : goal.overflow_add-result

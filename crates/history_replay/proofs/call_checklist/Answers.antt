@@ -1,7 +1,6 @@
 -- `history_replay::call_checklist` meets its contract. Assumes nothing.
 use native.Mathlib.Omega.{arith}
 use Rattle.history_replay.proofs.Stepping.{made-opening, made-sent, made-skipped, made-withdrawn}
-use borrow.Author.Rules.{rules}
 use Rattle.history_replay.proofs.call_checklist.Goals as goal
 
 pub returns-then-which-eq0 : goal.returns-then-which-eq0

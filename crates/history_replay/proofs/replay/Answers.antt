@@ -1,9 +1,8 @@
 -- `history_replay::replay` meets its contract. Assumes nothing.
 use Prim.Native.Nat.{◌-◌}
 use native.Mathlib.Omega.{arith}
-use lib.ListN.{length}
 use Rattle.theory.proofs.Lists.{not-true, not-false}
-use Rattle.history_replay.proofs.Replaying.{Going, going_start, going_next, going-over, going-full, going-length}
+use Rattle.history_replay.proofs.Replaying.{going_start, going_next, going-over, going-full, going-length}
 use borrow.Author.Rules.{rules}
 use Rattle.history_replay.proofs.replay.Goals as goal
 

@@ -1,8 +1,6 @@
 use Prim.Native.Nat.{◌-◌}
-use native.Mathlib.Omega.{arith}
 use lib.ListN.{length}
-use Rattle.theory.proofs.Lists.{not-true, not-false}
-use Rattle.history_replay.proofs.Replaying.{Going, going_start, going_next, going-over, going-full, going-length}
+use Rattle.history_replay.proofs.Replaying.{Going}
 use Rattle.history_replay.proofs.replay.Given as goal
 
 abbrev pub invariant-loop-count : goal.invariant-loop-count

@@ -1,5 +1,5 @@
 -- `history_replay::step` meets its contract. Assumes nothing.
-use Prim.Native.Nat.{ℕ, ◌≤◌}
+use Prim.Native.Nat.{◌≤◌}
 use mathlib.Core.Path.{refl}
 use lib.ListN.{length}
 use Rattle.history.specs.Claim.{adds, removes, replaces, mutes, loads}

@@ -1,6 +1,5 @@
 -- `history_replay::step_changed` meets its contract. Assumes nothing.
 use Rattle.history_replay.proofs.Stepping.{told-step}
-use borrow.Author.Rules.{rules}
 use Rattle.history_replay.proofs.step_changed.Goals as goal
 
 pub returns : goal.returns
