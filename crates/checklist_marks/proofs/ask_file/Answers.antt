@@ -27,8 +27,9 @@ overflow_cast-file c =
 pub mark_atom-requires : goal.mark_atom-requires
 mark_atom-requires c =
     let rules = held (table_of c.args.table.now) in
-    on-list-few _ _ c.args.file (counted-some rules _ c.file_count-n.ensures c.if-n-eq0.false)
-    (sym c.on_list.ensures ∙ c.if-on_list.true)
+    let files = counted-some rules _ c.file_count-n.ensures c.if-n-eq0.false in
+    let listed = sym c.on_list.ensures ∙ c.if-on_list.true in
+    on-list-few _ _ c.args.file files listed
 
 pub returns-then-on_list : goal.returns-then-on_list
 returns-then-on_list c =
