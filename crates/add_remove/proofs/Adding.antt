@@ -7,7 +7,6 @@ use mathlib.Core.Option.{Option, none, some}
 use lib.ListN.{set}
 use Rattle.theory.specs.Rules.{all, Held, Bounded, any_rule, same, kept}
 use Rattle.theory.specs.Rules as theory
-use Rattle.theory.specs.Dependencies.{NegativeCycle}
 use Rattle.theory.specs.Questions.{asks, first_no, rule_questions, add_questions}
 use Rattle.theory.specs.Questions.{lowest_free, is_some, put_in, stratified, with_replaced}
 use Rattle.theory.specs.Limits.{document}

@@ -1,6 +1,5 @@
 -- A table that the code has is sized: what owning it tells of its numbers. Assumes nothing.
 use mathlib.Core.List.{List}
-use lib.ListN.{length-map}
 use mir.Val.{Val}
 use denote.Laws.{Is}
 use denote.Struct.Declared.{row}

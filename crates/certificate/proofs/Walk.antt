@@ -33,7 +33,6 @@ use Rattle.table.specs.Arrays.{ArraysOf}
 use Rattle.table.proofs.Programs.{active-place, active-rule, book-length}
 use Rattle.table.proofs.Words.{rules-length}
 use Rattle.table.proofs.LabelArrays.{flags-are, depths-are}
-use Rattle.dues.specs.Due.{Given}
 use Rattle.certificate.specs.Compared.{Compared}
 
 -- The in atoms and depths that are read off the slots' labels are those that the slots keep.

@@ -1,3 +1,2 @@
 // What a deposit's calls show has no code: its definitions are in specs/, the laws about them in proofs/.
 #![tactic(auto)]
-

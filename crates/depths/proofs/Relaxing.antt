@@ -14,7 +14,7 @@ use mathlib.Core.Option.{Option, none, some}
 use borrow.Author.Count.{below_more}
 use lib.ListN.{length, get_or, set, replicate, length-set, length-replicate, get_or-map}
 use lib.Seq.{get_or-set_same, get_or-set_other}
-use Rattle.theory.specs.Lists.{◌∈◌, every}
+use Rattle.theory.specs.Lists.{◌∈◌}
 use Rattle.theory.specs.Rules.{active_on, Rule, Program, Held, Bounded}
 use Rattle.theory.specs.Models.{AtomSet, valid, Admissible}
 use Rattle.theory.specs.Derivations.{by, Depth, Derivation, Derivations}

@@ -25,7 +25,6 @@ use Rattle.table.specs.Sets.{member}
 use Rattle.table.specs.Rules.{rule_of, active_in, spoiler_of}
 use Rattle.table.proofs.Members.{mark-in, mark-other}
 use Rattle.table.proofs.Programs.{active-none, active-some}
-use Rattle.dues.specs.declared.Due.{Due}
 use Rattle.dues.specs.Due.{valid_level, Given, DueIn, DepthDue, gives_at}
 
 -- A rule with a place is not valid.

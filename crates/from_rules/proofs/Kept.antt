@@ -6,7 +6,7 @@ use mathlib.Core.Bool.{true, false}
 use mathlib.Core.Logic.{⊎_elim}
 use mathlib.Core.Option.{Option, none, some, none-ne-some}
 use lib.ListN.{get_or}
-use Rattle.theory.specs.Rules.{active, Held, Pages, Rule}
+use Rattle.theory.specs.Rules.{active, Pages, Rule}
 use Rattle.theory.specs.Models.{Admissible, AtomSet}
 use Rattle.theory.specs.Labels.{Supporting}
 use Rattle.theory.specs.Slots.{idle, slot_spoiler, SlotDepth, supports}

@@ -10,7 +10,7 @@ use mathlib.Core.Option.{none, some, none-ne-some, some-injective}
 use lib.Dec.{leb}
 use lib.ListN.{length, take, drop, get_or, get_or-eq_default}
 use Rattle.theory.specs.Lists.{◌∈◌}
-use Rattle.theory.specs.Rules.{Program, Bounded, Held}
+use Rattle.theory.specs.Rules.{Program, Bounded}
 use Rattle.theory.specs.Rules as theory
 use Rattle.theory.specs.Dependencies.{NegativeCycle}
 use Rattle.theory.proofs.Lists.{is_not, le-or-lt, leb-le, le-leb}

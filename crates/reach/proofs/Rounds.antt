@@ -15,7 +15,7 @@ use Rattle.theory.proofs.Lists.{clash, le-or-lt, test}
 use Rattle.theory.specs.Limits.{document}
 use Rattle.table.specs.Sets.{member, one_if}
 use Rattle.reach.specs.Edges.{Edge, Reached}
-use Rattle.reach.specs.Rounds.{source, Marks, Rests, Followed, outside, OnlyReached, AllFollowed, Round}
+use Rattle.reach.specs.Rounds.{source, Marks, Followed, outside, OnlyReached, AllFollowed, Round}
 use Rattle.reach.proofs.Steps.{steps_on, steps-in}
 
 -- The start is a source; any other atom is one if it is in the set.

@@ -1,11 +1,11 @@
 -- Laws of `Feeds` and `RepliesAt`: nothing fed, one part behind another, a scan, a command, a reply. Assumes nothing.
-use Prim.Native.Nat.{ℕ, zero, suc, ◌+◌, ◌-◌, ◌^◌, ◌≤◌, ◌<◌}
+use Prim.Native.Nat.{ℕ, zero, suc, ◌+◌, ◌-◌, ◌≤◌, ◌<◌}
 use native.Mathlib.Omega.{arith}
 use mathlib.Core.Path.{◌≡◌, refl, sym, ◌∙◌, ap, subst}
 use mathlib.Core.Bool.{Bool, true, false, cond}
 use mathlib.Core.List.{List, [], ◌∷◌, ◌++◌, append-nil}
 use lib.Dec.{leb}
-use lib.ListN.{length, take, drop, get_or, length-drop, length-map}
+use lib.ListN.{length, take, drop, get_or, length-drop}
 use lib.Seq.{take-suc, get_or-drop}
 use borrow.Author.Tests.{leb-true, leb-false, le-leb, lt-leb}
 use mir.Val.{Val}
@@ -21,10 +21,10 @@ use Rattle.fields.specs.Written.{Wrote}
 use Rattle.fields.proofs.Wrote.{wrote_then, wrote_nothing, wrote-length}
 use Rattle.sheet_lines.specs.declared.Command.{Command}
 use Rattle.sheet_lines.specs.declared.Parsed.{Parsed}
-use Rattle.sheet_lines.specs.Readings.{Line, is, reading, command_of, positives_in, negatives_in, Answers}
+use Rattle.sheet_lines.specs.Readings.{is, reading, command_of, positives_in, negatives_in, Answers}
 use Rattle.sheet_label_lines.specs.LabelLines.{LABELS_ROOM}
 use Rattle.sheet_meaning.specs.Lines.{Prints}
-use Rattle.sheet_meaning.specs.Sheets.{State, ended, Reads, stop, newline}
+use Rattle.sheet_meaning.specs.Sheets.{ended, Reads, stop, newline}
 use Rattle.sheet_begun.specs.declared.Begun.{Begun}
 use Rattle.sheet_begun.specs.Begun.{ENOUGH, BegunOf, ReadsAs}
 use Rattle.sheet_begun.proofs.Lengthening.{begun-next}
@@ -38,11 +38,10 @@ use Rattle.sheet_scanner.specs.Scans.{IsCommand, AtCommand, WhereFound, IfNothin
 use Rattle.sheet_scanner.proofs.Judging.{judged-told, judged-command}
 use Rattle.sheet_scanner.proofs.Scanning.{reads-parts, numbers_fit, on_line}
 use Rattle.sheet_commands.specs.declared.Obeyed.{Obeyed}
-use Rattle.sheet_commands.specs.Commands.{Replies, Obeys}
+use Rattle.sheet_commands.specs.Commands.{Obeys}
 use Rattle.sheet_feed.specs.declared.Sheet.{Sheet}
 use Rattle.sheet_feed.specs.declared.Fed.{Fed}
-use Rattle.sheet_feed.specs.declared.Reply.{Reply}
-use Rattle.sheet_feed.specs.Sheets.{answer_in, StandsFor, FeedsFrom, Feeds, FeedsAll, RepliesAt}
+use Rattle.sheet_feed.specs.Sheets.{answer_in, Feeds, FeedsAll, RepliesAt}
 use Rattle.sheet_feed.specs.contracts.Sheet as sheet-type
 
 -- The answer of question 11, by its sides.

@@ -38,7 +38,7 @@ use Rattle.history.specs.Calls.{Call}
 use Rattle.history.specs.Claim.{adds, removes, replaces, Trace, stop, call}
 use Rattle.history.proofs.Sequence.{step_follows, sound-model, sound-below}
 use Rattle.sheet_lines.specs.Commands as sheet
-use Rattle.sheet_lines.specs.Readings.{Line, is_blank, too_long, no_command, is, reading, blank}
+use Rattle.sheet_lines.specs.Readings.{Line, is_blank, too_long, no_command, is, reading}
 use Rattle.fields.specs.Texts.{bytes}
 use Rattle.sheet_printing.specs.Printed.{why_line, refusal_line}
 use Rattle.sheet_meaning.specs.Lines as prints

@@ -24,13 +24,17 @@ pub told : (p : Parsed) (x : Reading) → p.reading ≡ x → reading_of p ≡ l
 told p x e = ap (λ (y : Reading). line_of y (positives_in p) (negatives_in p)) e
 
 -- The numbers of the cases that are left of the reading where it is none of some.
-pub no_command-keys : (x : Reading) → ((c : Command) → x ≡ reading-of.Command c → ⊥) → OneOf (0 ∷ 1 ∷ 2 ∷ []) (tag_of T.the_type x)
+pub no_command-keys :
+    (x : Reading) → ((c : Command) → x ≡ reading-of.Command c → ⊥)
+    → OneOf (0 ∷ 1 ∷ 2 ∷ []) (tag_of T.the_type x)
 no_command-keys reading-of.Blank n = inl refl
 no_command-keys reading-of.LineTooLong n = inr (inl refl)
 no_command-keys reading-of.NotACommand n = inr (inr refl)
 no_command-keys (reading-of.Command c) n = absurd (n c refl)
 
-pub neither-keys : (x : Reading) → (x ≡ reading-of.Blank → ⊥) → (x ≡ reading-of.LineTooLong → ⊥) → OneOf (2 ∷ 3 ∷ []) (tag_of T.the_type x)
+pub neither-keys :
+    (x : Reading) → (x ≡ reading-of.Blank → ⊥) → (x ≡ reading-of.LineTooLong → ⊥)
+    → OneOf (2 ∷ 3 ∷ []) (tag_of T.the_type x)
 neither-keys reading-of.Blank b m = absurd (b refl)
 neither-keys reading-of.LineTooLong b m = absurd (m refl)
 neither-keys reading-of.NotACommand b m = inl refl

@@ -26,9 +26,9 @@ use Rattle.sheet_scanner.specs.declared.Judged.TheVariants as judged
 use Rattle.sheet_scanner.specs.declared.Found.{Found}
 use Rattle.sheet_scanner.specs.declared.Found.TheVariants as found
 use Rattle.sheet_scanner.specs.declared.Scanned.{Scanned}
-use Rattle.sheet_scanner.specs.Judging.{Answered, Judges}
-use Rattle.sheet_scanner.specs.Scans.{of_line, line_end, IsCommand, AtCommand, WhereFound, IfNothing}
-use Rattle.sheet_scanner.specs.Scans.{ScansFrom, Scans, ScansOne, ScansAll}
+use Rattle.sheet_scanner.specs.Judging.{Judges}
+use Rattle.sheet_scanner.specs.Scans.{of_line, line_end, IsCommand, WhereFound, IfNothing}
+use Rattle.sheet_scanner.specs.Scans.{Scans, ScansOne, ScansAll}
 use Rattle.sheet_scanner.proofs.Judging.{judged-told, judged-command}
 use Rattle.sheet_scanner.proofs.Reading.{reads-part, reads-line, at-end}
 

@@ -4,7 +4,6 @@ use mathlib.Core.Bool.{not}
 use Rattle.questions.proofs.Passes.{refused, granted}
 use Rattle.calls.specs.Ends as contract
 use Rattle.add_remove.proofs.Adding.{handed-back}
-use borrow.Author.Rules.{rules}
 use Rattle.add_remove.proofs.add.Goals as goal
 
 pub returns-then-not-sound : goal.returns-then-not-sound

@@ -4,10 +4,8 @@ use mathlib.Core.Path.{◌≡◌, sym, ◌∙◌, ap}
 use mathlib.Core.Bool.{true, false}
 use mathlib.Core.Option.{none}
 use Rattle.theory.specs.Rules.{all, any_rule, same}
-use Rattle.theory.specs.Rules as theory
 use Rattle.theory.specs.Questions.{first_no, rule_questions}
 use Rattle.theory.specs.Limits.{document}
-use Rattle.theory.proofs.Lists.{not-true, not-false}
 use Rattle.table.specs.Questions.{rule_from}
 use Rattle.questions.specs.Asked.{first_no_told}
 use Rattle.calls.specs.Ends.{held}
@@ -15,7 +13,6 @@ use Rattle.new_rule.proofs.Slots.{lowest-at, lowest-none}
 use Rattle.add_remove.proofs.Putting.{same-told}
 use Rattle.add_remove.proofs.Adding.{refused-early, refused-same, refused_full, refused-cycle, bounded-changed}
 use Rattle.add_remove.proofs.Adding.{add-ends, handed-back}
-use borrow.Author.Rules.{rules}
 use Rattle.add_remove.proofs.add_to_sound.Goals as goal
 
 pub returns-in-Refused : goal.returns-in-Refused

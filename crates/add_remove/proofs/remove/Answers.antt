@@ -3,7 +3,6 @@ use mathlib.Core.Path.{ap}
 use mathlib.Core.Bool.{not}
 use Rattle.questions.proofs.Passes.{refused, granted}
 use Rattle.calls.specs.Ends as contract
-use borrow.Author.Rules.{rules}
 use Rattle.add_remove.proofs.remove.Goals as goal
 
 pub returns-then-not-sound : goal.returns-then-not-sound

@@ -1,7 +1,6 @@
 -- `add_remove::remove_from_sound` ends as its contract says. Assumes nothing.
-use Rattle.calls.proofs.Asking.{PassesSlot, slot-passed, change-refused}
+use Rattle.calls.proofs.Asking.{slot-passed, change-refused}
 use Rattle.add_remove.proofs.Removing.{bounded-rest, remove-ends}
-use borrow.Author.Rules.{rules}
 use Rattle.add_remove.proofs.remove_from_sound.Goals as goal
 
 pub slot_asked-asked-requires : goal.slot_asked-asked-requires

@@ -1,6 +1,5 @@
 -- `c_answers::crossed_add` meets its contract. Assumes nothing.
 use Rattle.c_answers.proofs.Crosses.{add-taken, add-refused}
-use borrow.Author.Rules.{rules}
 use Rattle.c_answers.proofs.crossed_add.Goals as goal
 
 pub returns-in-Taken : goal.returns-in-Taken

@@ -1,6 +1,5 @@
 -- `c_answers::crossed_change` meets its contract. Assumes nothing.
 use Rattle.c_answers.proofs.Crosses.{change-accepted, change-refused}
-use borrow.Author.Rules.{rules}
 use Rattle.c_answers.proofs.crossed_change.Goals as goal
 
 pub returns-in-Accepted : goal.returns-in-Accepted

@@ -1,6 +1,5 @@
 -- `c_answers::crossed_complete` meets its contract. Assumes nothing.
 use Rattle.c_answers.proofs.Crosses.{complete-told, complete-refused}
-use borrow.Author.Rules.{rules}
 use Rattle.c_answers.proofs.crossed_complete.Goals as goal
 
 pub returns-in-Complete : goal.returns-in-Complete

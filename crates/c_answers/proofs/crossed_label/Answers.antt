@@ -1,6 +1,5 @@
 -- `c_answers::crossed_label` meets its contract. Assumes nothing.
 use Rattle.c_answers.proofs.Crosses.{label-told, label-refused}
-use borrow.Author.Rules.{rules}
 use Rattle.c_answers.proofs.crossed_label.Goals as goal
 
 pub returns-in-Absent : goal.returns-in-Absent

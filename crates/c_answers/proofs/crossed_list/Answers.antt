@@ -1,6 +1,5 @@
 -- `c_answers::crossed_list` meets its contract. Assumes nothing.
 use Rattle.c_answers.proofs.Crosses.{list-told, list-refused}
-use borrow.Author.Rules.{rules}
 use Rattle.c_answers.proofs.crossed_list.Goals as goal
 
 pub returns-in-Count : goal.returns-in-Count

@@ -1,6 +1,5 @@
 -- `c_answers::crossed_remove` meets its contract. Assumes nothing.
 use Rattle.c_answers.proofs.Crosses.{remove-accepted, remove-refused}
-use borrow.Author.Rules.{rules}
 use Rattle.c_answers.proofs.crossed_remove.Goals as goal
 
 pub returns-in-Accepted : goal.returns-in-Accepted

@@ -1,6 +1,5 @@
 -- `c_answers::crossed_rule` meets its contract. Assumes nothing.
 use Rattle.c_answers.proofs.Crosses.{rule_told, rule-refused}
-use borrow.Author.Rules.{rules}
 use Rattle.c_answers.proofs.crossed_rule.Goals as goal
 
 pub returns-in-Held : goal.returns-in-Held

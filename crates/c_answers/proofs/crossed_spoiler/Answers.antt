@@ -1,6 +1,5 @@
 -- `c_answers::crossed_spoiler` meets its contract. Assumes nothing.
 use Rattle.c_answers.proofs.Crosses.{spoiler-told, spoiler-refused}
-use borrow.Author.Rules.{rules}
 use Rattle.c_answers.proofs.crossed_spoiler.Goals as goal
 
 pub returns-in-Valid : goal.returns-in-Valid

@@ -1,6 +1,5 @@
 -- `c_answers::needed` meets its contract. Assumes nothing.
 use Rattle.c_answers.proofs.Crosses.{buffer-needed, none_needed}
-use borrow.Author.Rules.{rules}
 use Rattle.c_answers.proofs.needed.Goals as goal
 
 pub returns-in-BufferTooShort : goal.returns-in-BufferTooShort

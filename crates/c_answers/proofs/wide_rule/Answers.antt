@@ -1,6 +1,5 @@
 -- `c_answers::wide_rule` meets its contract. Assumes nothing.
 use Rattle.c_answers.proofs.Crosses.{wide-told}
-use borrow.Author.Rules.{rules}
 use Rattle.c_answers.proofs.wide_rule.Goals as goal
 
 pub returns : goal.returns

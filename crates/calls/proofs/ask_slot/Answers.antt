@@ -3,7 +3,6 @@ use mathlib.Core.Path.{ap}
 use mathlib.Core.Bool.{not}
 use Rattle.questions.proofs.Passes as sound
 use Rattle.calls.specs.Asking.{unsound}
-use borrow.Author.Rules.{rules}
 use Rattle.calls.proofs.ask_slot.Goals as goal
 
 pub returns-then-not-sound : goal.returns-then-not-sound

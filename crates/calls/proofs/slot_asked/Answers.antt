@@ -3,7 +3,6 @@ use Rattle.table.specs.Words.{table_of}
 use Rattle.refusals.specs.declared.Refusal.TheVariants.{SlotTooLarge, SlotFree}
 use Rattle.calls.specs.Asking.{refused, passed}
 use Rattle.calls.proofs.Asking.{slot-past, slot-empty, slot-yes}
-use borrow.Author.Rules.{rules}
 use Rattle.calls.proofs.slot_asked.Goals as goal
 
 pub returns-then-slot-ge-SLOTS : goal.returns-then-slot-ge-SLOTS

@@ -1,6 +1,5 @@
 -- `certificate::certified` meets its contract. Assumes nothing.
 use Rattle.certificate.proofs.Walk.{arrays-certify}
-use borrow.Author.Rules.{rules}
 use Rattle.certificate.proofs.certified.Goals as goal
 
 pub returns : goal.returns

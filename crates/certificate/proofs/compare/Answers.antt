@@ -1,9 +1,7 @@
 -- `certificate::compare` meets its contract. Assumes nothing.
 use mathlib.Core.Path.{sym, ◌∙◌}
-use Rattle.theory.proofs.Lists.{not-true, not-false}
 use Rattle.certificate.proofs.Comparing.{other-depth, other-spoiler, no-level, head-out, head_in}
 use Rattle.certificate.proofs.Walk.{head_of}
-use borrow.Author.Rules.{rules}
 use Rattle.certificate.proofs.compare.Goals as goal
 
 pub returns-then-depth-due : goal.returns-then-depth-due

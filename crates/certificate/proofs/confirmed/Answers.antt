@@ -4,13 +4,10 @@ use native.Mathlib.Omega.{arith}
 use mathlib.Core.Path.{refl}
 use mathlib.Core.Bool.{false}
 use Rattle.theory.specs.Limits.{document}
-use Rattle.theory.proofs.Lists.{not-true, not-false}
-use Rattle.table.specs.Sets.{member, number}
 use Rattle.table.specs.Rules.{book_of}
-use Rattle.table.specs.Words.{rules_of, depth_at, spoiler_at}
+use Rattle.table.specs.Words.{rules_of}
 use Rattle.table.proofs.Members.{all_alike}
-use Rattle.certificate.proofs.Walk.{Walked, walk-starts, walk-stops, walk-goes, walk_ends, compared_at, table-long}
-use borrow.Author.Rules.{rules}
+use Rattle.certificate.proofs.Walk.{walk-starts, walk-stops, walk-goes, walk_ends, compared_at, table-long}
 use Rattle.certificate.proofs.confirmed.Goals as goal
 
 pub loop-i-init : goal.loop-i-init

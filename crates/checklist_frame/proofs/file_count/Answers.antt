@@ -1,9 +1,7 @@
 -- `checklist_frame::file_count` finds the number of files of the checklist that the rules are. Assumes nothing.
-use Rattle.theory.proofs.Lists.{not-true, not-false}
 use Rattle.table.specs.Rules.{book_of}
 use Rattle.table.specs.Words.{rules_of}
 use Rattle.checklist_frame.proofs.Slots.{count_none, count-broken, count-whole}
-use borrow.Author.Rules.{rules}
 use Rattle.checklist_frame.proofs.file_count.Goals as goal
 
 pub returns-then-n-eq0 : goal.returns-then-n-eq0

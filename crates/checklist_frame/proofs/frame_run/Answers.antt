@@ -1,16 +1,15 @@
 -- `checklist_frame::frame_run` finds how far the frame stands. Assumes nothing.
-use Prim.Native.Nat.{ℕ, ◌+◌, ◌-◌, ◌≤◌}
+use Prim.Native.Nat.{ℕ, ◌+◌, ◌-◌}
 use native.Mathlib.Omega.{arith}
 use mathlib.Core.Path.{◌≡◌}
 use mathlib.Core.Option.{some}
-use Rattle.theory.proofs.Lists.{clash, not-true, not-false}
+use Rattle.theory.proofs.Lists.{clash}
 use Rattle.table.specs.declared.Rule.{Rule}
-use Rattle.table.specs.Rules.{active_in, active_of}
+use Rattle.table.specs.Rules.{active_in}
 use Rattle.table.specs.Words.{rules_of}
 use Rattle.table.proofs.Words.{told_of}
 use Rattle.checklist_frame.specs.Frame.{frame}
-use Rattle.checklist_frame.proofs.Slots.{Stands, no_start, one-start, one_more, run_ends, run-full}
-use borrow.Author.Rules.{rules}
+use Rattle.checklist_frame.proofs.Slots.{no_start, one-start, one_more, run_ends, run-full}
 use Rattle.checklist_frame.proofs.frame_run.Goals as goal
 
 -- The slot holds the frame's rule of file i.

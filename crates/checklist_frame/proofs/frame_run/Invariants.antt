@@ -1,14 +1,7 @@
-use Prim.Native.Nat.{ℕ, ◌+◌, ◌-◌, ◌≤◌}
-use native.Mathlib.Omega.{arith}
-use mathlib.Core.Path.{◌≡◌}
-use mathlib.Core.Option.{some}
-use Rattle.theory.proofs.Lists.{clash, not-true, not-false}
-use Rattle.table.specs.declared.Rule.{Rule}
-use Rattle.table.specs.Rules.{active_in, active_of}
+use Prim.Native.Nat.{◌-◌, ◌≤◌}
+use Rattle.table.specs.Rules.{active_of}
 use Rattle.table.specs.Words.{rules_of}
-use Rattle.table.proofs.Words.{told_of}
-use Rattle.checklist_frame.specs.Frame.{frame}
-use Rattle.checklist_frame.proofs.Slots.{Stands, no_start, one-start, one_more, run_ends, run-full}
+use Rattle.checklist_frame.proofs.Slots.{Stands}
 use Rattle.checklist_frame.proofs.frame_run.Given as goal
 
 abbrev pub invariant-loop-n : goal.invariant-loop-n

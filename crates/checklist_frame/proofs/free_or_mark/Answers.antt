@@ -1,9 +1,7 @@
 -- `checklist_frame::free_or_mark` tells whether the slot is free or holds the fact of a mark. Assumes nothing.
 use mathlib.Core.Path.{sym, ◌∙◌}
-use Rattle.theory.proofs.Lists.{not-true, not-false}
 use Rattle.theory.proofs.Lists.{is_not}
 use Rattle.checklist_frame.proofs.Slots.{told-yes, free-passes, no-mark, mark-told}
-use borrow.Author.Rules.{rules}
 use Rattle.checklist_frame.proofs.free_or_mark.Goals as goal
 
 pub returns-then-rule-eq0 : goal.returns-then-rule-eq0

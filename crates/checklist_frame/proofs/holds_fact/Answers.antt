@@ -1,12 +1,11 @@
 -- `checklist_frame::holds_fact` tells whether the slot holds the fact. Assumes nothing.
 use native.Mathlib.Omega.{arith}
 use mathlib.Core.Path.{◌≡◌}
-use lib.ListN.{length, length-map}
+use lib.ListN.{length}
 use Rattle.theory.specs.Limits.{document}
 use Rattle.theory.proofs.Lists.{is_not}
 use Rattle.checklist_frame.specs.Frame.{fact}
 use Rattle.checklist_frame.proofs.Slots.{head-held, positives-held, negatives-held, fact-held}
-use borrow.Author.Rules.{rules}
 use Rattle.checklist_frame.proofs.holds_fact.Goals as goal
 use Rattle.checklist_frame.proofs.holds_fact.Goals.{Start}
 

@@ -2,7 +2,7 @@
 use native.Mathlib.Omega.{arith}
 use mathlib.Core.Path.{◌≡◌, ◌∙◌, ap}
 use mathlib.Core.Option.{some}
-use lib.ListN.{length, length-map}
+use lib.ListN.{length}
 use Rattle.theory.specs.Limits.{document}
 use Rattle.theory.specs.Rules as theory
 use Rattle.table.proofs.Programs.{active-state}
@@ -10,7 +10,6 @@ use Rattle.theory.proofs.Lists.{is_not}
 use Rattle.checklist_frame.specs.Frame.{frame}
 use Rattle.checklist_frame.proofs.Slots.{head-held, positives-held, negatives-held}
 use Rattle.checklist_frame.proofs.Slots.{file_rule, frame-file, three-are, are-three, file-held, held-file}
-use borrow.Author.Rules.{rules}
 use Rattle.checklist_frame.proofs.holds_file.Goals as goal
 use Rattle.checklist_frame.proofs.holds_file.Goals.{Start}
 

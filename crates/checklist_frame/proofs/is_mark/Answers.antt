@@ -3,7 +3,6 @@ use native.Mathlib.Omega.{arith}
 use mathlib.Core.Path.{sym}
 use Rattle.theory.proofs.Lists.{unless}
 use Rattle.checklist_frame.proofs.Frames.{is_mark-numbers}
-use borrow.Author.Rules.{rules}
 use Rattle.checklist_frame.proofs.is_mark.Goals as goal
 
 pub returns-then-atom-n : goal.returns-then-atom-n

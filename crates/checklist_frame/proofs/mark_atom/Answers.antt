@@ -2,7 +2,6 @@
 use mathlib.Core.Path.{sym, ap}
 use Rattle.checklist_frame.specs.declared.Mark.{Mark}
 use Rattle.checklist_frame.specs.Parts.{mark_atom}
-use borrow.Author.Rules.{rules}
 use Rattle.checklist_frame.proofs.mark_atom.Goals as goal
 
 pub returns-in-Sent : goal.returns-in-Sent

@@ -1,15 +1,13 @@
 -- `checklist_frame::marks_behind` tells whether every slot behind the frame is free or holds a mark. Assumes nothing.
-use Prim.Native.Nat.{ℕ, ◌-◌, ◌≤◌, ◌<◌}
+use Prim.Native.Nat.{ℕ, ◌-◌}
 use native.Mathlib.Omega.{arith}
-use Rattle.theory.specs.Limits.{document}
-use Rattle.theory.proofs.Lists.{clash, not-true, not-false}
+use Rattle.theory.proofs.Lists.{clash}
 use Rattle.table.specs.declared.Rule.{Rule}
-use Rattle.table.specs.Rules.{book_of, page_of}
+use Rattle.table.specs.Rules.{page_of}
 use Rattle.table.specs.Words.{rules_of}
 use Rattle.table.proofs.Words.{rules-length, told_of}
 use Rattle.checklist_frame.specs.Parts.{FreeOrMark}
-use Rattle.checklist_frame.proofs.Slots.{MarksTo, marks-more, marks-stop, marks-all}
-use borrow.Author.Rules.{rules}
+use Rattle.checklist_frame.proofs.Slots.{marks-more, marks-stop, marks-all}
 use Rattle.checklist_frame.proofs.marks_behind.Goals as goal
 
 -- The slot is free, or holds the fact of a mark of one of n files.

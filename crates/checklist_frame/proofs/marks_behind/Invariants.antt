@@ -1,13 +1,8 @@
-use Prim.Native.Nat.{ℕ, ◌-◌, ◌≤◌, ◌<◌}
-use native.Mathlib.Omega.{arith}
+use Prim.Native.Nat.{◌-◌, ◌≤◌, ◌<◌}
 use Rattle.theory.specs.Limits.{document}
-use Rattle.theory.proofs.Lists.{clash, not-true, not-false}
-use Rattle.table.specs.declared.Rule.{Rule}
-use Rattle.table.specs.Rules.{book_of, page_of}
+use Rattle.table.specs.Rules.{book_of}
 use Rattle.table.specs.Words.{rules_of}
-use Rattle.table.proofs.Words.{rules-length, told_of}
-use Rattle.checklist_frame.specs.Parts.{FreeOrMark}
-use Rattle.checklist_frame.proofs.Slots.{MarksTo, marks-more, marks-stop, marks-all}
+use Rattle.checklist_frame.proofs.Slots.{MarksTo}
 use Rattle.checklist_frame.proofs.marks_behind.Given as goal
 
 abbrev pub invariant-loop-s : goal.invariant-loop-s

@@ -3,7 +3,6 @@ use native.Mathlib.Omega.{arith}
 use mathlib.Core.Path.{sym}
 use Rattle.theory.proofs.Lists.{unless}
 use Rattle.checklist_frame.proofs.Frames.{on-list-between, between-on-list}
-use borrow.Author.Rules.{rules}
 use Rattle.checklist_frame.proofs.on_list.Goals as goal
 
 pub returns-then-file-eq0 : goal.returns-then-file-eq0

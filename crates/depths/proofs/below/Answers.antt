@@ -2,16 +2,13 @@
 use Prim.Native.Nat.{◌-◌, ◌≤◌}
 use native.Mathlib.Omega.{arith}
 use mathlib.Core.Path.{◌≡◌, sym, ◌∙◌, ap}
-use lib.ListN.{length, get_or, length-map}
-use lib.Seq.{slice}
+use lib.ListN.{length, get_or}
 use Rattle.theory.specs.Lists.{every}
 use Rattle.table.specs.Sets.{number}
-use Rattle.table.specs.Rules.{numbers, rule_of, no_atom}
+use Rattle.table.specs.Rules.{no_atom}
 use Rattle.table.proofs.Entries.{every-over, every-next, every-stop, positives-are}
-use Rattle.depths.specs.Numbers.{within}
 use Rattle.depths.proofs.Slots.{within_of, within_none, within-high}
 use Rattle.theory.specs.Limits.{document}
-use borrow.Author.Rules.{rules}
 use Rattle.depths.proofs.below.Goals as goal
 use Rattle.depths.proofs.below.Goals.{At-loop-j, Start}
 

@@ -1,15 +1,12 @@
 -- `depths::depths` meets its contract: by what the rounds keep. Assumes nothing.
-use Prim.Native.Nat.{◌+◌, ◌-◌, ◌≤◌, ◌<◌}
+use Prim.Native.Nat.{◌-◌, ◌<◌}
 use native.Mathlib.Omega.{arith}
 use mathlib.Core.Path.{refl}
 use Rattle.theory.specs.Limits.{document}
-use Rattle.table.specs.Rules.{active_of}
-use Rattle.table.specs.Sets.{member}
 use Rattle.table.specs.Words.{rules_of}
-use Rattle.table.specs.Turns.{slot_at}
 use Rattle.table.proofs.Words.{rules-length}
 use Rattle.table.proofs.SlotsInTurn.{slot-at-below}
-use Rattle.depths.proofs.Relaxing.{Pass, Outer, read_at, rounds-start, pass-start, pass-next, round-end}
+use Rattle.depths.proofs.Relaxing.{read_at, rounds-start, pass-start, pass-next, round-end}
 use Rattle.depths.proofs.Relaxing.{rounds-few, rounds-end}
 use borrow.Author.Rules.{rules}
 use Rattle.depths.proofs.depths.Goals as goal

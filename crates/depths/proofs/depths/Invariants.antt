@@ -1,15 +1,10 @@
-use Prim.Native.Nat.{◌+◌, ◌-◌, ◌≤◌, ◌<◌}
-use native.Mathlib.Omega.{arith}
-use mathlib.Core.Path.{refl}
+use Prim.Native.Nat.{◌+◌, ◌-◌, ◌≤◌}
 use Rattle.theory.specs.Limits.{document}
 use Rattle.table.specs.Rules.{active_of}
 use Rattle.table.specs.Sets.{member}
 use Rattle.table.specs.Words.{rules_of}
 use Rattle.table.specs.Turns.{slot_at}
-use Rattle.table.proofs.Words.{rules-length}
-use Rattle.table.proofs.SlotsInTurn.{slot-at-below}
-use Rattle.depths.proofs.Relaxing.{Pass, Outer, read_at, rounds-start, pass-start, pass-next, round-end}
-use Rattle.depths.proofs.Relaxing.{rounds-few, rounds-end}
+use Rattle.depths.proofs.Relaxing.{Pass, Outer}
 use Rattle.depths.proofs.depths.Given as goal
 
 abbrev pub invariant-loop-i : goal.invariant-loop-i

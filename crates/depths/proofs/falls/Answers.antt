@@ -1,6 +1,5 @@
 -- `depths::falls` meets its contract. Assumes nothing.
 use Rattle.depths.proofs.Lowering.{falls-none, falls-by}
-use borrow.Author.Rules.{rules}
 use Rattle.depths.proofs.falls.Goals as goal
 
 pub returns-then-number-eq0 : goal.returns-then-number-eq0

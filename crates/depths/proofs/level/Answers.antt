@@ -1,11 +1,8 @@
 -- `depths::level` meets its contract. Assumes nothing.
 use Prim.Native.Nat.{◌-◌}
 use native.Mathlib.Omega.{arith}
-use lib.ListN.{length, length-map}
-use Rattle.theory.specs.Lists.{greatest}
-use Rattle.table.specs.Sets.{number}
-use Rattle.table.specs.Rules.{rule_of}
-use Rattle.depths.proofs.Greatest.{Walked, walked_start, walked_next, walked-over}
+use lib.ListN.{length}
+use Rattle.depths.proofs.Greatest.{walked_start, walked_next, walked-over}
 use mathlib.Core.Path.{◌≡◌}
 use borrow.Author.Rules.{rules}
 use Rattle.depths.proofs.level.Goals as goal

@@ -1,11 +1,8 @@
 use Prim.Native.Nat.{◌-◌}
-use native.Mathlib.Omega.{arith}
-use lib.ListN.{length, length-map}
 use Rattle.theory.specs.Lists.{greatest}
 use Rattle.table.specs.Sets.{number}
 use Rattle.table.specs.Rules.{rule_of}
-use Rattle.depths.proofs.Greatest.{Walked, walked_start, walked_next, walked-over}
-use mathlib.Core.Path.{◌≡◌}
+use Rattle.depths.proofs.Greatest.{Walked}
 use Rattle.depths.proofs.level.Given as goal
 
 abbrev pub invariant-loop-j : goal.invariant-loop-j

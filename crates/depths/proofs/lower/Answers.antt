@@ -1,9 +1,7 @@
 -- `depths::lower` meets its contract: test by test. Assumes nothing.
 use mathlib.Core.Path.{sym, ◌∙◌}
 use Rattle.theory.specs.Limits.{document}
-use Rattle.theory.proofs.Lists.{not-true, not-false}
 use Rattle.depths.proofs.Lowering.{lower-none, lower-unknown, lower_high, lower-same, lower-invalid, lower-new}
-use borrow.Author.Rules.{rules}
 use Rattle.depths.proofs.lower.Goals as goal
 
 pub returns-then-rule-ne1 : goal.returns-then-rule-ne1

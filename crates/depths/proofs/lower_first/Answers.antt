@@ -1,13 +1,8 @@
 -- `depths::lower_first` keeps what rounds have found, whatever slots the hint names. Assumes nothing.
-use Prim.Native.Nat.{◌-◌, ◌≤◌}
+use Prim.Native.Nat.{◌-◌}
 use native.Mathlib.Omega.{arith}
-use Rattle.theory.specs.Limits.{document}
-use Rattle.table.specs.Rules.{active_of}
-use Rattle.table.specs.Sets.{member}
 use Rattle.table.specs.Words.{rules_of}
-use Rattle.depths.specs.Passes.{Found}
 use Rattle.depths.proofs.Relaxing.{visit}
-use borrow.Author.Rules.{rules}
 use Rattle.depths.proofs.lower_first.Goals as goal
 
 pub loop-i-init : goal.loop-i-init

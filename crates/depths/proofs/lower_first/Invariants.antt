@@ -1,11 +1,9 @@
 use Prim.Native.Nat.{◌-◌, ◌≤◌}
-use native.Mathlib.Omega.{arith}
 use Rattle.theory.specs.Limits.{document}
 use Rattle.table.specs.Rules.{active_of}
 use Rattle.table.specs.Sets.{member}
 use Rattle.table.specs.Words.{rules_of}
 use Rattle.depths.specs.Passes.{Found}
-use Rattle.depths.proofs.Relaxing.{visit}
 use Rattle.depths.proofs.lower_first.Given as goal
 
 abbrev pub invariant-loop-i : goal.invariant-loop-i

@@ -1,7 +1,6 @@
 -- `dues::depth_due` meets its contract. Assumes nothing.
 use mathlib.Core.Path.{sym, ◌∙◌}
 use Rattle.dues.proofs.Laws.{deep-other, deep-again, deep-first}
-use borrow.Author.Rules.{rules}
 use Rattle.dues.proofs.depth_due.Goals as goal
 
 pub returns-then-depth-level : goal.returns-then-depth-level

@@ -3,7 +3,6 @@ use mathlib.Core.Path.{◌∙◌, ap}
 use Rattle.theory.specs.Labels.{place_over}
 use Rattle.table.specs.Rules.{rule_of}
 use Rattle.dues.proofs.Laws.{due-idle, due-spoilt, due-valid}
-use borrow.Author.Rules.{rules}
 use Rattle.dues.proofs.due_in.Goals as goal
 
 pub returns-then-rule-ne1 : goal.returns-then-rule-ne1

@@ -1,9 +1,8 @@
 -- `dues::place` meets its contract. Assumes nothing.
 use mathlib.Core.Path.{◌≡◌}
-use lib.ListN.{length, length-map}
+use lib.ListN.{length}
 use Rattle.theory.specs.Limits.{document}
 use Rattle.dues.proofs.Laws.{place-positive, place-negative}
-use borrow.Author.Rules.{rules}
 use Rattle.dues.proofs.place.Goals as goal
 
 pub returns-in-Positive : goal.returns-in-Positive

@@ -1,8 +1,7 @@
 -- `file_blocks::sums` meets its contract. The loop's invariant: a and b are the sums of the bytes passed. Assumes nothing.
-use Rattle.std.proofs.Common.{◌≡◌, ◌-◌, ◌≤◌, length, take, sym, refl, ap, ◌∙◌, ap₂, arith, take_all, rules}
+use Rattle.std.proofs.Common.{◌-◌, ap, ◌∙◌, arith, take_all, rules}
 use Rattle.file_blocks.specs.Sums.{sum_a, sum_b}
 use Rattle.file_blocks.proofs.Remainders.{sums-start, sums_next}
-use borrow.Author.Rules.{rules}
 use Rattle.file_blocks.proofs.sums.Goals as goal
 
 pub loop-i-init : goal.loop-i-init

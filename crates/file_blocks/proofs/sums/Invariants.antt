@@ -1,6 +1,5 @@
-use Rattle.std.proofs.Common.{◌≡◌, ◌-◌, ◌≤◌, length, take, sym, refl, ap, ◌∙◌, ap₂, arith, take_all, rules}
+use Rattle.std.proofs.Common.{◌≡◌, ◌-◌, ◌≤◌, length, take}
 use Rattle.file_blocks.specs.Sums.{sum_a, sum_b}
-use Rattle.file_blocks.proofs.Remainders.{sums-start, sums_next}
 use Rattle.file_blocks.proofs.sums.Given as goal
 
 abbrev pub invariant-loop-i : goal.invariant-loop-i

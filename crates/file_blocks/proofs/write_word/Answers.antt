@@ -1,7 +1,6 @@
 -- `file_blocks::write_word` meets its contract. Assumes nothing.
-use Rattle.std.proofs.Common.{refl, arith, length-set, rules}
+use Rattle.std.proofs.Common.{refl, length-set, rules}
 use Rattle.file_blocks.proofs.Words.{two-sets-put}
-use borrow.Author.Rules.{rules}
 use Rattle.file_blocks.proofs.write_word.Goals as goal
 
 pub bounds-out-at-2 : goal.bounds-out-at-2

@@ -1,14 +1,13 @@
 -- `file_records::held_slots` meets its contract. The loop keeps: the slots passed that hold rules are noted. Assumes nothing.
-use Prim.Native.Nat.{min, ◌-◌, ◌≤◌}
+use Prim.Native.Nat.{min, ◌-◌}
 use native.Mathlib.Omega.{arith}
 use mathlib.Core.Path.{◌∙◌, ap}
-use Rattle.theory.specs.Limits.{document}
 use Rattle.table.specs.declared.Rule.{Rule}
 use Rattle.table.specs.Rules.{book_of}
 use Rattle.table.specs.Words.{rules_of}
 use Rattle.table.proofs.Programs.{book-length}
 use Rattle.table.proofs.Words.{rules-length}
-use Rattle.file_records.proofs.Held.{Noting, note-start, note-next, note-over}
+use Rattle.file_records.proofs.Held.{note-start, note-next, note-over}
 use borrow.Author.Rules.{rules}
 use Rattle.file_records.proofs.held_slots.Goals as goal
 

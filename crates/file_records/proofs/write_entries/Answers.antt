@@ -1,12 +1,10 @@
 -- `file_records::write_entries` meets its contract. The loop keeps: the entries passed are written. Assumes nothing.
-use Prim.Native.Nat.{◌+◌, ◌-◌, ◌*◌, ◌≤◌}
+use Prim.Native.Nat.{◌-◌}
 use native.Mathlib.Omega.{arith}
 use mathlib.Core.Path.{◌≡◌}
-use lib.ListN.{length, take}
+use lib.ListN.{length}
 use lib.Seq.{take_all}
 use Rattle.theory.specs.Limits.{document}
-use Rattle.table.specs.Rules.{numbers}
-use Rattle.fields.specs.Written.{Wrote}
 use Rattle.fields.proofs.Wrote.{wrote_nothing, wrote-length, wrote-to}
 use Rattle.file_blocks.specs.Words.{words}
 use Rattle.file_records.proofs.Records.{wrote-next-entry}

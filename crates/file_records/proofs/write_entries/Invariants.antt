@@ -1,14 +1,9 @@
 use Prim.Native.Nat.{◌+◌, ◌-◌, ◌*◌, ◌≤◌}
-use native.Mathlib.Omega.{arith}
-use mathlib.Core.Path.{◌≡◌}
-use lib.ListN.{length, take}
-use lib.Seq.{take_all}
+use lib.ListN.{take}
 use Rattle.theory.specs.Limits.{document}
 use Rattle.table.specs.Rules.{numbers}
 use Rattle.fields.specs.Written.{Wrote}
-use Rattle.fields.proofs.Wrote.{wrote_nothing, wrote-length, wrote-to}
 use Rattle.file_blocks.specs.Words.{words}
-use Rattle.file_records.proofs.Records.{wrote-next-entry}
 use Rattle.file_records.proofs.write_entries.Given as goal
 
 abbrev pub invariant-loop-j : goal.invariant-loop-j

@@ -1,11 +1,10 @@
 -- `file_records::write_record` meets its contract. Assumes nothing.
 use native.Mathlib.Omega.{arith}
 use mathlib.Core.Path.{◌≡◌}
-use lib.ListN.{length, length-map, length-set}
+use lib.ListN.{length, length-set}
 use Rattle.theory.specs.Limits.{document}
 use Rattle.fields.proofs.Wrote.{wrote-length, wrote-to}
 use Rattle.file_records.proofs.Records.{wrote-record}
-use borrow.Author.Rules.{rules}
 use Rattle.file_records.proofs.write_record.Goals as goal
 
 pub write_word-requires : goal.write_word-requires

@@ -1,5 +1,5 @@
 -- `file_records::write_records` meets its contract. The loop keeps: the records passed are written. Assumes nothing.
-use Prim.Native.Nat.{◌+◌, ◌-◌, ◌*◌, ◌≤◌, ◌<◌}
+use Prim.Native.Nat.{◌+◌, ◌-◌, ◌<◌}
 use native.Mathlib.Omega.{arith}
 use mathlib.Core.Path.{◌≡◌, sym, subst}
 use lib.ListN.{get_or}
@@ -7,14 +7,10 @@ use Rattle.theory.specs.Limits.{document}
 use Rattle.table.specs.Words.{rules_of}
 use Rattle.table.specs.Clean.{CleanRule}
 use Rattle.table.proofs.Words.{rules-length}
-use Rattle.fields.specs.Written.{Wrote}
 use Rattle.fields.proofs.Wrote.{wrote-length}
-use Rattle.file_blocks.specs.Files.{PLACE}
 use Rattle.file_records.proofs.Held.{slot-below}
 use Rattle.file_records.specs.Held.{slot}
-use Rattle.file_records.specs.Bytes.{records_bytes}
 use Rattle.file_records.proofs.Records.{wrote-no-record, wrote-next-record}
-use borrow.Author.Rules.{rules}
 use Rattle.file_records.proofs.write_records.Goals as goal
 use Rattle.file_records.proofs.write_records.Goals.{In-loop-k}
 

@@ -1,18 +1,8 @@
-use Prim.Native.Nat.{◌+◌, ◌-◌, ◌*◌, ◌≤◌, ◌<◌}
-use native.Mathlib.Omega.{arith}
-use mathlib.Core.Path.{◌≡◌, sym, subst}
-use lib.ListN.{get_or}
-use Rattle.theory.specs.Limits.{document}
+use Prim.Native.Nat.{◌+◌, ◌-◌, ◌*◌, ◌≤◌}
 use Rattle.table.specs.Words.{rules_of}
-use Rattle.table.specs.Clean.{CleanRule}
-use Rattle.table.proofs.Words.{rules-length}
 use Rattle.fields.specs.Written.{Wrote}
-use Rattle.fields.proofs.Wrote.{wrote-length}
 use Rattle.file_blocks.specs.Files.{PLACE}
-use Rattle.file_records.proofs.Held.{slot-below}
-use Rattle.file_records.specs.Held.{slot}
 use Rattle.file_records.specs.Bytes.{records_bytes}
-use Rattle.file_records.proofs.Records.{wrote-no-record, wrote-next-record}
 use Rattle.file_records.proofs.write_records.Given as goal
 
 abbrev pub invariant-loop-k : goal.invariant-loop-k

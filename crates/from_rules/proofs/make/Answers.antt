@@ -2,7 +2,6 @@
 use mathlib.Core.Path.{ap}
 use mathlib.Core.Bool.{not}
 use Rattle.from_rules.proofs.Making.{made-twice, made-bounded, made-relabelled}
-use borrow.Author.Rules.{rules}
 use Rattle.from_rules.proofs.make.Goals as goal
 
 pub returns-then-not-no_two_equal : goal.returns-then-not-no_two_equal

@@ -2,7 +2,6 @@
 use Prim.Native.Nat.{◌+◌}
 use native.Mathlib.Omega.{arith}
 use Rattle.history_words.specs.Reading.{cut, whole}
-use borrow.Author.Rules.{rules}
 use Rattle.history_words.proofs.find_rule.Goals as goal
 
 pub returns-then-at-n : goal.returns-then-at-n

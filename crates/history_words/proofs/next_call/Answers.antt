@@ -5,7 +5,6 @@ use Rattle.theory.specs.Book.{add, replace}
 use Rattle.history_words.proofs.Reading.{by_kind, end_short, reads-removal, reads-no-rule, reads-rule}
 use Rattle.history_words.proofs.Reading.{reads-kind}
 use Rattle.history_words.proofs.Reading.{reads-checklist}
-use borrow.Author.Rules.{rules}
 use Rattle.history_words.proofs.next_call.Goals as goal
 
 pub returns-then-at-n : goal.returns-then-at-n

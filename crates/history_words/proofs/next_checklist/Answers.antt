@@ -1,7 +1,6 @@
 -- `history_words::next_checklist` meets its contract. Assumes nothing.
 use native.Mathlib.Omega.{arith}
 use Rattle.history_words.specs.Reading.{below, above, among}
-use borrow.Author.Rules.{rules}
 use Rattle.history_words.proofs.next_checklist.Goals as goal
 
 pub returns-then-kind-lt3 : goal.returns-then-kind-lt3

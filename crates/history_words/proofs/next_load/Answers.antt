@@ -2,7 +2,6 @@
 use Prim.Native.Nat.{◌+◌}
 use native.Mathlib.Omega.{arith}
 use Rattle.history_words.proofs.Reading.{load-short, load-backward, load_past, reads_load}
-use borrow.Author.Rules.{rules}
 use Rattle.history_words.proofs.next_load.Goals as goal
 
 pub returns-then-at-n : goal.returns-then-at-n

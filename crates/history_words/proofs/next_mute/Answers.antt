@@ -1,7 +1,6 @@
 -- `history_words::next_mute` meets its contract. Assumes nothing.
 use native.Mathlib.Omega.{arith}
 use Rattle.history_words.proofs.Reading.{mute-short, reads-mute}
-use borrow.Author.Rules.{rules}
 use Rattle.history_words.proofs.next_mute.Goals as goal
 
 pub returns-then-at-n : goal.returns-then-at-n

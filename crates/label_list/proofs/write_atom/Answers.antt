@@ -1,10 +1,8 @@
 -- `label_list::write_atom` meets its contract. Assumes nothing.
 use mathlib.Core.Path.{sym, ◌∙◌, ap}
 use mathlib.Core.Bool.{Bool, cond}
-use Rattle.theory.proofs.Lists.{not-true, not-false}
 use Rattle.table.specs.Sets.{member, number}
 use Rattle.label_list.proofs.Writing.{atom-passed, atom-written}
-use borrow.Author.Rules.{rules}
 use Rattle.label_list.proofs.write_atom.Goals as goal
 
 pub returns-then-not-has : goal.returns-then-not-has

@@ -1,9 +1,7 @@
 -- `label_list::write_atoms` meets its contract. The loop keeps: what was found of the atoms below i was written.
 -- Assumes nothing.
-use Prim.Native.Nat.{◌-◌, ◌≤◌}
 use native.Mathlib.Omega.{arith}
 use mathlib.Core.Path.{◌≡◌, ◌∙◌, subst}
-use lib.ListN.{length}
 use Rattle.theory.specs.Limits.{document}
 use Rattle.table.specs.Sets.{member, number}
 use Rattle.written_lists.specs.Written.{Appends}

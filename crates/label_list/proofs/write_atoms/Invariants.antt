@@ -1,13 +1,11 @@
 use Prim.Native.Nat.{◌-◌, ◌≤◌}
-use native.Mathlib.Omega.{arith}
-use mathlib.Core.Path.{◌≡◌, ◌∙◌, subst}
+use mathlib.Core.Path.{◌≡◌}
 use lib.ListN.{length}
 use Rattle.theory.specs.Limits.{document}
 use Rattle.table.specs.Sets.{member, number}
 use Rattle.written_lists.specs.Written.{Appends}
 use Rattle.label_list.specs.Listed.{up_to}
 use Rattle.label_list.specs.Found.{found_numbers}
-use Rattle.label_list.proofs.Writing.{atoms-room, up_start, up-written}
 use Rattle.label_list.proofs.write_atoms.Given as goal
 
 abbrev pub invariant-loop-i : goal.invariant-loop-i

@@ -1,6 +1,5 @@
 -- `label_list::write_four` meets its contract. Assumes nothing.
 use Rattle.label_list.proofs.Writing.{four-written}
-use borrow.Author.Rules.{rules}
 use Rattle.label_list.proofs.write_four.Goals as goal
 
 pub returns : goal.returns

@@ -1,12 +1,11 @@
 -- `labels::keep_dues` writes what is due into each slot, from the lowest on. Assumes nothing.
-use Prim.Native.Nat.{◌-◌, ◌≤◌}
+use Prim.Native.Nat.{◌-◌}
 use native.Mathlib.Omega.{arith}
 use mathlib.Core.Path.{◌≡◌, subst}
 use Rattle.theory.specs.Limits.{document}
 use Rattle.table.specs.Sets.{member, number}
 use Rattle.labels.specs.Keeping.{KeptBelow}
-use Rattle.labels.proofs.Keeping.{Walked, walked_start, walked_next}
-use borrow.Author.Rules.{rules}
+use Rattle.labels.proofs.Keeping.{walked_start, walked_next}
 use Rattle.labels.proofs.keep_dues.Goals as goal
 
 pub loop-i-init : goal.loop-i-init

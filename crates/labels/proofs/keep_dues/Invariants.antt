@@ -1,10 +1,7 @@
 use Prim.Native.Nat.{◌-◌, ◌≤◌}
-use native.Mathlib.Omega.{arith}
-use mathlib.Core.Path.{◌≡◌, subst}
 use Rattle.theory.specs.Limits.{document}
 use Rattle.table.specs.Sets.{member, number}
-use Rattle.labels.specs.Keeping.{KeptBelow}
-use Rattle.labels.proofs.Keeping.{Walked, walked_start, walked_next}
+use Rattle.labels.proofs.Keeping.{Walked}
 use Rattle.labels.proofs.keep_dues.Given as goal
 
 abbrev pub invariant-loop-i : goal.invariant-loop-i

@@ -1,6 +1,4 @@
 -- `labels::relabel` finds what the slots have to keep, and they keep it; or it tells a negative cycle. Assumes nothing.
-use mathlib.Core.Path.{ap}
-use mathlib.Core.Bool.{not}
 use Rattle.theory.proofs.Lists.{not-true, not-false}
 use Rattle.theory.proofs.Pages.{active-bounded}
 use Rattle.table.specs.Rules.{book_of}

@@ -4,7 +4,6 @@ use mathlib.Core.Logic.{⊎_elim}
 use Rattle.theory.proofs.Lists.{test}
 use Rattle.theory.proofs.Strata.{strata-acyclic, exact-strata}
 use Rattle.loops.proofs.Descent.{descending-acyclic}
-use borrow.Author.Rules.{rules}
 use Rattle.loops.proofs.acyclic.Goals as goal
 
 pub returns-then-without_negation : goal.returns-then-without_negation

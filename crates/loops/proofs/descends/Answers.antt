@@ -1,20 +1,16 @@
 -- `loops::descends` meets its contract. Assumes nothing.
 use mathlib.Core.Path.{ap}
 use mathlib.Core.Bool.{not}
-use Prim.Native.Nat.{ℕ, ◌<◌, ◌-◌}
+use Prim.Native.Nat.{◌-◌}
 use native.Mathlib.Omega.{arith}
-use mathlib.Core.Option.{none}
-use lib.ListN.{get_or}
 use borrow.Author.Count.{below_more}
-use Rattle.theory.specs.Limits.{document}
 use Rattle.table.specs.Sets.{number}
-use Rattle.table.specs.Rules.{slot_of, program_of, past_rule}
+use Rattle.table.specs.Rules.{slot_of}
 use Rattle.questions.proofs.Passes.{refused, granted}
 use Rattle.table.specs.Words.{rules_of}
 use Rattle.loops.specs.Descent.{DescendsAt}
 use Rattle.table.proofs.Words.{told_of, rules-length}
 use Rattle.loops.proofs.Descent.{atoms-of, pass-stops, pass-ends}
-use borrow.Author.Rules.{rules}
 use Rattle.loops.proofs.descends.Goals as goal
 
 pub loop-i-init : goal.loop-i-init

@@ -1,7 +1,6 @@
 -- `loops::rule_descends` meets its contract. Assumes nothing.
 use mathlib.Core.Bool.{true}
 use Rattle.loops.proofs.Descent.{free-descends, entries-of, head_of, descent}
-use borrow.Author.Rules.{rules}
 use Rattle.loops.proofs.rule_descends.Goals as goal
 
 pub returns-then-rule-eq0 : goal.returns-then-rule-eq0

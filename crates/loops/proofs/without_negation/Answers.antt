@@ -1,17 +1,14 @@
 -- `loops::without_negation` meets its contract. Assumes nothing.
-use Prim.Native.Nat.{ℕ, ◌<◌, ◌-◌}
+use Prim.Native.Nat.{◌-◌}
 use native.Mathlib.Omega.{arith}
-use mathlib.Core.Path.{refl, sym, subst}
+use mathlib.Core.Path.{sym, subst}
 use mathlib.Core.Bool.{true≢false}
-use lib.ListN.{get_or}
 use borrow.Author.Count.{below_more}
-use Rattle.theory.specs.Limits.{document}
-use Rattle.table.specs.Rules.{slot_of, past_rule}
+use Rattle.table.specs.Rules.{slot_of}
 use Rattle.table.specs.Words.{rules_of}
 use Rattle.table.proofs.Words.{rules-length}
 use Rattle.loops.specs.Descent.{DescendsAt}
 use Rattle.loops.proofs.Descent.{positive-descends, pass-ends}
-use borrow.Author.Rules.{rules}
 use Rattle.loops.proofs.without_negation.Goals as goal
 
 pub loop-slot-init : goal.loop-slot-init

@@ -1,15 +1,9 @@
 use Prim.Native.Nat.{ℕ, ◌<◌, ◌-◌}
-use native.Mathlib.Omega.{arith}
-use mathlib.Core.Path.{refl, sym, subst}
-use mathlib.Core.Bool.{true≢false}
 use lib.ListN.{get_or}
-use borrow.Author.Count.{below_more}
 use Rattle.theory.specs.Limits.{document}
 use Rattle.table.specs.Rules.{slot_of, past_rule}
 use Rattle.table.specs.Words.{rules_of}
-use Rattle.table.proofs.Words.{rules-length}
 use Rattle.loops.specs.Descent.{DescendsAt}
-use Rattle.loops.proofs.Descent.{positive-descends, pass-ends}
 use Rattle.loops.proofs.without_negation.Given as goal
 
 abbrev pub invariant-loop-slot : goal.invariant-loop-slot

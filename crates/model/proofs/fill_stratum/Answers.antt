@@ -1,19 +1,16 @@
 -- `model::fill_stratum` makes the rounds of the layer. Assumes nothing.
 -- Inside a round: what is left of it gives the whole round. Between rounds: what is left of them gives all. Each round
 -- that adds brings in the head of one more rule, so that the rounds end.
-use Rattle.std.proofs.Common.{◌≡◌, suc, ◌-◌, ◌≤◌, length, sym, refl, ◌∙◌, arith, rules}
+use Rattle.std.proofs.Common.{◌≡◌, ◌-◌, length, sym, refl, ◌∙◌, arith, rules}
 use Rattle.theory.specs.Limits.{document}
-use Rattle.theory.proofs.Lists.{not-true, not-false}
 use Rattle.theory.proofs.Found.{found-filled}
-use Rattle.table.specs.Rules.{active_of}
 use Rattle.table.specs.Words.{rules_of}
 use Rattle.table.specs.Sets.{member, number}
 use Rattle.table.proofs.Words.{rules-length}
-use Rattle.model.proofs.Visits.{Left, left-start, left-idle, left-stop, left-add, left-rest, waits-sought}
-use Rattle.model.proofs.Visits.{NoneFrom, Seen, seen_start, seen-over, seen_here, seen-mark, seen_end}
-use Rattle.model.proofs.Rounds.{Going, going_start, going-few, room_of, head-below}
+use Rattle.model.proofs.Visits.{left-start, left-idle, left-stop, left-add, left-rest, waits-sought}
+use Rattle.model.proofs.Visits.{seen_start, seen-over, seen_here, seen-mark, seen_end}
+use Rattle.model.proofs.Rounds.{going_start, going-few, room_of, head-below}
 use Rattle.model.proofs.Rounds.{strata-given, stratum-next, stratum-end}
-use borrow.Author.Rules.{rules}
 use Rattle.model.proofs.fill_stratum.Goals as goal
 
 pub loop-end-init : goal.loop-end-init

@@ -1,15 +1,11 @@
-use Rattle.std.proofs.Common.{◌≡◌, suc, ◌-◌, ◌≤◌, length, sym, refl, ◌∙◌, arith, rules}
+use Rattle.std.proofs.Common.{◌≡◌, suc, ◌-◌, ◌≤◌, length}
 use Rattle.theory.specs.Limits.{document}
-use Rattle.theory.proofs.Lists.{not-true, not-false}
-use Rattle.theory.proofs.Found.{found-filled}
 use Rattle.table.specs.Rules.{active_of}
 use Rattle.table.specs.Words.{rules_of}
 use Rattle.table.specs.Sets.{member, number}
-use Rattle.table.proofs.Words.{rules-length}
-use Rattle.model.proofs.Visits.{Left, left-start, left-idle, left-stop, left-add, left-rest, waits-sought}
-use Rattle.model.proofs.Visits.{NoneFrom, Seen, seen_start, seen-over, seen_here, seen-mark, seen_end}
-use Rattle.model.proofs.Rounds.{Going, going_start, going-few, room_of, head-below}
-use Rattle.model.proofs.Rounds.{strata-given, stratum-next, stratum-end}
+use Rattle.model.proofs.Visits.{Left}
+use Rattle.model.proofs.Visits.{NoneFrom, Seen}
+use Rattle.model.proofs.Rounds.{Going}
 use Rattle.model.proofs.fill_stratum.Given as goal
 
 abbrev pub invariant-loop-i : goal.invariant-loop-i

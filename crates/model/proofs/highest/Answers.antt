@@ -1,8 +1,6 @@
 -- `model::highest` answers the highest number of the places passed, and so of all. Assumes nothing.
-use Rattle.std.proofs.Common.{◌-◌, ◌≤◌, arith, rules}
-use Rattle.theory.specs.Limits.{document}
-use Rattle.model.proofs.Top.{HighestBelow, highest-start, highest-next, highest-end}
-use borrow.Author.Rules.{rules}
+use Rattle.std.proofs.Common.{◌-◌, arith, rules}
+use Rattle.model.proofs.Top.{highest-start, highest-next, highest-end}
 use Rattle.model.proofs.highest.Goals as goal
 
 pub loop-i-init : goal.loop-i-init

@@ -1,6 +1,6 @@
-use Rattle.std.proofs.Common.{◌-◌, ◌≤◌, arith, rules}
+use Rattle.std.proofs.Common.{◌-◌, ◌≤◌}
 use Rattle.theory.specs.Limits.{document}
-use Rattle.model.proofs.Top.{HighestBelow, highest-start, highest-next, highest-end}
+use Rattle.model.proofs.Top.{HighestBelow}
 use Rattle.model.proofs.highest.Given as goal
 
 abbrev pub invariant-loop-i : goal.invariant-loop-i

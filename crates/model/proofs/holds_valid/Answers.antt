@@ -1,7 +1,6 @@
 -- `model::holds_valid` answers whether a slot holds a valid rule. Assumes nothing.
 use Rattle.std.proofs.Common.{◌∙◌}
 use Rattle.model.proofs.Visits.{none-valid, rule-decides}
-use borrow.Author.Rules.{rules}
 use Rattle.model.proofs.holds_valid.Goals as goal
 
 pub returns-then-rule-ne1 : goal.returns-then-rule-ne1

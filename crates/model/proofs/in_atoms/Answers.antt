@@ -2,12 +2,9 @@
 -- Before layer k all layers below it have ended; above the highest there are no heads.
 use Rattle.std.proofs.Common.{suc, ◌-◌, ◌<◌, refl, arith, rules}
 use Rattle.theory.specs.Limits.{document}
-use Rattle.table.specs.Rules.{book_of}
 use Rattle.table.specs.Words.{rules_of}
-use Rattle.table.specs.Sets.{number}
 use Rattle.table.proofs.Words.{rules-length}
-use Rattle.model.proofs.Rounds.{Between, between_start, between_next, between-end, stratum-room}
-use borrow.Author.Rules.{rules}
+use Rattle.model.proofs.Rounds.{between_start, between_next, between-end, stratum-room}
 use Rattle.model.proofs.in_atoms.Goals as goal
 use Rattle.model.proofs.in_atoms.Goals.{After-fill_stratum-n}
 

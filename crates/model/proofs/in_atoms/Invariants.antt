@@ -1,10 +1,8 @@
-use Rattle.std.proofs.Common.{suc, ◌-◌, ◌<◌, refl, arith, rules}
-use Rattle.theory.specs.Limits.{document}
+use Rattle.std.proofs.Common.{◌-◌}
 use Rattle.table.specs.Rules.{book_of}
 use Rattle.table.specs.Words.{rules_of}
 use Rattle.table.specs.Sets.{number}
-use Rattle.table.proofs.Words.{rules-length}
-use Rattle.model.proofs.Rounds.{Between, between_start, between_next, between-end, stratum-room}
+use Rattle.model.proofs.Rounds.{Between}
 use Rattle.model.proofs.in_atoms.Given as goal
 
 abbrev pub invariant-loop-k : goal.invariant-loop-k

@@ -1,7 +1,6 @@
 -- `model::sought` answers whether an atom is sought. Assumes nothing.
 use Rattle.std.proofs.Common.{not, sym, ap, ◌∙◌}
 use Rattle.model.proofs.Visits.{sought-other, sought-here}
-use borrow.Author.Rules.{rules}
 use Rattle.model.proofs.sought.Goals as goal
 
 pub returns-then-number_of-k : goal.returns-then-number_of-k

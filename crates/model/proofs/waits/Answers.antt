@@ -1,7 +1,6 @@
 -- `model::waits` meets its contract. Assumes nothing.
 use Rattle.std.proofs.Common.{◌∙◌}
 use Rattle.model.proofs.Visits.{waits-idle, waits-unmuted}
-use borrow.Author.Rules.{rules}
 use Rattle.model.proofs.waits.Goals as goal
 
 pub returns-then-state-ne1 : goal.returns-then-state-ne1

@@ -1,7 +1,6 @@
 -- `muting::mute` ends as its contract says: question 15 first. Assumes nothing.
-use Rattle.theory.proofs.Lists.{clash, not-true, not-false}
+use Rattle.theory.proofs.Lists.{clash}
 use Rattle.calls.specs.Ends as contract
-use borrow.Author.Rules.{rules}
 use Rattle.muting.proofs.mute.Goals as goal
 
 pub returns-then-not-sound : goal.returns-then-not-sound

@@ -1,7 +1,6 @@
 -- `muting::mute_in_sound` ends as its contract says. Assumes nothing.
-use Rattle.calls.proofs.Asking.{PassesSlot, slot-passed, change-refused}
+use Rattle.calls.proofs.Asking.{slot-passed, change-refused}
 use Rattle.muting.proofs.Ends.{bounded-after-mark, muted-ends}
-use borrow.Author.Rules.{rules}
 use Rattle.muting.proofs.mute_in_sound.Goals as goal
 
 pub slot_asked-asked-requires : goal.slot_asked-asked-requires

@@ -1,6 +1,5 @@
 -- `muting::with_mark` meets its contract. Assumes nothing.
 use Rattle.muting.proofs.Ends.{mark_on, mark-off}
-use borrow.Author.Rules.{rules}
 use Rattle.muting.proofs.with_mark.Goals as goal
 
 pub returns-then-muted : goal.returns-then-muted

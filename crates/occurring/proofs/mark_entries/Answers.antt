@@ -1,14 +1,11 @@
 -- `occurring::mark_entries` meets its contract. Assumes nothing.
 use Rattle.theory.specs.Limits.{document}
 use native.Mathlib.Omega.{arith}
-use Prim.Native.Nat.{◌-◌, ◌≤◌}
+use Prim.Native.Nat.{◌-◌}
 use mathlib.Core.Path.{◌≡◌, ◌∙◌}
-use lib.ListN.{length, take, length-map}
-use Rattle.table.specs.Rules.{numbers}
+use lib.ListN.{length}
 use Rattle.table.proofs.Entries.{entries-are}
-use Rattle.occurring.specs.Marks.{Marked}
 use Rattle.occurring.proofs.Marks.{marked-none, front-next}
-use borrow.Author.Rules.{rules}
 use Rattle.occurring.proofs.mark_entries.Goals as goal
 use Rattle.occurring.proofs.mark_entries.Goals.{Start}
 

@@ -1,12 +1,7 @@
-use Rattle.theory.specs.Limits.{document}
-use native.Mathlib.Omega.{arith}
 use Prim.Native.Nat.{◌-◌, ◌≤◌}
-use mathlib.Core.Path.{◌≡◌, ◌∙◌}
-use lib.ListN.{length, take, length-map}
+use lib.ListN.{take}
 use Rattle.table.specs.Rules.{numbers}
-use Rattle.table.proofs.Entries.{entries-are}
 use Rattle.occurring.specs.Marks.{Marked}
-use Rattle.occurring.proofs.Marks.{marked-none, front-next}
 use Rattle.occurring.proofs.mark_entries.Given as goal
 
 abbrev pub invariant-loop-j : goal.invariant-loop-j

@@ -1,6 +1,5 @@
 -- `occurring::mark_rule` meets its contract. Assumes nothing.
 use Rattle.occurring.proofs.Marks.{marked-free, marked-held}
-use borrow.Author.Rules.{rules}
 use Rattle.occurring.proofs.mark_rule.Goals as goal
 
 pub returns-then-rule-eq0 : goal.returns-then-rule-eq0

@@ -1,14 +1,12 @@
 -- `occurring::occurring` meets its contract. Assumes nothing.
-use Prim.Native.Nat.{◌-◌, ◌≤◌}
+use Prim.Native.Nat.{◌-◌}
 use native.Mathlib.Omega.{arith}
 use mathlib.Core.Path.{sym, ◌∙◌, ap}
-use Rattle.theory.specs.Limits.{document}
-use Rattle.table.specs.Rules.{program_of, slot_of}
+use Rattle.table.specs.Rules.{slot_of}
 use Rattle.table.specs.Words.{rules_of}
-use Rattle.occurring.proofs.Marks.{Marking, marking-start, marking-next, marking-end}
+use Rattle.occurring.proofs.Marks.{marking-start, marking-next, marking-end}
 use Rattle.table.proofs.Programs.{program-at, program-length}
 use Rattle.table.proofs.Words.{rules-length}
-use borrow.Author.Rules.{rules}
 use Rattle.occurring.proofs.occurring.Goals as goal
 
 pub loop-i-init : goal.loop-i-init

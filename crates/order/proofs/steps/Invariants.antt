@@ -1,4 +1,3 @@
-use Rattle.std.proofs.Common.{rules}
 use Rattle.order.proofs.steps.Given as goal
 
 abbrev pub invariant-loop-budget : goal.invariant-loop-budget

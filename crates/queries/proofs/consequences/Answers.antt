@@ -6,7 +6,6 @@ use Rattle.calls.specs.Ends.{held}
 use Rattle.calls.proofs.Asking.{ask-passed}
 use Rattle.reading.proofs.SoundArrays.{sound-bounded}
 use Rattle.queries.proofs.Ends.{set-refused, set-ends}
-use borrow.Author.Rules.{rules}
 use Rattle.queries.proofs.consequences.Goals as goal
 
 pub following-flags-requires : goal.following-flags-requires

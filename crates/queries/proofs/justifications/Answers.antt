@@ -5,7 +5,6 @@ use Rattle.table.specs.Words.{table_of}
 use Rattle.calls.specs.Ends.{held}
 use Rattle.calls.proofs.Asking.{ask-passed}
 use Rattle.queries.proofs.Ends.{set-refused, set-ends}
-use borrow.Author.Rules.{rules}
 use Rattle.queries.proofs.justifications.Goals as goal
 
 pub returns-in-Refused : goal.returns-in-Refused

@@ -2,7 +2,6 @@
 use Rattle.table.specs.Words.{table_of}
 use Rattle.calls.proofs.Asking.{ask-passed, label-refused}
 use Rattle.queries.proofs.Ends.{label-ends}
-use borrow.Author.Rules.{rules}
 use Rattle.queries.proofs.label.Goals as goal
 
 pub returns-in-Refused : goal.returns-in-Refused

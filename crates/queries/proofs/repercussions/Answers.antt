@@ -5,7 +5,6 @@ use Rattle.table.specs.Words.{table_of}
 use Rattle.calls.specs.Ends.{held}
 use Rattle.calls.proofs.Asking.{ask-passed}
 use Rattle.queries.proofs.Ends.{active-low, flags-admissible, flags-supports, set-refused, set-ends}
-use borrow.Author.Rules.{rules}
 use Rattle.queries.proofs.repercussions.Goals as goal
 
 pub reached-all-requires : goal.reached-all-requires

@@ -2,7 +2,6 @@
 use Rattle.table.specs.Words.{table_of}
 use Rattle.calls.proofs.Asking.{slot-passed}
 use Rattle.queries.proofs.Ends.{rule-ends, rule-refused}
-use borrow.Author.Rules.{rules}
 use Rattle.queries.proofs.rule.Goals as goal
 
 pub returns-in-Refused : goal.returns-in-Refused

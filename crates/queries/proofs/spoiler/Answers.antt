@@ -5,7 +5,6 @@ use Rattle.theory.specs.Limits.{document}
 use Rattle.table.specs.Words.{table_of}
 use Rattle.calls.proofs.Asking.{slot-low, slot-passed, spoiler-refused}
 use Rattle.queries.proofs.Ends.{spoiler-ends, spoiler-low}
-use borrow.Author.Rules.{rules}
 use Rattle.queries.proofs.spoiler.Goals as goal
 
 pub spoiler_at-place-requires : goal.spoiler_at-place-requires

@@ -10,7 +10,6 @@ use Rattle.theory.specs.Limits.{document}
 use Rattle.theory.proofs.Lists.{and-of}
 use Rattle.questions.proofs.Refusals.{no-by, yes-by, both-no, both-no-2}
 use Rattle.questions.proofs.Refusals.{refused-1, refused-2, refused-3, refused-4, passed-all}
-use borrow.Author.Rules.{rules}
 use Rattle.questions.proofs.ask_rule.Goals as goal
 
 -- Questions 1, 2 and 3 are answered yes where those after them are asked.

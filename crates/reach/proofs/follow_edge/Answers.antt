@@ -1,7 +1,7 @@
 -- `reach::follow_edge` meets its contract. Assumes nothing.
 use native.Mathlib.Omega.{arith}
 use mathlib.Core.Path.{sym, ◌∙◌}
-use Rattle.theory.proofs.Lists.{clash, not-true, not-false}
+use Rattle.theory.proofs.Lists.{clash}
 use borrow.Author.Rules.{rules}
 use Rattle.reach.proofs.follow_edge.Goals as goal
 

@@ -1,6 +1,5 @@
 -- `reach::is_source` meets its contract. Assumes nothing.
 use Rattle.reach.proofs.Rounds.{source-start, source-else}
-use borrow.Author.Rules.{rules}
 use Rattle.reach.proofs.is_source.Goals as goal
 
 pub returns-then-a-start : goal.returns-then-a-start

@@ -1,11 +1,7 @@
 -- `reach::reach` meets its contract. The loop's invariant: each member is reached, and once a round brings none in,
 -- every edge was followed. The measure: the atoms outside the set, and the last round. Assumes nothing.
-use Prim.Native.Nat.{◌+◌}
 use Rattle.theory.specs.Limits.{document}
-use Rattle.table.specs.Sets.{one_if}
-use Rattle.reach.specs.Rounds.{outside}
-use Rattle.reach.proofs.Rounds.{Rounds, rounds-start, rounds-next, rounds-fewer, rounds-over}
-use borrow.Author.Rules.{rules}
+use Rattle.reach.proofs.Rounds.{rounds-start, rounds-next, rounds-fewer, rounds-over}
 use Rattle.reach.proofs.reach.Goals as goal
 
 pub loop-again-init : goal.loop-again-init

@@ -1,8 +1,7 @@
 use Prim.Native.Nat.{◌+◌}
-use Rattle.theory.specs.Limits.{document}
 use Rattle.table.specs.Sets.{one_if}
 use Rattle.reach.specs.Rounds.{outside}
-use Rattle.reach.proofs.Rounds.{Rounds, rounds-start, rounds-next, rounds-fewer, rounds-over}
+use Rattle.reach.proofs.Rounds.{Rounds}
 use Rattle.reach.proofs.reach.Given as goal
 
 abbrev pub invariant-loop-again : goal.invariant-loop-again

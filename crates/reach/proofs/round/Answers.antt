@@ -1,8 +1,7 @@
 -- `reach::round` meets its contract. The loop's invariant: the edges below i were followed, one after another.
 -- Assumes nothing.
-use Prim.Native.Nat.{◌≤◌, ◌-◌}
+use Prim.Native.Nat.{◌-◌}
 use native.Mathlib.Omega.{arith}
-use Rattle.reach.specs.Rounds.{Round}
 use Rattle.reach.proofs.Rounds.{round-start, round-next, round-end}
 use borrow.Author.Rules.{rules}
 use Rattle.reach.proofs.round.Goals as goal

@@ -1,7 +1,5 @@
 use Prim.Native.Nat.{◌≤◌, ◌-◌}
-use native.Mathlib.Omega.{arith}
 use Rattle.reach.specs.Rounds.{Round}
-use Rattle.reach.proofs.Rounds.{round-start, round-next, round-end}
 use Rattle.reach.proofs.round.Given as goal
 
 abbrev pub invariant-loop-i : goal.invariant-loop-i

@@ -1,14 +1,10 @@
 -- `reading::assemble` puts each atom's label. Assumes nothing.
-use Prim.Native.Nat.{ℕ, ◌≤◌, ◌<◌, ◌-◌}
+use Prim.Native.Nat.{◌-◌}
 use native.Mathlib.Omega.{arith}
-use mathlib.Core.Path.{◌≡◌, refl, ◌∙◌}
-use lib.ListN.{length, get_or, length-set}
-use Rattle.theory.specs.Limits.{document}
-use Rattle.table.specs.Sets.{member, number}
-use Rattle.table.specs.Labels.{absent_label}
+use mathlib.Core.Path.{refl, ◌∙◌}
+use lib.ListN.{length-set}
 use Rattle.reading.specs.Assembling.{label_for}
 use Rattle.reading.proofs.Assembled.{one_more, label-alike}
-use borrow.Author.Rules.{rules}
 use Rattle.reading.proofs.assemble.Goals as goal
 
 pub loop-i-init : goal.loop-i-init

@@ -1,12 +1,10 @@
 use Prim.Native.Nat.{ℕ, ◌≤◌, ◌<◌, ◌-◌}
-use native.Mathlib.Omega.{arith}
-use mathlib.Core.Path.{◌≡◌, refl, ◌∙◌}
-use lib.ListN.{length, get_or, length-set}
+use mathlib.Core.Path.{◌≡◌}
+use lib.ListN.{length, get_or}
 use Rattle.theory.specs.Limits.{document}
 use Rattle.table.specs.Sets.{member, number}
 use Rattle.table.specs.Labels.{absent_label}
 use Rattle.reading.specs.Assembling.{label_for}
-use Rattle.reading.proofs.Assembled.{one_more, label-alike}
 use Rattle.reading.proofs.assemble.Given as goal
 
 abbrev pub invariant-loop-i : goal.invariant-loop-i

@@ -1,6 +1,5 @@
 -- `reading::keeps` meets its contract. Assumes nothing.
 use Rattle.reading.proofs.Seeking.{free-keeps, other-keeps, this-keeps}
-use borrow.Author.Rules.{rules}
 use Rattle.reading.proofs.keeps.Goals as goal
 
 pub returns-then-rule-eq0 : goal.returns-then-rule-eq0

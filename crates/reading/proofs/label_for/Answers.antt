@@ -1,7 +1,6 @@
 -- `reading::label_for` answers the label of an atom that is in, occurs, or neither. Assumes nothing.
 use mathlib.Core.Path.{◌∙◌}
 use Rattle.reading.proofs.Assembled.{label-for-in, label-for-out, label-for-absent}
-use borrow.Author.Rules.{rules}
 use Rattle.reading.proofs.label_for.Goals as goal
 
 pub returns-then-is_in : goal.returns-then-is_in

@@ -2,16 +2,11 @@
 -- Assumes nothing.
 use Prim.Native.Nat.{◌-◌}
 use native.Mathlib.Omega.{arith}
-use mathlib.Core.Path.{◌≡◌, refl, sym, ◌∙◌}
-use lib.ListN.{drop}
-use Rattle.theory.specs.Slots.{kept_from}
-use Rattle.theory.specs.Limits.{document}
-use Rattle.table.specs.Rules.{program_of}
+use mathlib.Core.Path.{refl, sym, ◌∙◌}
 use Rattle.table.specs.Words.{rules_of, depth_at}
 use Rattle.table.proofs.Words.{rules-length}
 use Rattle.reading.proofs.Seeking.{seek_hit, seek-next, seek-over}
 use Rattle.reading.proofs.OneAtom.{label_kept, label-not}
-use borrow.Author.Rules.{rules}
 use Rattle.reading.proofs.label_of.Goals as goal
 
 pub loop-i-init : goal.loop-i-init

@@ -1,14 +1,10 @@
 use Prim.Native.Nat.{◌-◌}
-use native.Mathlib.Omega.{arith}
-use mathlib.Core.Path.{◌≡◌, refl, sym, ◌∙◌}
+use mathlib.Core.Path.{◌≡◌}
 use lib.ListN.{drop}
 use Rattle.theory.specs.Slots.{kept_from}
 use Rattle.theory.specs.Limits.{document}
 use Rattle.table.specs.Rules.{program_of}
 use Rattle.table.specs.Words.{rules_of, depth_at}
-use Rattle.table.proofs.Words.{rules-length}
-use Rattle.reading.proofs.Seeking.{seek_hit, seek-next, seek-over}
-use Rattle.reading.proofs.OneAtom.{label_kept, label-not}
 use Rattle.reading.proofs.label_of.Given as goal
 
 abbrev pub invariant-loop-i : goal.invariant-loop-i

@@ -1,6 +1,5 @@
 -- `reading::labels_of` answers the labels that the table says. Assumes nothing.
 use Rattle.reading.proofs.Assembled.{all-labels}
-use borrow.Author.Rules.{rules}
 use Rattle.reading.proofs.labels_of.Goals as goal
 
 pub returns : goal.returns

@@ -1,15 +1,10 @@
 -- `reading::occurs` meets its contract. The loop keeps: what is left of the slots answers for all. Assumes nothing.
 use Prim.Native.Nat.{◌-◌}
 use native.Mathlib.Omega.{arith}
-use mathlib.Core.Path.{◌≡◌, refl, sym, ◌∙◌}
-use lib.ListN.{drop}
-use Rattle.theory.specs.Slots.{occurs?}
-use Rattle.theory.specs.Limits.{document}
-use Rattle.table.specs.Rules.{program_of}
+use mathlib.Core.Path.{refl, sym, ◌∙◌}
 use Rattle.table.specs.Words.{rules_of}
 use Rattle.table.proofs.Words.{rules-length}
 use Rattle.reading.proofs.OneAtom.{occurs-hit, occurs-next, occurs-over}
-use borrow.Author.Rules.{rules}
 use Rattle.reading.proofs.occurs.Goals as goal
 
 pub loop-i-init : goal.loop-i-init

@@ -1,13 +1,10 @@
 use Prim.Native.Nat.{◌-◌}
-use native.Mathlib.Omega.{arith}
-use mathlib.Core.Path.{◌≡◌, refl, sym, ◌∙◌}
+use mathlib.Core.Path.{◌≡◌}
 use lib.ListN.{drop}
 use Rattle.theory.specs.Slots.{occurs?}
 use Rattle.theory.specs.Limits.{document}
 use Rattle.table.specs.Rules.{program_of}
 use Rattle.table.specs.Words.{rules_of}
-use Rattle.table.proofs.Words.{rules-length}
-use Rattle.reading.proofs.OneAtom.{occurs-hit, occurs-next, occurs-over}
 use Rattle.reading.proofs.occurs.Given as goal
 
 abbrev pub invariant-loop-i : goal.invariant-loop-i

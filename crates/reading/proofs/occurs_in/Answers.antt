@@ -1,7 +1,6 @@
 -- `reading::occurs_in` meets its contract. Assumes nothing.
 use Rattle.table.specs.Rules.{slot_of}
 use Rattle.reading.proofs.OneAtom.{by-head, by-entry}
-use borrow.Author.Rules.{rules}
 use Rattle.reading.proofs.occurs_in.Goals as goal
 
 pub returns-then-has_head : goal.returns-then-has_head

@@ -1,7 +1,6 @@
 -- `reason_call::reason` meets its contract: 15 is asked first. Assumes nothing.
-use Rattle.theory.proofs.Lists.{clash, not-true, not-false}
+use Rattle.theory.proofs.Lists.{clash}
 use Rattle.calls.specs.Ends.{unsound}
-use borrow.Author.Rules.{rules}
 use Rattle.reason_call.proofs.reason.Goals as goal
 
 pub returns-then-not-sound : goal.returns-then-not-sound

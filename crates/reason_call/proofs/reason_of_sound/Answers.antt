@@ -8,7 +8,6 @@ use Rattle.theory.proofs.Questions.{first_no-before}
 use Rattle.table.specs.Words.{table_of}
 use Rattle.calls.proofs.Asking.{ask-passed, list-refused, passes-low}
 use Rattle.reason_call.proofs.Reasons.{ends_asked}
-use borrow.Author.Rules.{rules}
 use Rattle.reason_call.proofs.reason_of_sound.Goals as goal
 
 pub write_reason-requires : goal.write_reason-requires

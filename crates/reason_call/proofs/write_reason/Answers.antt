@@ -1,10 +1,8 @@
 -- `reason_call::write_reason` meets its contract: an atom that is not in is refused; else what was gathered, counted
 -- and written is the reason. Assumes nothing.
 use mathlib.Core.Path.{sym, ◌∙◌}
-use Rattle.theory.proofs.Lists.{not-true, not-false}
 use Rattle.table.specs.Words.{table_of}
 use Rattle.reason_call.proofs.Reasons.{ends-12, ends-short, ends-written}
-use borrow.Author.Rules.{rules}
 use Rattle.reason_call.proofs.write_reason.Goals as goal
 
 pub returns-then-not-has : goal.returns-then-not-has

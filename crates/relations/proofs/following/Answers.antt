@@ -1,14 +1,11 @@
 -- `relations::following` meets its contract. Assumes nothing.
 -- The loop keeps: the heads of the slots below `i` are marked.
-use Prim.Native.Nat.{◌-◌, ◌≤◌}
+use Prim.Native.Nat.{◌-◌}
 use native.Mathlib.Omega.{arith}
-use Rattle.theory.specs.Limits.{document}
-use Rattle.table.specs.Rules.{program_of}
 use Rattle.table.specs.Words.{rules_of}
 use Rattle.table.proofs.Programs.{program-length}
 use Rattle.table.proofs.Words.{rules-length}
-use Rattle.relations.proofs.Passes.{Following, following-start, following-next, following-over}
-use borrow.Author.Rules.{rules}
+use Rattle.relations.proofs.Passes.{following-start, following-next, following-over}
 use Rattle.relations.proofs.following.Goals as goal
 
 pub loop-i-init : goal.loop-i-init

@@ -1,11 +1,8 @@
 use Prim.Native.Nat.{◌-◌, ◌≤◌}
-use native.Mathlib.Omega.{arith}
 use Rattle.theory.specs.Limits.{document}
 use Rattle.table.specs.Rules.{program_of}
 use Rattle.table.specs.Words.{rules_of}
-use Rattle.table.proofs.Programs.{program-length}
-use Rattle.table.proofs.Words.{rules-length}
-use Rattle.relations.proofs.Passes.{Following, following-start, following-next, following-over}
+use Rattle.relations.proofs.Passes.{Following}
 use Rattle.relations.proofs.following.Given as goal
 
 abbrev pub invariant-loop-i : goal.invariant-loop-i

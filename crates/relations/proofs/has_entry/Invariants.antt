@@ -1,15 +1,9 @@
 use Prim.Native.Nat.{◌-◌}
-use native.Mathlib.Omega.{arith}
-use mathlib.Core.Path.{◌≡◌, refl, sym, ◌∙◌, ap}
+use mathlib.Core.Path.{◌≡◌}
 use lib.Dec.{eqb}
-use lib.ListN.{length, length-map}
 use lib.Seq.{slice}
 use Rattle.theory.specs.Lists.{any}
-use Rattle.theory.specs.Limits.{document}
-use Rattle.theory.proofs.Lists.{eqb_of, eqb-not}
 use Rattle.table.specs.Rules.{numbers}
-use Rattle.table.proofs.Entries.{entries-are}
-use Rattle.relations.proofs.Passes.{test-free, test-held, any-over, any_next, any-stop}
 use Rattle.relations.proofs.has_entry.Given as goal
 
 abbrev pub invariant-loop-j : goal.invariant-loop-j

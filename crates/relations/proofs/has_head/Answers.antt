@@ -1,7 +1,6 @@
 -- `relations::has_head` meets its contract. Assumes nothing.
 use mathlib.Core.Path.{refl}
 use Rattle.relations.proofs.Passes.{test-held}
-use borrow.Author.Rules.{rules}
 use Rattle.relations.proofs.has_head.Goals as goal
 
 pub returns : goal.returns

@@ -5,14 +5,12 @@ use native.Mathlib.Omega.{arith}
 use mathlib.Core.Path.{sym, ◌∙◌, ap}
 use lib.Dec.{eqb}
 use Rattle.theory.specs.Rules.{passes}
-use Rattle.theory.specs.Limits.{document}
 use Rattle.table.specs.declared.Rule.{Rule}
 use Rattle.table.specs.Rules.{slot_of, past_rule}
 use Rattle.table.specs.Words.{rules_of}
 use Rattle.table.proofs.Words.{rules-length}
-use Rattle.table.proofs.Copies.{Copied, copied-start, copied_next, copied_all}
+use Rattle.table.proofs.Copies.{copied-start, copied_next, copied_all}
 use Rattle.relations.proofs.Passes.{justified}
-use borrow.Author.Rules.{rules}
 use Rattle.relations.proofs.justifying.Goals as goal
 
 pub loop-i-init : goal.loop-i-init

@@ -1,15 +1,10 @@
 use Prim.Native.Nat.{◌-◌}
-use native.Mathlib.Omega.{arith}
-use mathlib.Core.Path.{sym, ◌∙◌, ap}
 use lib.Dec.{eqb}
 use Rattle.theory.specs.Rules.{passes}
 use Rattle.theory.specs.Limits.{document}
-use Rattle.table.specs.declared.Rule.{Rule}
-use Rattle.table.specs.Rules.{slot_of, past_rule}
+use Rattle.table.specs.Rules.{slot_of}
 use Rattle.table.specs.Words.{rules_of}
-use Rattle.table.proofs.Words.{rules-length}
-use Rattle.table.proofs.Copies.{Copied, copied-start, copied_next, copied_all}
-use Rattle.relations.proofs.Passes.{justified}
+use Rattle.table.proofs.Copies.{Copied}
 use Rattle.relations.proofs.justifying.Given as goal
 
 abbrev pub invariant-loop-i : goal.invariant-loop-i

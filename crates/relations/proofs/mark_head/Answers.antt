@@ -1,8 +1,6 @@
 -- `relations::mark_head` meets its contract. Assumes nothing.
 use mathlib.Core.Path.{sym, ◌∙◌, ap}
-use Rattle.theory.proofs.Lists.{not-true, not-false}
 use Rattle.relations.specs.Marks.{mark_if}
-use borrow.Author.Rules.{rules}
 use Rattle.relations.proofs.mark_head.Goals as goal
 
 pub returns-then-not-has_entry : goal.returns-then-not-has_entry

@@ -4,7 +4,6 @@ use mathlib.Core.Bool.{not}
 use Rattle.questions.proofs.Passes.{refused, granted}
 use Rattle.calls.specs.Ends as contract
 use Rattle.replacing.proofs.Ends.{handed-back}
-use borrow.Author.Rules.{rules}
 use Rattle.replacing.proofs.replace.Goals as goal
 
 pub returns-then-not-sound : goal.returns-then-not-sound

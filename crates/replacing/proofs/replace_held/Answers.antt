@@ -5,17 +5,14 @@ use mathlib.Core.Bool.{true, false}
 use mathlib.Core.Option.{none}
 use lib.ListN.{set}
 use Rattle.theory.specs.Rules.{all, any_rule, same}
-use Rattle.theory.specs.Rules as theory
 use Rattle.theory.specs.Questions.{first_no, rule_questions}
 use Rattle.theory.specs.Limits.{document}
-use Rattle.theory.proofs.Lists.{not-true, not-false}
 use Rattle.table.specs.Words.{rules_of}
 use Rattle.table.specs.Questions.{rule_from}
 use Rattle.questions.specs.Asked.{first_no_told}
 use Rattle.calls.specs.Ends.{held}
 use Rattle.replacing.proofs.Ends.{handed-back, refused-early, rest-told, put-behind, refused-same}
 use Rattle.replacing.proofs.Ends.{bounded-changed, refused-cycle, replace-ends}
-use borrow.Author.Rules.{rules}
 use Rattle.replacing.proofs.replace_held.Goals as goal
 
 -- Of the rule that the arguments name: that it passes questions 1 to 4; whether the slots without the old rule hold it.

@@ -10,7 +10,6 @@ use Rattle.table.specs.Questions.{rule_from}
 use Rattle.calls.specs.Ends.{held, ReplaceEnds}
 use Rattle.calls.proofs.Asking.{slot-passed, change-refused}
 use Rattle.replacing.proofs.Ends.{handed-back}
-use borrow.Author.Rules.{rules}
 use Rattle.replacing.proofs.replace_in_sound.Goals as goal
 
 pub slot_asked-asked-requires : goal.slot_asked-asked-requires

@@ -1,16 +1,12 @@
 -- `rule::equal` meets its contract. Assumes nothing.
 -- The loop keeps: the rules are equal exactly if the entries that are left are equal in number.
-use Prim.Native.Nat.{◌-◌, ◌≤◌}
+use Prim.Native.Nat.{◌-◌}
 use native.Mathlib.Omega.{arith}
 use mathlib.Core.Path.{◌≡◌}
-use mathlib.Core.Logic.{◌↔◌}
-use lib.ListN.{length, length-map}
-use lib.Seq.{slice}
+use lib.ListN.{length}
 use Rattle.theory.specs.Limits.{document}
-use Rattle.table.specs.Rules.{numbers, rule_of}
 use Rattle.rule.proofs.Equality.{other-head, other-positives, other-negatives}
 use Rattle.rule.proofs.Equality.{equal-from, equal_over, equal_next, equal-stop}
-use borrow.Author.Rules.{rules}
 use Rattle.rule.proofs.equal.Goals as goal
 use Rattle.rule.proofs.equal.Goals.{Start}
 

@@ -1,13 +1,9 @@
 use Prim.Native.Nat.{◌-◌, ◌≤◌}
-use native.Mathlib.Omega.{arith}
 use mathlib.Core.Path.{◌≡◌}
 use mathlib.Core.Logic.{◌↔◌}
-use lib.ListN.{length, length-map}
 use lib.Seq.{slice}
 use Rattle.theory.specs.Limits.{document}
 use Rattle.table.specs.Rules.{numbers, rule_of}
-use Rattle.rule.proofs.Equality.{other-head, other-positives, other-negatives}
-use Rattle.rule.proofs.Equality.{equal-from, equal_over, equal_next, equal-stop}
 use Rattle.rule.proofs.equal.Given as goal
 
 abbrev pub invariant-loop-j : goal.invariant-loop-j

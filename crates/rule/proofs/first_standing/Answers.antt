@@ -1,17 +1,13 @@
 -- `rule::first_standing` meets its contract. Assumes nothing.
 -- The loop keeps: the first entry of what is left of the part stands where the first of the whole of it does.
-use Prim.Native.Nat.{◌+◌, ◌-◌}
+use Prim.Native.Nat.{◌-◌}
 use native.Mathlib.Omega.{arith}
 use mathlib.Core.Path.{◌≡◌, refl, sym, ◌∙◌}
-use lib.ListN.{length, length-map}
-use lib.Seq.{slice}
+use lib.ListN.{length}
 use Rattle.theory.specs.Lists.{before}
 use Rattle.theory.specs.Limits.{document}
-use Rattle.table.specs.Sets.{member, standing}
-use Rattle.table.specs.Rules.{numbers}
 use Rattle.table.proofs.Members.{stands, stands-not}
 use Rattle.table.proofs.Entries.{before-over, before-next, before-stop}
-use borrow.Author.Rules.{rules}
 use Rattle.rule.proofs.first_standing.Goals as goal
 use Rattle.rule.proofs.first_standing.Goals.{Start}
 

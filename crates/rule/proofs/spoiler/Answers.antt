@@ -1,10 +1,9 @@
 -- `rule::spoiler` meets its contract. Assumes nothing.
 -- The positive part is read first, and the negative part only where the walk went past the positive part.
 use mathlib.Core.Path.{◌≡◌}
-use lib.ListN.{length, length-map}
+use lib.ListN.{length}
 use Rattle.theory.specs.Limits.{document}
 use Rattle.table.proofs.Entries.{spoiler-needs, spoiler-blocked, spoiler-nothing}
-use borrow.Author.Rules.{rules}
 use Rattle.rule.proofs.spoiler.Goals as goal
 use Rattle.rule.proofs.spoiler.Goals.{Start}
 

@@ -1,7 +1,6 @@
 -- `rule::valid` meets its contract: a rule is valid exactly if no entry spoils it. Assumes nothing.
 use mathlib.Core.Path.{refl}
 use Rattle.table.proofs.Entries.{spoiled-not-valid, unspoiled-valid}
-use borrow.Author.Rules.{rules}
 use Rattle.rule.proofs.valid.Goals as goal
 
 pub returns-in-Nothing : goal.returns-in-Nothing

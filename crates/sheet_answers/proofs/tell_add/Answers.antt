@@ -5,7 +5,6 @@ use Rattle.fields.specs.Texts.{bytes}
 use Rattle.sheet_printing.specs.Printed.{refusal_line}
 use Rattle.sheet_meaning.specs.Lines.{tell_add}
 use Rattle.sheet_answers.proofs.Told.{wrote-same}
-use borrow.Author.Rules.{rules}
 use Rattle.sheet_answers.proofs.tell_add.Goals as goal
 
 pub returns-in-Taken : goal.returns-in-Taken

@@ -4,7 +4,6 @@ use mathlib.Core.Path.{sym, ◌∙◌, ap}
 use Rattle.sheet_printing.specs.Printed.{refusal_line}
 use Rattle.sheet_meaning.specs.Lines.{tell_change}
 use Rattle.sheet_answers.proofs.Told.{wrote-same}
-use borrow.Author.Rules.{rules}
 use Rattle.sheet_answers.proofs.tell_change.Goals as goal
 
 pub returns-in-Accepted : goal.returns-in-Accepted

@@ -6,7 +6,6 @@ use Rattle.calls.specs.declared.ListAnswer.{ListAnswer}
 use Rattle.sheet_printing.specs.Printed.{refusal_line}
 use Rattle.sheet_meaning.specs.Lines.{tell_reason}
 use Rattle.sheet_answers.proofs.Told.{wrote-same, counted}
-use borrow.Author.Rules.{rules}
 use Rattle.sheet_answers.proofs.tell_reason.Goals as goal
 
 pub slice_bounds-write_why-end : goal.slice_bounds-write_why-end

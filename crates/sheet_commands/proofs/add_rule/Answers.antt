@@ -2,12 +2,11 @@
 use Prim.Native.Nat.{ℕ, ◌+◌, ◌-◌}
 use native.Mathlib.Omega.{arith}
 use mathlib.Core.Path.{◌≡◌, subst}
-use lib.ListN.{take, drop, length-take, length-map}
+use lib.ListN.{take, drop, length-take}
 use Rattle.table.specs.Questions.{rule_from}
 use Rattle.calls.specs.Ends.{AddEnds}
 use Rattle.sheet_meaning.specs.Lines as prints
 use Rattle.sheet_commands.proofs.Still.{add-still}
-use borrow.Author.Rules.{rules}
 use Rattle.sheet_commands.proofs.add_rule.Goals as goal
 
 pub slice_bounds-add_to_sound-end : goal.slice_bounds-add_to_sound-end
@@ -28,4 +27,8 @@ returns c =
     let ends =
     subst (λ (k : ℕ). AddEnds a.table
     (rule_from a.head (take p.positives p.entries) (take k (drop p.positives p.entries)))
-    c.add_to_sound-done.result.answer c.add_to_sound-done.result.table) n c.add_to_sound-done.ensures in record { obeys = (λ line e. record { printed = _; prints = prints.add _ _ _ _ _ e ends; wrote = c.tell_add-next.ensures }); sound_2 = add-still _ _ _ _ c.requires.sound c.add_to_sound-done.ensures }
+    c.add_to_sound-done.result.answer c.add_to_sound-done.result.table) n c.add_to_sound-done.ensures in
+    record {
+      obeys = (λ line e. record { printed = _; prints = prints.add _ _ _ _ _ e ends; wrote = c.tell_add-next.ensures });
+      sound_2 = add-still _ _ _ _ c.requires.sound c.add_to_sound-done.ensures;
+    }

@@ -2,7 +2,6 @@
 use native.Mathlib.Omega.{arith}
 use Rattle.sheet_meaning.specs.Lines as prints
 use Rattle.sheet_commands.proofs.Reasons.{list_counts}
-use borrow.Author.Rules.{rules}
 use Rattle.sheet_commands.proofs.explain.Goals as goal
 
 pub tell_reason-requires : goal.tell_reason-requires

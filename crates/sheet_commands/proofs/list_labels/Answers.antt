@@ -8,7 +8,6 @@ use Rattle.theory.proofs.Questions.{passed-bounded}
 use Rattle.theory.proofs.Slots.{labelled}
 use Rattle.calls.specs.Ends.{held}
 use Rattle.sheet_meaning.specs.Lines as prints
-use borrow.Author.Rules.{rules}
 use Rattle.sheet_commands.proofs.list_labels.Goals as goal
 
 pub labels_of-labels-requires : goal.labels_of-labels-requires

@@ -2,7 +2,6 @@
 use Rattle.fields.specs.Texts.{bytes}
 use Rattle.sheet_meaning.specs.Lines as prints
 use Rattle.sheet_commands.proofs.Still.{change-still}
-use borrow.Author.Rules.{rules}
 use Rattle.sheet_commands.proofs.remove_slot.Goals as goal
 
 pub returns : goal.returns

@@ -2,13 +2,12 @@
 use Prim.Native.Nat.{ℕ, ◌+◌, ◌-◌}
 use native.Mathlib.Omega.{arith}
 use mathlib.Core.Path.{◌≡◌, subst}
-use lib.ListN.{take, drop, length-take, length-map}
+use lib.ListN.{take, drop, length-take}
 use Rattle.fields.specs.Texts.{bytes}
 use Rattle.table.specs.Questions.{rule_from}
 use Rattle.calls.specs.Ends.{ReplaceEnds}
 use Rattle.sheet_meaning.specs.Lines as prints
 use Rattle.sheet_commands.proofs.Still.{change-still}
-use borrow.Author.Rules.{rules}
 use Rattle.sheet_commands.proofs.replace_rule.Goals as goal
 
 pub slice_bounds-replace_in_sound-end : goal.slice_bounds-replace_in_sound-end
@@ -30,4 +29,8 @@ returns c =
     let ends =
     subst (λ (k : ℕ). ReplaceEnds a.table a.slot
     (rule_from a.head (take p.positives p.entries) (take k (drop p.positives p.entries)))
-    c.replace_in_sound-done.result.answer c.replace_in_sound-done.result.table) n c.replace_in_sound-done.ensures in record { obeys = (λ line e. record { printed = _; prints = prints.replace _ _ _ _ _ _ e ends; wrote = c.tell_change-next.ensures }); sound_2 = change-still _ _ _ _ _ c.requires.sound c.replace_in_sound-done.ensures }
+    c.replace_in_sound-done.result.answer c.replace_in_sound-done.result.table) n c.replace_in_sound-done.ensures in
+    record {
+      obeys = (λ line e. record { printed = _; prints = prints.replace _ _ _ _ _ _ e ends; wrote = c.tell_change-next.ensures });
+      sound_2 = change-still _ _ _ _ _ c.requires.sound c.replace_in_sound-done.ensures;
+    }

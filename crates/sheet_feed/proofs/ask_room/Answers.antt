@@ -1,7 +1,6 @@
 -- `sheet_feed::ask_room` meets its contract. Assumes nothing.
 use native.Mathlib.Omega.{arith}
 use Rattle.sheet_feed.proofs.Feeding.{answer-room, answer-short}
-use borrow.Author.Rules.{rules}
 use Rattle.sheet_feed.proofs.ask_room.Goals as goal
 
 pub returns-then-left-lt-LABELS_ROOM : goal.returns-then-left-lt-LABELS_ROOM

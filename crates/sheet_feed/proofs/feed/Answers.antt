@@ -1,11 +1,7 @@
 -- `sheet_feed::feed` meets its contract. The loop keeps what is so of a piece fed so far. The measure is what is left
 -- to read. Assumes nothing.
-use Prim.Native.Nat.{◌-◌}
 use native.Mathlib.Omega.{arith}
-use lib.ListN.{length}
-use Rattle.sheet_feed.proofs.Feeding.{has, lacks, FedSoFar, fed-start, fed-next, fed-full, fed-whole}
-use Rattle.table.specs.Sound.{Sound}
-use borrow.Author.Rules.{rules}
+use Rattle.sheet_feed.proofs.Feeding.{has, lacks, fed-start, fed-next, fed-full, fed-whole}
 use Rattle.sheet_feed.proofs.feed.Goals as goal
 
 pub loop-fed-init : goal.loop-fed-init
@@ -15,7 +11,10 @@ loop-fed-init c =
 pub feed_command-fed-requires : goal.feed_command-fed-requires
 feed_command-fed-requires c =
     let l = c.loop-fed in
-    record { sound = l.invariant.1; from_in_bounds = (l.invariant.0.feeds.read, has _ _ c.has_room.ensures c.if-has_room.true) }
+    record {
+      sound = l.invariant.1;
+      from_in_bounds = (l.invariant.0.feeds.read, has _ _ c.has_room.ensures c.if-has_room.true);
+    }
 
 pub loop-fed-smaller : goal.loop-fed-smaller
 loop-fed-smaller c =

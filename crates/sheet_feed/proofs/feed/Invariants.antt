@@ -1,7 +1,6 @@
 use Prim.Native.Nat.{◌-◌}
-use native.Mathlib.Omega.{arith}
 use lib.ListN.{length}
-use Rattle.sheet_feed.proofs.Feeding.{has, lacks, FedSoFar, fed-start, fed-next, fed-full, fed-whole}
+use Rattle.sheet_feed.proofs.Feeding.{FedSoFar}
 use Rattle.table.specs.Sound.{Sound}
 use Rattle.sheet_feed.proofs.feed.Given as goal
 

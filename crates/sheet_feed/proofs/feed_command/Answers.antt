@@ -3,7 +3,6 @@ use native.Mathlib.Omega.{arith}
 use mathlib.Core.Path.{refl}
 use Rattle.calls.specs.declared.ChangeAnswer.TheVariants.{Accepted}
 use Rattle.sheet_feed.proofs.Feeding.{nothing-found, at-command, feeds-scanned, feeds-obeyed}
-use borrow.Author.Rules.{rules}
 use Rattle.sheet_feed.proofs.feed_command.Goals as goal
 
 pub returns-in_default : goal.returns-in_default
@@ -19,7 +18,11 @@ returns-in_default c =
 pub obey-obeyed-requires : goal.obey-obeyed-requires
 obey-obeyed-requires c =
     let scan = c.scan-done in
-    let here = at-command _ _ scan.result _ c.in-Command.is scan.ensures.scans.found in record { sound = c.requires.sound; negatives_bound = (here.within, omega (arith, here.room, scan.ensures.scans.same_length)) }
+    let here = at-command _ _ scan.result _ c.in-Command.is scan.ensures.scans.found in
+    record {
+      sound = c.requires.sound;
+      negatives_bound = (here.within, omega (arith, here.room, scan.ensures.scans.same_length));
+    }
 
 pub overflow_add-past : goal.overflow_add-past
 overflow_add-past c =

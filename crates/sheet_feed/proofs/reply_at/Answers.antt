@@ -1,9 +1,7 @@
 -- `sheet_feed::reply_at` meets its contract. Assumes nothing.
 use native.Mathlib.Omega.{arith}
 use lib.ListN.{length}
-use borrow.Author.Tests.{not-true, not-false}
 use Rattle.sheet_feed.proofs.Feeding.{has, lacks, replies-short}
-use borrow.Author.Rules.{rules}
 use Rattle.sheet_feed.proofs.reply_at.Goals as goal
 
 pub returns-then-not-has_room : goal.returns-then-not-has_room

@@ -1,14 +1,17 @@
 -- `sheet_feed::reply_line` meets its contract. Assumes nothing.
 use Rattle.sheet_begun.proofs.Lengthening.{begun-of-some}
 use Rattle.sheet_feed.proofs.Feeding.{sheet-sized, replies-told, replies-obeyed}
-use borrow.Author.Rules.{rules}
 use Rattle.sheet_feed.proofs.reply_line.Goals as goal
 
 pub returns-in-Told : goal.returns-in-Told
 returns-in-Told c =
     let sheet = c.args.sheet in
     let some = begun-of-some sheet.begun (sheet-sized sheet _ c.well_formed.0) in
-    let j = c.judge-judged in record { replies_at = replies-told sheet c.requires.at_in_bounds some c.read_begun-parsed.ensures _ j.result j.ensures c.in-Told.is; sound_2 = c.requires.sound }
+    let j = c.judge-judged in
+    record {
+      replies_at = replies-told sheet c.requires.at_in_bounds some c.read_begun-parsed.ensures _ j.result j.ensures c.in-Told.is;
+      sound_2 = c.requires.sound;
+    }
 
 pub returns-in-Command : goal.returns-in-Command
 returns-in-Command c =

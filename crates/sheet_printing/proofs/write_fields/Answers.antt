@@ -1,14 +1,12 @@
 -- `sheet_printing::write_fields` meets its contract. The loop keeps: the fields below `i` are written.
 -- Assumes nothing.
-use Prim.Native.Nat.{◌+◌, ◌-◌, ◌*◌, ◌≤◌}
+use Prim.Native.Nat.{◌-◌, ◌≤◌}
 use native.Mathlib.Omega.{arith}
-use lib.ListN.{length, take}
+use lib.ListN.{length}
 use lib.Seq.{take_all}
 use Rattle.fields.specs.Fields.{fields}
-use Rattle.fields.specs.Written.{Wrote}
 use Rattle.fields.proofs.Wrote.{wrote_nothing, wrote-length}
 use Rattle.sheet_printing.proofs.Fields.{wrote-next-field}
-use borrow.Author.Rules.{rules}
 use Rattle.sheet_printing.proofs.write_fields.Goals as goal
 
 pub loop-i-init : goal.loop-i-init

@@ -2,7 +2,6 @@
 use native.Mathlib.Omega.{arith}
 use Rattle.sheet_printing.specs.Printed.{named}
 use Rattle.fields.proofs.Wrote.{wrote-all, wrote_none, wrote_then}
-use borrow.Author.Rules.{rules}
 use Rattle.sheet_printing.proofs.write_named.Goals as goal
 
 pub returns-then-bytes_left-word : goal.returns-then-bytes_left-word

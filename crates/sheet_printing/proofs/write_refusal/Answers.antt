@@ -3,7 +3,6 @@ use native.Mathlib.Omega.{arith}
 use Rattle.fields.specs.Texts.{bytes}
 use Rattle.sheet_printing.specs.Printed.{refusal_line}
 use Rattle.fields.proofs.Wrote.{wrote-all, wrote_none, wrote_then}
-use borrow.Author.Rules.{rules}
 use Rattle.sheet_printing.proofs.write_refusal.Goals as goal
 
 pub returns-then-bytes_left-lt40 : goal.returns-then-bytes_left-lt40

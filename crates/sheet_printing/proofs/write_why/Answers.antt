@@ -3,7 +3,6 @@ use native.Mathlib.Omega.{arith}
 use Rattle.fields.specs.Texts.{bytes}
 use Rattle.sheet_printing.specs.Printed.{why_line}
 use Rattle.fields.proofs.Wrote.{fields-length, wrote-all, wrote_none, wrote_then}
-use borrow.Author.Rules.{rules}
 use Rattle.sheet_printing.proofs.write_why.Goals as goal
 
 pub returns-then-left-lt4 : goal.returns-then-left-lt4

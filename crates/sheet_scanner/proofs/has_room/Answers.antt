@@ -2,7 +2,6 @@
 use mathlib.Core.Path.{ap}
 use lib.Dec.{leb}
 use Rattle.sheet_label_lines.specs.LabelLines.{LABELS_ROOM}
-use borrow.Author.Rules.{rules}
 use Rattle.sheet_scanner.proofs.has_room.Goals as goal
 
 pub returns : goal.returns

@@ -4,7 +4,6 @@ use mathlib.Core.Path.{◌∙◌}
 use Rattle.fields.proofs.Wrote.{wrote_nothing}
 use Rattle.sheet_meaning.specs.Lines as prints
 use Rattle.sheet_scanner.proofs.Judging.{neither-keys, neither, told}
-use borrow.Author.Rules.{rules}
 use Rattle.sheet_scanner.proofs.judge.Goals as goal
 
 pub returns-in-Blank : goal.returns-in-Blank

@@ -1,14 +1,11 @@
 -- `sheet_scanner::line_end` meets its contract. The loop's invariant: the offset where it will end is the one that is
 -- asked for. Assumes nothing.
-use Prim.Native.Nat.{◌+◌, ◌-◌}
 use native.Mathlib.Omega.{arith}
-use mathlib.Core.Path.{◌≡◌, refl, ap}
+use mathlib.Core.Path.{refl, ap}
 use mathlib.Core.Bool.{not}
-use lib.ListN.{length, drop}
 use borrow.Author.Tests.{eq-eqb, ne_eqb}
 use Rattle.places.proofs.Leading.{seek-next, seek_stop, seek-end}
-use Rattle.sheet_scanner.specs.Scans.{of_line, line_end}
-use borrow.Author.Rules.{rules}
+use Rattle.sheet_scanner.specs.Scans.{of_line}
 use Rattle.sheet_scanner.proofs.line_end.Goals as goal
 
 pub loop-i-init : goal.loop-i-init

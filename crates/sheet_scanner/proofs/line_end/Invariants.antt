@@ -1,11 +1,7 @@
 use Prim.Native.Nat.{◌+◌, ◌-◌}
-use native.Mathlib.Omega.{arith}
-use mathlib.Core.Path.{◌≡◌, refl, ap}
-use mathlib.Core.Bool.{not}
+use mathlib.Core.Path.{◌≡◌}
 use lib.ListN.{length, drop}
-use borrow.Author.Tests.{eq-eqb, ne_eqb}
-use Rattle.places.proofs.Leading.{seek-next, seek_stop, seek-end}
-use Rattle.sheet_scanner.specs.Scans.{of_line, line_end}
+use Rattle.sheet_scanner.specs.Scans.{line_end}
 use Rattle.sheet_scanner.proofs.line_end.Given as goal
 
 abbrev pub invariant-loop-i : goal.invariant-loop-i

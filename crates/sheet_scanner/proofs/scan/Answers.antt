@@ -1,14 +1,12 @@
 -- `sheet_scanner::scan` meets its contract. The loop keeps: what was so of the first line's scan is so of all that was
 -- scanned. The measure is what is left to read. Assumes nothing.
-use Prim.Native.Nat.{suc, ◌-◌}
+use Prim.Native.Nat.{◌-◌}
 use native.Mathlib.Omega.{arith}
 use mathlib.Core.Path.{sym, ◌∙◌}
-use mathlib.Core.Bool.{cond}
 use lib.ListN.{length}
 use borrow.Author.Tests.{leb-true, leb-false}
 use Rattle.sheet_label_lines.specs.LabelLines.{LABELS_ROOM}
-use Rattle.sheet_scanner.proofs.Scanning.{Since, since-first, since-next, scans-less, scans-over, scans-full}
-use borrow.Author.Rules.{rules}
+use Rattle.sheet_scanner.proofs.Scanning.{since-first, since-next, scans-less, scans-over, scans-full}
 use Rattle.sheet_scanner.proofs.scan.Goals as goal
 
 pub loop-done-init : goal.loop-done-init
@@ -45,7 +43,10 @@ returns-else-has_room c =
     let all = l.invariant.since _ _ _ _ first.ensures.scans first.ensures.scans_one in
     let none =
     leb-false LABELS_ROOM (length l.out - l.done.printed) (sym c.has_room.ensures ∙ c.if-has_room.false) in
-    record { scans = all.0; scans_all = scans-full _ l.done all.1 (omega (arith, none, l.invariant.printed, all.0.same_length)) }
+    record {
+      scans = all.0;
+      scans_all = scans-full _ l.done all.1 (omega (arith, none, l.invariant.printed, all.0.same_length));
+    }
 
 pub shape_of-out-after-loop-done : goal.shape_of-out-after-loop-done
 shape_of-out-after-loop-done c =

@@ -1,11 +1,7 @@
 use Prim.Native.Nat.{suc, ◌-◌}
-use native.Mathlib.Omega.{arith}
-use mathlib.Core.Path.{sym, ◌∙◌}
 use mathlib.Core.Bool.{cond}
 use lib.ListN.{length}
-use borrow.Author.Tests.{leb-true, leb-false}
-use Rattle.sheet_label_lines.specs.LabelLines.{LABELS_ROOM}
-use Rattle.sheet_scanner.proofs.Scanning.{Since, since-first, since-next, scans-less, scans-over, scans-full}
+use Rattle.sheet_scanner.proofs.Scanning.{Since}
 use Rattle.sheet_scanner.proofs.scan.Given as goal
 
 abbrev pub invariant-loop-done : goal.invariant-loop-done

@@ -6,7 +6,6 @@ use lib.ListN.{length}
 use Rattle.theory.proofs.Lists.{clash}
 use Rattle.sheet_begun.proofs.Lengthening.{begun_sized, begun-of-some}
 use Rattle.sheet_scanner.proofs.Scanning.{end-within, scans-part, scans-told, scans-command}
-use borrow.Author.Rules.{rules}
 use Rattle.sheet_scanner.proofs.scan_line.Goals as goal
 
 pub slice_bounds-part-end : goal.slice_bounds-part-end

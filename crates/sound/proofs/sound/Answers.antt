@@ -5,7 +5,6 @@ use Rattle.theory.proofs.Lists.{is_not}
 use Rattle.questions.proofs.Passes.{refused, granted}
 use Rattle.sound.proofs.Soundness.{WellFormedSlots, sound-well-formed, sound-single, sound-of}
 use Rattle.sound.proofs.Soundness.{well-formed-bounded}
-use borrow.Author.Rules.{rules}
 use Rattle.sound.proofs.sound.Goals as goal
 use Rattle.sound.proofs.sound.Goals.{Else-not-slots_well_formed}
 

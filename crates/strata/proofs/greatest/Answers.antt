@@ -1,16 +1,10 @@
 -- `strata::greatest` meets its contract: what is found and what is left give the whole. Assumes nothing.
-use Prim.Native.Nat.{◌-◌, ◌≤◌, max}
+use Prim.Native.Nat.{◌-◌, ◌≤◌}
 use native.Mathlib.Omega.{arith}
 use mathlib.Core.Path.{◌≡◌}
-use lib.ListN.{length, length-map}
-use lib.Seq.{slice}
-use Rattle.theory.specs.Lists.{greatest}
+use lib.ListN.{length}
 use Rattle.theory.specs.Limits.{document}
-use Rattle.table.specs.Sets.{number}
-use Rattle.table.specs.Rules.{numbers}
-use Rattle.strata.specs.Needed.{plus, AllBelow}
 use Rattle.strata.proofs.Numbers.{walked-over, walked_next, entry-below, rest_below}
-use borrow.Author.Rules.{rules}
 use Rattle.strata.proofs.greatest.Goals as goal
 
 pub loop-j-init : goal.loop-j-init

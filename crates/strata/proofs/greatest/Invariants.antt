@@ -1,14 +1,11 @@
-use Prim.Native.Nat.{◌-◌, ◌≤◌, max}
-use native.Mathlib.Omega.{arith}
+use Prim.Native.Nat.{◌-◌, max}
 use mathlib.Core.Path.{◌≡◌}
-use lib.ListN.{length, length-map}
 use lib.Seq.{slice}
 use Rattle.theory.specs.Lists.{greatest}
 use Rattle.theory.specs.Limits.{document}
 use Rattle.table.specs.Sets.{number}
 use Rattle.table.specs.Rules.{numbers}
 use Rattle.strata.specs.Needed.{plus, AllBelow}
-use Rattle.strata.proofs.Numbers.{walked-over, walked_next, entry-below, rest_below}
 use Rattle.strata.proofs.greatest.Given as goal
 
 abbrev pub invariant-loop-j : goal.invariant-loop-j

@@ -1,5 +1,4 @@
 -- `strata::needed` meets its contract. Assumes nothing.
-use lib.ListN.{length-map}
 use Rattle.theory.specs.Limits.{document}
 use Rattle.strata.proofs.Numbers.{needed-held, positives-below, negatives-below}
 use borrow.Author.Rules.{rules}

@@ -1,14 +1,11 @@
 -- `strata::raise_in_order` keeps numbers that are weights of paths, whatever slots are named. Assumes nothing.
-use Prim.Native.Nat.{◌-◌, ◌≤◌}
+use Prim.Native.Nat.{◌-◌}
 use native.Mathlib.Omega.{arith}
 use mathlib.Core.Path.{◌∙◌}
 use Rattle.theory.specs.Limits.{document}
-use Rattle.table.specs.Rules.{program_of}
 use Rattle.table.specs.Words.{rules_of}
-use Rattle.strata.specs.Needed.{Guided}
 use Rattle.strata.proofs.Rounds.{guided-start}
 use Rattle.strata.proofs.Arrays.{entries_below, guided-slot, head-below, read-in}
-use borrow.Author.Rules.{rules}
 use Rattle.strata.proofs.raise_in_order.Goals as goal
 
 pub loop-i-init : goal.loop-i-init

@@ -1,12 +1,8 @@
 use Prim.Native.Nat.{◌-◌, ◌≤◌}
-use native.Mathlib.Omega.{arith}
-use mathlib.Core.Path.{◌∙◌}
 use Rattle.theory.specs.Limits.{document}
 use Rattle.table.specs.Rules.{program_of}
 use Rattle.table.specs.Words.{rules_of}
 use Rattle.strata.specs.Needed.{Guided}
-use Rattle.strata.proofs.Rounds.{guided-start}
-use Rattle.strata.proofs.Arrays.{entries_below, guided-slot, head-below, read-in}
 use Rattle.strata.proofs.raise_in_order.Given as goal
 
 abbrev pub invariant-loop-i : goal.invariant-loop-i

@@ -1,21 +1,14 @@
 -- `strata::strata` meets its contract: by what the rounds keep. Assumes nothing.
-use Prim.Native.Nat.{◌+◌, ◌-◌, ◌≤◌, ◌<◌}
+use Prim.Native.Nat.{◌-◌, ◌<◌}
 use native.Mathlib.Omega.{arith}
-use mathlib.Core.Path.{◌≡◌, refl, ◌∙◌}
-use lib.ListN.{length}
+use mathlib.Core.Path.{refl, ◌∙◌}
 use Rattle.theory.specs.Limits.{document}
-use Rattle.theory.proofs.Lists.{not-true, not-false}
-use Rattle.table.specs.Sets.{number}
-use Rattle.table.specs.Rules.{program_of}
 use Rattle.table.specs.Words.{rules_of}
-use Rattle.table.specs.Turns.{slot_at}
 use Rattle.table.proofs.Words.{rules-length}
 use Rattle.table.proofs.SlotsInTurn.{slot-at-below}
-use Rattle.strata.proofs.Rounds.{Rounds, Slots}
 use Rattle.strata.proofs.Numbers.{raised-length}
 use Rattle.strata.proofs.Arrays.{entries_below, head-below, read_at}
 use Rattle.strata.proofs.Arrays.{start, begin, passed, next, rest, more, over}
-use borrow.Author.Rules.{rules}
 use Rattle.strata.proofs.strata.Goals as goal
 use Rattle.strata.proofs.strata.Goals.{After-slot_at-s}
 

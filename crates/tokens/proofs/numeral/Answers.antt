@@ -21,6 +21,6 @@ pub returns : goal.returns
 returns c =
     let token = c.args.token.now in
     c.value.ensures ∙ elim c.if-n-gt1.branch [
-      then-n-gt1+else-token-eq48 w ↦ numeral-other token w.if-n-gt1.true c.if-n-gt5.false w.if-token-eq48.false
+      | then-n-gt1+else-token-eq48 w ↦ numeral-other token w.if-n-gt1.true c.if-n-gt5.false w.if-token-eq48.false
       | else-n-gt1 w ↦ numeral-digit token (omega arith) w.if-n-gt1.false
     ]

@@ -1,14 +1,10 @@
 use Prim.Native.Nat.{◌-◌, ◌<◌}
-use native.Mathlib.Omega.{arith}
-use mathlib.Core.Path.{◌≡◌, refl, ◌∙◌, ap}
-use lib.ListN.{length, length-map}
+use mathlib.Core.Path.{◌≡◌}
 use lib.Seq.{slice}
 use Rattle.theory.specs.Limits.{document}
 use Rattle.theory.specs.Rules.{entries}
 use Rattle.table.specs.Rules.{numbers, rule_of}
-use Rattle.table.proofs.Entries.{entries-are}
 use Rattle.well_formed.specs.Keys.{modulus, mixed, key}
-use Rattle.well_formed.proofs.Links.{mixed-over, mixed-next}
 use Rattle.well_formed.proofs.key.Given as goal
 
 abbrev pub invariant-loop-j : goal.invariant-loop-j

@@ -1,25 +1,20 @@
 -- `well_formed::no_two_equal` meets its contract. Assumes nothing.
-use Prim.Native.Nat.{◌-◌, ◌≤◌, ◌<◌}
+use Prim.Native.Nat.{◌-◌, ◌≤◌}
 use native.Mathlib.Omega.{arith}
-use mathlib.Core.Path.{◌≡◌, refl, sym, ◌∙◌}
-use mathlib.Core.List.{List}
-use mathlib.Core.Option.{none}
-use lib.ListN.{length, get_or}
+use mathlib.Core.Path.{refl, sym, ◌∙◌}
+use lib.ListN.{length}
 use Rattle.theory.specs.Limits.{document}
 use Rattle.theory.proofs.Lists.{clash}
-use Rattle.table.specs.declared.Rule.{Rule}
-use Rattle.table.specs.Sets.{number}
-use Rattle.table.specs.Rules.{slot_of, program_of}
+use Rattle.table.specs.Rules.{program_of}
 use Rattle.table.specs.Words.{rules_of}
 use Rattle.theory.proofs.Lists.{is_not}
 use Rattle.table.proofs.Members.{all_alike}
 use Rattle.table.proofs.Programs.{program-length, slot_rule}
 use Rattle.table.proofs.Words.{rules-length}
 use Rattle.well_formed.specs.Keys.{keys}
-use Rattle.well_formed.proofs.Links.{Linked, Following, links-start, links-step, links-all}
+use Rattle.well_formed.proofs.Links.{links-start, links-step, links-all}
 use Rattle.well_formed.proofs.Links.{read_at}
 use Rattle.well_formed.proofs.Links.{follow-start, follow-falls, follow-next, follow-equal}
-use borrow.Author.Rules.{rules}
 use Rattle.well_formed.proofs.no_two_equal.Goals as goal
 
 pub loop-i-init : goal.loop-i-init

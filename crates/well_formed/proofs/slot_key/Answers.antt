@@ -2,7 +2,6 @@
 use mathlib.Core.Path.{sym, ap, ◌∙◌}
 use Rattle.well_formed.specs.Keys.{slot_key}
 use Rattle.table.proofs.Programs.{slot-free, slot_held}
-use borrow.Author.Rules.{rules}
 use Rattle.well_formed.proofs.slot_key.Goals as goal
 
 pub returns-then-rule-eq0 : goal.returns-then-rule-eq0

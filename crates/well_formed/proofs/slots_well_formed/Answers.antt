@@ -1,17 +1,12 @@
 -- `well_formed::slots_well_formed` meets its contract. Assumes nothing.
 use mathlib.Core.Path.{ap}
 use mathlib.Core.Bool.{not}
-use Prim.Native.Nat.{ℕ, ◌<◌, ◌-◌}
+use Prim.Native.Nat.{◌-◌}
 use native.Mathlib.Omega.{arith}
-use lib.ListN.{get_or}
 use borrow.Author.Count.{below_more}
-use Rattle.theory.specs.Limits.{document}
-use Rattle.table.specs.Rules.{past_rule}
 use Rattle.table.specs.Clean.{WellFormed}
 use Rattle.questions.proofs.Passes.{stops, ends, refused, granted}
-use Rattle.table.specs.Words.{rules_of}
 use Rattle.table.proofs.Words.{told_of}
-use borrow.Author.Rules.{rules}
 use Rattle.well_formed.proofs.slots_well_formed.Goals as goal
 
 pub loop-i-init : goal.loop-i-init

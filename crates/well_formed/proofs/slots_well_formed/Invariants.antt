@@ -1,13 +1,9 @@
 use Prim.Native.Nat.{ℕ, ◌<◌, ◌-◌}
-use native.Mathlib.Omega.{arith}
 use lib.ListN.{get_or}
-use borrow.Author.Count.{below_more}
 use Rattle.theory.specs.Limits.{document}
 use Rattle.table.specs.Rules.{past_rule}
 use Rattle.table.specs.Clean.{WellFormed}
-use Rattle.questions.proofs.Passes.{stops, ends, refused, granted}
 use Rattle.table.specs.Words.{rules_of}
-use Rattle.table.proofs.Words.{told_of}
 use Rattle.well_formed.proofs.slots_well_formed.Given as goal
 
 abbrev pub invariant-loop-i : goal.invariant-loop-i

@@ -1,6 +1,5 @@
 -- `queries::answers::tell_label` meets its contract. Assumes nothing.
 use Rattle.queries.proofs.Told.{told_in}
-use borrow.Author.Rules.{rules}
 use Rattle.queries.proofs.answers.tell_label.Goals as goal
 
 pub returns : goal.returns

@@ -1,8 +1,7 @@
 -- `queries::answers::tell_numbers` meets its contract. Assumes nothing.
 use mathlib.Core.Path.{◌≡◌, refl}
-use lib.ListN.{length, length-map}
+use lib.ListN.{length}
 use Rattle.theory.specs.Limits.{document}
-use borrow.Author.Rules.{rules}
 use Rattle.queries.proofs.answers.tell_numbers.Goals as goal
 
 pub returns : goal.returns

@@ -1,7 +1,6 @@
 -- `queries::answers::tell_rule` meets its contract. Assumes nothing.
 use mathlib.Core.Path.{◌∙◌}
 use Rattle.queries.proofs.Told.{told-muted, told-unmuted}
-use borrow.Author.Rules.{rules}
 use Rattle.queries.proofs.answers.tell_rule.Goals as goal
 
 pub returns-then-rule-gt1 : goal.returns-then-rule-gt1

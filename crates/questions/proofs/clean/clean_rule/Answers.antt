@@ -2,10 +2,9 @@
 use mathlib.Core.Path.{ap}
 use mathlib.Core.Bool.{not}
 use mathlib.Core.Path.{◌≡◌}
-use lib.ListN.{length, length-map}
+use lib.ListN.{length}
 use Rattle.theory.specs.Limits.{document}
 use Rattle.questions.proofs.Cleanness.{too_many, not-empty, held-clean, free-counts, free-head}
-use borrow.Author.Rules.{rules}
 use Rattle.questions.proofs.clean.clean_rule.Goals as goal
 use Rattle.questions.proofs.clean.clean_rule.Goals.{Start}
 

@@ -4,12 +4,10 @@ use mathlib.Core.Path.{ap}
 use mathlib.Core.Bool.{not}
 use native.Mathlib.Omega.{arith}
 use mathlib.Core.Path.{◌≡◌}
-use lib.ListN.{length, length-map}
+use lib.ListN.{length}
 use Rattle.theory.specs.Limits.{document}
-use Rattle.theory.proofs.Lists.{not-false}
 use Rattle.table.specs.Clean.{CleanRule}
 use Rattle.questions.proofs.WellFormed.{not-clean, well-free, head-past, positives-unfit, negatives-decide}
-use borrow.Author.Rules.{rules}
 use Rattle.questions.proofs.clean.well_formed.Goals as goal
 use Rattle.questions.proofs.clean.well_formed.Goals.{After-head_fits, Start}
 

@@ -9,7 +9,8 @@ abbrev pub invariant-loop-n : goal.invariant-loop-n
 invariant-loop-n l =
     (l.next.offset ≤ length l.line)
     × Onward l.line l.initial.next l.next
-    × Collecting l.initial.entries l.initial.count (tokens (drop l.initial.next.offset l.line)) l.entries l.count (tokens (drop l.next.offset l.line))
+    × Collecting l.initial.entries l.initial.count (tokens (drop l.initial.next.offset l.line))
+    l.entries l.count (tokens (drop l.next.offset l.line))
 
 abbrev pub decreases-loop-n : goal.decreases-loop-n
 decreases-loop-n l = length (tokens (drop l.next.offset l.line))

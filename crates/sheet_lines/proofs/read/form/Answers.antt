@@ -30,7 +30,12 @@ pub slice_bounds-word-end : goal.slice_bounds-word-end
 slice_bounds-word-end c = search (rules, c.next_token-t.ensures.onward.not_past)
 
 pub rule-requires : goal.rule-requires
-rule-requires c = record { offset_in_bounds = c.next_token-t.ensures.onward.not_past c.requires.offset_in_bounds; line_len_bound = few c.args.place.offset c.next_token-t.result.next.offset c.args.line.now c.next_token-t.ensures.rest c.requires.line_len_bound }
+rule-requires c =
+    record {
+      offset_in_bounds = c.next_token-t.ensures.onward.not_past c.requires.offset_in_bounds;
+      line_len_bound = few c.args.place.offset c.next_token-t.result.next.offset c.args.line.now
+          c.next_token-t.ensures.rest c.requires.line_len_bound;
+    }
 
 pub returns-then-is : goal.returns-then-is
 unfolding command
@@ -38,7 +43,8 @@ returns-then-is c =
     let ts = tokens (drop c.args.place.offset c.args.line.now) in
     record {
       answers = as_read c.rule.ensures.answers
-          (ap whether (ap (rule_form add) c.next_token-t.ensures.rest ∙ form-add _ (told 65 ts c.is.result _ c.next_token-t.ensures.first c.is.ensures c.if-is.true)));
+          (ap whether (ap (rule_form add) c.next_token-t.ensures.rest
+          ∙ form-add _ (told 65 ts c.is.result _ c.next_token-t.ensures.first c.is.ensures c.if-is.true)));
       onward = onward_then c.next_token-t.ensures.onward c.rule.ensures.onward;
     }
 
@@ -60,7 +66,11 @@ returns-then-is-2 c =
 
 pub replacement-requires : goal.replacement-requires
 replacement-requires c =
-    record { offset_in_bounds = c.next_token-t.ensures.onward.not_past c.requires.offset_in_bounds; line_len_bound = few c.args.place.offset c.next_token-t.result.next.offset c.args.line.now c.next_token-t.ensures.rest c.requires.line_len_bound }
+    record {
+      offset_in_bounds = c.next_token-t.ensures.onward.not_past c.requires.offset_in_bounds;
+      line_len_bound = few c.args.place.offset c.next_token-t.result.next.offset c.args.line.now
+          c.next_token-t.ensures.rest c.requires.line_len_bound;
+    }
 
 pub returns-then-is-3 : goal.returns-then-is-3
 unfolding command
@@ -105,7 +115,8 @@ returns-then-is-5 c =
           (told 65 ts c.is.result _ c.next_token-t.ensures.first c.is.ensures c.if-is.false)
           (told 82 ts c.is-2.result _ c.next_token-t.ensures.first c.is-2.ensures c.if-is-2.false)
           (told 80 ts c.is-3.result _ c.next_token-t.ensures.first c.is-3.ensures c.if-is-3.false)
-          (told 87 ts c.is-4.result _ c.next_token-t.ensures.first c.is-4.ensures c.if-is-4.false) (told 76 ts c.is-5.result _ c.next_token-t.ensures.first c.is-5.ensures c.if-is-5.true)));
+          (told 87 ts c.is-4.result _ c.next_token-t.ensures.first c.is-4.ensures c.if-is-4.false)
+          (told 76 ts c.is-5.result _ c.next_token-t.ensures.first c.is-5.ensures c.if-is-5.true)));
       onward = onward_then c.next_token-t.ensures.onward c.labels_form.ensures.onward;
     }
 
@@ -119,6 +130,7 @@ returns c =
           (told 65 ts c.is.result _ c.next_token-t.ensures.first c.is.ensures c.if-is.false)
           (told 82 ts c.is-2.result _ c.next_token-t.ensures.first c.is-2.ensures c.if-is-2.false)
           (told 80 ts c.is-3.result _ c.next_token-t.ensures.first c.is-3.ensures c.if-is-3.false)
-          (told 87 ts c.is-4.result _ c.next_token-t.ensures.first c.is-4.ensures c.if-is-4.false) (told 76 ts c.is-5.result _ c.next_token-t.ensures.first c.is-5.ensures c.if-is-5.false)));
+          (told 87 ts c.is-4.result _ c.next_token-t.ensures.first c.is-4.ensures c.if-is-4.false)
+          (told 76 ts c.is-5.result _ c.next_token-t.ensures.first c.is-5.ensures c.if-is-5.false)));
       onward = onward-to c.next_token-t.ensures.onward c.plain.ensures.place_value;
     }

@@ -15,7 +15,10 @@ returns-then-bytes_left-gt-LINE c =
     let many = c.bytes_left.ensures ∙ sym (length-drop c.args.place.offset c.args.line.now) in
     let long : LINE < length (drop c.args.place.offset c.args.line.now) =
     omega (arith, many, c.if-bytes_left-gt-LINE.true) in
-    record { answers = as_read c.plain.ensures.answers (reading-long _ long); onward = onward-here c.plain.ensures.place_value }
+    record {
+      answers = as_read c.plain.ensures.answers (reading-long _ long);
+      onward = onward-here c.plain.ensures.place_value;
+    }
 
 pub returns-then-ended : goal.returns-then-ended
 returns-then-ended c =
