@@ -1,6 +1,7 @@
 -- How an addition to a sound table ends, from the answers of its questions. Assumes nothing.
+use Rattle.std.specs.Prelude.{Ok, Err}
 use Prim.Native.Nat.{ℕ, ◌<◌}
-use mathlib.Core.Path.{◌≡◌, refl, sym, ◌∙◌, ap, subst}
+use mathlib.Core.Path.{◌≡◌, refl, sym, ◌∙◌, ap}
 use mathlib.Core.Bool.{Bool, true, false, not}
 use mathlib.Core.List.{List, [], ◌∷◌}
 use mathlib.Core.Option.{Option, none, some}
@@ -21,8 +22,6 @@ use Rattle.table.specs.Words.{table_of, rules_of}
 use Rattle.table.specs.Sound.{Sound}
 use Rattle.refusals.specs.declared.Refusal.{Refusal}
 use Rattle.refusals.specs.declared.Refusal.TheVariants as refusal
-use Rattle.calls.specs.declared.AddAnswer.TheVariants as added
-use Rattle.calls.specs.declared.Added.{Added}
 use Rattle.refusals.specs.Refusals.{number_of}
 use Rattle.calls.specs.Ends as contract
 use Rattle.calls.specs.Ends.{held, AddEnds}
@@ -31,16 +30,10 @@ use Rattle.new_rule.specs.Parts.{SlotWith}
 use Rattle.add_remove.proofs.Putting.{bounded-put, put-cyclic, put-stratified, put-sized, put-held}
 use Rattle.add_remove.proofs.Putting.{put-sound}
 
--- A refusal that hands the table back as it came.
-pub handed-back :
-    (t : Table) (q : theory.Rule) (f : Refusal) (r : Added) → r ≡ record { answer = added.Refused f; table = t }
-    → AddEnds t q (added.Refused f) t → AddEnds t q r.answer r.table
-handed-back t q f r e E = subst (λ (x : Added). AddEnds t q x.answer x.table) (sym e) E
-
 -- An addition of the rule q to the table t.
 module _ (t : Table) (S : Sound t) (q : theory.Rule) where
   pub refused-early :
-      (f : Refusal) → some (number_of f) ≡ first_no (rule_questions document q) → AddEnds t q (added.Refused f) t
+      (f : Refusal) → some (number_of f) ≡ first_no (rule_questions document q) → AddEnds t q (Err f) t
   refused-early f e = contract.refused f S (first_no-before (rule_questions document q) _ _ (sym e))
 
   module _ (pass : first_no (rule_questions document q) ≡ none) where
@@ -52,7 +45,7 @@ module _ (t : Table) (S : Sound t) (q : theory.Rule) where
         ∷ [])
     four = first_no-take 4 (add_questions document (all (held t)) q) pass
 
-    pub refused-same : any_rule (same q) (all (held t)) ≡ true → AddEnds t q (added.Refused refusal.SameRule) t
+    pub refused-same : any_rule (same q) (all (held t)) ≡ true → AddEnds t q (Err refusal.SameRule) t
     refused-same u = contract.refused refusal.SameRule S (four ∙ first_no-here _ _ (ap not u))
 
     module _ (other : any_rule (same q) (all (held t)) ≡ false) where
@@ -63,7 +56,7 @@ module _ (t : Table) (S : Sound t) (q : theory.Rule) where
           ∷ [])
       five = four ∙ first_no-yes _ _ (ap not other)
 
-      pub refused_full : lowest_free (all (held t)) ≡ none → AddEnds t q (added.Refused refusal.TableFull) t
+      pub refused_full : lowest_free (all (held t)) ≡ none → AddEnds t q (Err refusal.TableFull) t
       refused_full e = contract.refused refusal.TableFull S (five ∙ first_no-here _ _ (ap is_some e))
 
       alone : (k : ℕ) → Held (all (held t)) k (kept q) → ⊥
@@ -84,12 +77,12 @@ module _ (t : Table) (S : Sound t) (q : theory.Rule) where
           bounded-changed = bounded-put t S q pass s inside (λ k n. alone k) r R w put
 
           module _ (v : List ℕ) (b : Bool) (L : Relabelled w v b) where
-            pub refused-cycle : b ≡ false → AddEnds t q (added.Refused refusal.NegativeCycle) t
+            pub refused-cycle : b ≡ false → AddEnds t q (Err refusal.NegativeCycle) t
             refused-cycle e =
                 contract.refused refusal.NegativeCycle S
                 (six ∙ first_no-here _ _ (put-cyclic t S q pass s inside (λ k n. alone k) r R w put v b L e))
 
-            pub add-ends : b ≡ true → AddEnds t q (added.Taken (record { 0 = s })) (table_of v)
+            pub add-ends : b ≡ true → AddEnds t q (Ok (record { 0 = s })) (table_of v)
             add-ends e =
                 contract.accepted (record { 0 = s }) _ S
                 (six ∙ first_no-yes _ _ (put-stratified t S q pass s inside (λ k n. alone k) r R w put v b L e)

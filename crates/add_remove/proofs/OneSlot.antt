@@ -1,5 +1,6 @@
 -- A sound table with one slot changed: what its rules keep, that it is sound where each slot keeps what they ask for,
 -- and how a call ends that changes it so. Assumes nothing.
+use Rattle.std.specs.Prelude.{Ok}
 use Prim.Native.Nat.{ℕ, ◌<◌}
 use native.Mathlib.Omega.{arith}
 use mathlib.Core.Path.{◌≡◌, refl, sym, ◌∙◌, ap, subst}
@@ -28,7 +29,6 @@ use Rattle.table.specs.Clean.{CleanRule}
 use Rattle.table.specs.Sound.{Sound}
 use Rattle.table.proofs.Programs.{book-length, book-set, program-set}
 use Rattle.table.proofs.Words.{rules-length}
-use Rattle.calls.specs.declared.ChangeAnswer.TheVariants as changed
 use Rattle.calls.specs.Ends as contract
 use Rattle.calls.specs.Ends.{held, ChangeEnds}
 use Rattle.labels.specs.Labelling.{Relabelled}
@@ -140,7 +140,7 @@ module _ (t : Table) (S : Sound t) (s : ℕ) (inside : s < document.slots) (r : 
         -- ends accepted.
         pub accepted-after :
             (questions : List Question) → first_no questions ≡ none → (NegativeCycle (program_of after) → ⊥)
-            → ChangeEnds questions (book_of after) t changed.Accepted (table_of v)
+            → ChangeEnds questions (book_of after) t (Ok tt) (table_of v)
         accepted-after questions asked free =
             contract.accepted _ S asked (record { long = L.sized }) (ap book_of rows-after)
             (sound-after (not-cyclic b refl))

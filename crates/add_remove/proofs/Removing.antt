@@ -1,4 +1,5 @@
 -- How a removal from a sound table ends, from the answers of its questions. Assumes nothing.
+use Rattle.std.specs.Prelude.{Ok}
 use Prim.Native.Nat.{ℕ, ◌<◌}
 use mathlib.Core.Path.{◌≡◌, ◌∙◌, ap₂, subst}
 use mathlib.Core.Logic.{⊎_elim}
@@ -20,7 +21,6 @@ use Rattle.table.specs.Words.{table_of, rules_of}
 use Rattle.table.specs.Clean.{free_rule}
 use Rattle.table.specs.Sound.{Sound}
 use Rattle.table.proofs.Empty.{free-clean}
-use Rattle.calls.specs.declared.ChangeAnswer.TheVariants as changed
 use Rattle.calls.specs.Ends.{held, ChangeEnds, RemoveEnds}
 use Rattle.calls.proofs.Asking.{PassesSlot, slot-low}
 use Rattle.labels.specs.Labelling.{Relabelled}
@@ -54,9 +54,9 @@ module _ (t : Table) (S : Sound t) (s : ℕ) (inside : s < document.slots) where
 
     freed :
         first_no (slot_questions document (all (held t)) s) ≡ none → (v : List ℕ) (b : Bool) → Relabelled w v b
-        → RemoveEnds t s changed.Accepted (table_of v)
+        → RemoveEnds t s (Ok tt) (table_of v)
     freed asked v b L =
-        subst (λ (B : Pages). ChangeEnds (slot_questions document (all (held t)) s) B t changed.Accepted (table_of v))
+        subst (λ (B : Pages). ChangeEnds (slot_questions document (all (held t)) s) B t (Ok tt) (table_of v))
         (book-after t S s inside free_rule)
         (accepted-after t S s inside free_rule free-clean passes ascending fresh w put v b L _ asked rest-acyclic)
 
@@ -71,5 +71,5 @@ module _
     pub bounded-rest : Bounded (program_of (rules_of w)) document.atoms
     bounded-rest = bounded-freed t Q.sound s (slot-low t s x Q) w left
 
-    pub remove-ends : (v : List ℕ) (b : Bool) → Relabelled w v b → RemoveEnds t s changed.Accepted (table_of v)
+    pub remove-ends : (v : List ℕ) (b : Bool) → Relabelled w v b → RemoveEnds t s (Ok tt) (table_of v)
     remove-ends = freed t Q.sound s (slot-low t s x Q) w left Q.yes

@@ -1,16 +1,17 @@
-// The calls' answers as they cross to C: structs of numbers, where `refused` is 0 or the number of the refusal.
+// The calls' answers as they cross to C: structs of numbers, where `refused` is 0 or the number of the refusal. They are
+// no Result and no enum, since C reads them by the fields of include/yeqontur.h.
 #![tactic(auto)]
 
-ghost use Rattle.std.specs.Prelude.{◌≡◌, cond};
+ghost use Rattle.std.specs.Prelude.{◌≡◌, cond, Ok};
 ghost use Rattle.c_answers.specs.Numbers.{crossed_add, crossed_remove, crossed_label, crossed_spoiler, crossed_list};
 ghost use Rattle.refusals.specs.Refusals.{needed_by};
 ghost use Rattle.c_answers.specs.Numbers.{crossed_change, crossed_complete, wide_rule, crossed_rule};
+ghost use Rattle.queries.specs.RuleTold.{no_numbers};
 
-use calls::{AddAnswer, ChangeAnswer, LabelAnswer, ListAnswer, SpoilerAnswer};
-use checklist_meaning::CompleteAnswer;
-use queries::{RuleAnswer, RuleNumbers};
+use calls::RuleStatus;
+use queries::RuleNumbers;
 use refusals::{Refusal, refusal_number};
-use table::Table;
+use table::{Label, Slot, Table};
 
 // What a call that changes a table answers: the slot that an addition took, and the table handed back.
 #[repr(C)]
@@ -92,15 +93,12 @@ fn needed(f: Refusal) -> usize
     }
 }
 
-pub fn crossed_list(answer: ListAnswer) -> Written
+pub fn crossed_list(answer: Result<usize, Refusal>) -> Written
     ensures { result ≡ crossed_list answer }
 {
     match answer {
-        ListAnswer::Count(n) => Written {
-            refused: 0,
-            count: n,
-        },
-        ListAnswer::Refused(f) => Written {
+        Ok(count) => Written { refused: 0, count },
+        Err(f) => Written {
             refused: refusal_number(f),
             count: needed(f),
         },
@@ -109,16 +107,16 @@ pub fn crossed_list(answer: ListAnswer) -> Written
 
 // Each kind of answer as it crosses.
 
-pub fn crossed_add(answer: AddAnswer, after: Table) -> Change
+pub fn crossed_add(answer: Result<Slot, Refusal>, after: Table) -> Change
     ensures { result ≡ crossed_add answer after }
 {
     match answer {
-        AddAnswer::Taken(s) => Change {
+        Ok(s) => Change {
             refused: 0,
             slot: s.0 as u32,
             table: after,
         },
-        AddAnswer::Refused(f) => Change {
+        Err(f) => Change {
             refused: refusal_number(f),
             slot: 0,
             table: after,
@@ -126,16 +124,16 @@ pub fn crossed_add(answer: AddAnswer, after: Table) -> Change
     }
 }
 
-pub fn crossed_remove(slot: u32, answer: ChangeAnswer, after: Table) -> Change
+pub fn crossed_remove(slot: u32, answer: Result<(), Refusal>, after: Table) -> Change
     ensures { result ≡ crossed_remove slot answer after }
 {
     match answer {
-        ChangeAnswer::Accepted => Change {
+        Ok(()) => Change {
             refused: 0,
-            slot: slot,
+            slot,
             table: after,
         },
-        ChangeAnswer::Refused(f) => Change {
+        Err(f) => Change {
             refused: refusal_number(f),
             slot: 0,
             table: after,
@@ -143,29 +141,38 @@ pub fn crossed_remove(slot: u32, answer: ChangeAnswer, after: Table) -> Change
     }
 }
 
-pub fn crossed_label(answer: LabelAnswer) -> AtomLabel
-    ensures { result ≡ crossed_label answer }
+// A label as it crosses.
+fn wide_label(label: Label) -> AtomLabel
+    ensures { result ≡ crossed_label (Ok label) }
 {
-    match answer {
-        LabelAnswer::Absent => AtomLabel {
+    match label {
+        Label::Absent => AtomLabel {
             refused: 0,
             state: 0,
             depth: 0,
             slot: 0,
         },
-        LabelAnswer::Out => AtomLabel {
+        Label::Out => AtomLabel {
             refused: 0,
             state: 1,
             depth: 0,
             slot: 0,
         },
-        LabelAnswer::In(d, s) => AtomLabel {
+        Label::In(depth, slot) => AtomLabel {
             refused: 0,
             state: 2,
-            depth: d as u32,
-            slot: s.0 as u32,
+            depth: depth as u32,
+            slot: slot.0 as u32,
         },
-        LabelAnswer::Refused(f) => AtomLabel {
+    }
+}
+
+pub fn crossed_label(answer: Result<Label, Refusal>) -> AtomLabel
+    ensures { result ≡ crossed_label answer }
+{
+    match answer {
+        Ok(label) => wide_label(label),
+        Err(f) => AtomLabel {
             refused: refusal_number(f),
             state: 0,
             depth: 0,
@@ -205,44 +212,66 @@ fn wide_rule(refused: u32, rule: RuleNumbers) -> SlotRule
     }
 }
 
-pub fn crossed_rule(answer: RuleAnswer, rule: RuleNumbers) -> SlotRule
-    ensures { result ≡ crossed_rule answer rule }
+// The numbers of no rule.
+fn no_numbers() -> RuleNumbers
+    ensures { result ≡ no_numbers }
 {
-    match answer {
-        RuleAnswer::Held => wide_rule(0, rule),
-        RuleAnswer::Refused(f) => wide_rule(refusal_number(f), rule),
+    RuleNumbers {
+        head: 0,
+        muted: false,
+        positives: 0,
+        negatives: 0,
+        entries: [0; Table::ENTRIES],
     }
 }
 
-pub fn crossed_spoiler(answer: SpoilerAnswer) -> RuleSpoiler
-    ensures { result ≡ crossed_spoiler answer }
+pub fn crossed_rule(answer: Result<RuleNumbers, Refusal>) -> SlotRule
+    ensures { result ≡ crossed_rule answer }
 {
     match answer {
-        SpoilerAnswer::Valid => RuleSpoiler {
+        Ok(rule) => wide_rule(0, rule),
+        Err(f) => wide_rule(refusal_number(f), no_numbers()),
+    }
+}
+
+// What a rule is, as it crosses.
+fn wide_status(status: RuleStatus) -> RuleSpoiler
+    ensures { result ≡ crossed_spoiler (Ok status) }
+{
+    match status {
+        RuleStatus::Valid => RuleSpoiler {
             refused: 0,
             spoiled: 0,
             place: 0,
             atom: 0,
         },
-        SpoilerAnswer::Muted => RuleSpoiler {
+        RuleStatus::Muted => RuleSpoiler {
             refused: 0,
             spoiled: 3,
             place: 0,
             atom: 0,
         },
-        SpoilerAnswer::Positive(i, a) => RuleSpoiler {
+        RuleStatus::Positive(i, a) => RuleSpoiler {
             refused: 0,
             spoiled: 1,
             place: i as u32,
             atom: a.0 as u32,
         },
-        SpoilerAnswer::Negative(i, a) => RuleSpoiler {
+        RuleStatus::Negative(i, a) => RuleSpoiler {
             refused: 0,
             spoiled: 2,
             place: i as u32,
             atom: a.0 as u32,
         },
-        SpoilerAnswer::Refused(f) => RuleSpoiler {
+    }
+}
+
+pub fn crossed_spoiler(answer: Result<RuleStatus, Refusal>) -> RuleSpoiler
+    ensures { result ≡ crossed_spoiler answer }
+{
+    match answer {
+        Ok(status) => wide_status(status),
+        Err(f) => RuleSpoiler {
             refused: refusal_number(f),
             spoiled: 0,
             place: 0,
@@ -251,34 +280,30 @@ pub fn crossed_spoiler(answer: SpoilerAnswer) -> RuleSpoiler
     }
 }
 
-pub fn crossed_change(answer: ChangeAnswer, after: Table) -> Accepted
+pub fn crossed_change(answer: Result<(), Refusal>, after: Table) -> Accepted
     ensures { result ≡ crossed_change answer after }
 {
     match answer {
-        ChangeAnswer::Accepted => Accepted {
+        Ok(()) => Accepted {
             refused: 0,
             table: after,
         },
-        ChangeAnswer::Refused(f) => Accepted {
+        Err(f) => Accepted {
             refused: refusal_number(f),
             table: after,
         },
     }
 }
 
-pub fn crossed_complete(answer: CompleteAnswer) -> Completeness
+pub fn crossed_complete(answer: Result<bool, Refusal>) -> Completeness
     ensures { result ≡ crossed_complete answer }
 {
     match answer {
-        CompleteAnswer::Complete => Completeness {
+        Ok(complete) => Completeness {
             refused: 0,
-            complete: 1,
+            complete: bit(complete),
         },
-        CompleteAnswer::Incomplete => Completeness {
-            refused: 0,
-            complete: 0,
-        },
-        CompleteAnswer::Refused(f) => Completeness {
+        Err(f) => Completeness {
             refused: refusal_number(f),
             complete: 0,
         },

@@ -1,4 +1,5 @@
 -- What the answer to questions 15 and 10, or 15, 8 and 9, tells a call that starts with them. Assumes nothing.
+use Rattle.std.specs.Prelude.{Ok, Err}
 use Prim.Native.Nat.{ℕ, ◌≤◌, ◌<◌}
 use native.Mathlib.Omega.{arith}
 use mathlib.Core.Path.{◌≡◌, refl, sym, ◌∙◌, ap, subst}
@@ -25,14 +26,8 @@ use Rattle.table.specs.Clean.{free_rule}
 use Rattle.table.specs.Sound.{Sound}
 use Rattle.table.proofs.Programs.{slot-free, slot_held}
 use Rattle.refusals.specs.declared.Refusal.{Refusal}
-use Rattle.calls.specs.declared.AskedAtom.{AskedAtom}
-use Rattle.calls.specs.declared.AskedAtom.TheVariants.{Passed, Refused}
-use Rattle.calls.specs.declared.AskedSlot.{AskedSlot}
-use Rattle.calls.specs.declared.AskedSlot.TheVariants as slot
-use Rattle.calls.specs.declared.LabelAnswer.TheVariants as label
-use Rattle.calls.specs.declared.ListAnswer.TheVariants as listed
-use Rattle.calls.specs.declared.ChangeAnswer.TheVariants as changed
-use Rattle.calls.specs.declared.SpoilerAnswer.TheVariants as spoilt
+use Rattle.calls.specs.Answers.{AskedAtom}
+use Rattle.calls.specs.Answers.{AskedSlot}
 use Rattle.calls.specs.Asking.{AskAtomEnds, AskSlotEnds, unsound, refused, passed}
 use Rattle.calls.specs.Ends.{held, ChangeEnds, LabelEnds, ListEnds, SpoilerEnds}
 use Rattle.calls.specs.Ends as contract
@@ -59,28 +54,28 @@ pub passes-low : (t : Table) (a : ℕ) (x : Atom) → Passes t a x → a < docum
 passes-low t a x Q = ltb-lt a document.atoms (first_no-none (asks 10 (ltb a document.atoms)) [] Q.yes).0
 
 module _ (t : Table) (a : ℕ) (r : AskedAtom) (E : AskAtomEnds t a r) where
-  pub ask-passed : (x : Atom) → r ≡ Passed x → Passes t a x
+  pub ask-passed : (x : Atom) → r ≡ Ok x → Passes t a x
   ask-passed x e = go x (subst (AskAtomEnds t a) e E)
     where
-      go : (x : Atom) → AskAtomEnds t a (Passed x) → Passes t a x
+      go : (x : Atom) → AskAtomEnds t a (Ok x) → Passes t a x
       go x (passed S q) = record { sound = S; yes = q; atom = refl }
 
   -- One was answered no: so ends a call that starts with these questions.
-  module _ (f : Refusal) (e : r ≡ Refused f) where
-    pub label-refused : LabelEnds t a (label.Refused f)
+  module _ (f : Refusal) (e : r ≡ Err f) where
+    pub label-refused : LabelEnds t a (Err f)
     label-refused = go f (subst (AskAtomEnds t a) e E)
       where
-        go : (f : Refusal) → AskAtomEnds t a (Refused f) → LabelEnds t a (label.Refused f)
+        go : (f : Refusal) → AskAtomEnds t a (Err f) → LabelEnds t a (Err f)
         go f (unsound n) = contract.unsound n
         go f (refused g S q) = contract.refused g S q
 
     pub list-refused :
         (questions : List Question) (Is : AtomSet → List ℕ → Type 0) (before : List ℕ)
         → ((k : ℕ) → first_no (atom_questions document a) ≡ some k → first_no questions ≡ some k)
-        → ListEnds questions Is t before (listed.Refused f) before
+        → ListEnds questions Is t before (Err f) before
     list-refused questions Is before more = go f (subst (AskAtomEnds t a) e E)
       where
-        go : (f : Refusal) → AskAtomEnds t a (Refused f) → ListEnds questions Is t before (listed.Refused f) before
+        go : (f : Refusal) → AskAtomEnds t a (Err f) → ListEnds questions Is t before (Err f) before
         go f (unsound n) = contract.unsound n
         go f (refused g S q) = contract.refused g S (more _ q)
 
@@ -142,27 +137,27 @@ slot-low t s x Q =
     (first_no-none (asks 8 (ltb s document.slots)) (rule_asked t s ∷ []) Q.yes).0
 
 module _ (t : Table) (s : ℕ) (r : AskedSlot) (E : AskSlotEnds t s r) where
-  pub slot-passed : (x : Slot) → r ≡ slot.Passed x → PassesSlot t s x
+  pub slot-passed : (x : Slot) → r ≡ Ok x → PassesSlot t s x
   slot-passed x e = go x (subst (AskSlotEnds t s) e E)
     where
-      go : (x : Slot) → AskSlotEnds t s (slot.Passed x) → PassesSlot t s x
+      go : (x : Slot) → AskSlotEnds t s (Ok x) → PassesSlot t s x
       go x (passed S q) = record { sound = S; yes = q; slot = refl }
 
   -- One was answered no: so ends a call that starts with these questions.
-  module _ (f : Refusal) (e : r ≡ slot.Refused f) where
+  module _ (f : Refusal) (e : r ≡ Err f) where
     pub change-refused :
         (questions : List Question) (after : Pages)
         → ((k : ℕ) → first_no (slot_questions document (all (held t)) s) ≡ some k → first_no questions ≡ some k)
-        → ChangeEnds questions after t (changed.Refused f) t
+        → ChangeEnds questions after t (Err f) t
     change-refused questions after more = go f (subst (AskSlotEnds t s) e E)
       where
-        go : (f : Refusal) → AskSlotEnds t s (slot.Refused f) → ChangeEnds questions after t (changed.Refused f) t
+        go : (f : Refusal) → AskSlotEnds t s (Err f) → ChangeEnds questions after t (Err f) t
         go f (unsound n) = contract.unsound n
         go f (refused g S q) = contract.refused g S (more _ q)
 
-    pub spoiler-refused : SpoilerEnds t s (spoilt.Refused f)
+    pub spoiler-refused : SpoilerEnds t s (Err f)
     spoiler-refused = go f (subst (AskSlotEnds t s) e E)
       where
-        go : (f : Refusal) → AskSlotEnds t s (slot.Refused f) → SpoilerEnds t s (spoilt.Refused f)
+        go : (f : Refusal) → AskSlotEnds t s (Err f) → SpoilerEnds t s (Err f)
         go f (unsound n) = contract.unsound n
         go f (refused g S q) = contract.refused g S q

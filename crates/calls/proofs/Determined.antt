@@ -1,4 +1,5 @@
 -- Each contract determines its result: two results allowed for the same input are equal. Assumes nothing.
+use Rattle.std.specs.Prelude.{Result, Ok, Err}
 use Prim.Native.Nat.{ℕ}
 use native.Mathlib.Omega.{arith}
 use mathlib.Core.Path.{◌≡◌, refl, sym, ◌∙◌, ap, ap₂, subst, fun_ext}
@@ -23,19 +24,12 @@ use Rattle.table.specs.Labels.{label_at}
 use Rattle.table.specs.Sound.{Sound}
 use Rattle.refusals.specs.declared.Refusal.{Refusal}
 use Rattle.refusals.specs.declared.Refusal.TheVariants.{BufferTooShort}
-use Rattle.questions.specs.declared.AskedRule.{AskedRule}
-use Rattle.questions.specs.declared.AskedRule.TheVariants as rule
 use Rattle.questions.specs.Asked.{first_no_told}
-use Rattle.calls.specs.declared.AddAnswer.{AddAnswer}
-use Rattle.calls.specs.declared.AddAnswer.TheVariants as added
-use Rattle.calls.specs.declared.ChangeAnswer.{ChangeAnswer}
-use Rattle.calls.specs.declared.ChangeAnswer.TheVariants as changed
-use Rattle.calls.specs.declared.LabelAnswer.{LabelAnswer}
-use Rattle.calls.specs.declared.LabelAnswer.TheVariants as label
-use Rattle.calls.specs.declared.SpoilerAnswer.{SpoilerAnswer}
-use Rattle.calls.specs.declared.SpoilerAnswer.TheVariants as spoilt
-use Rattle.calls.specs.declared.ListAnswer.{ListAnswer}
-use Rattle.calls.specs.declared.ListAnswer.TheVariants as listed
+use Rattle.calls.specs.Answers.{AddAnswer}
+use Rattle.calls.specs.Answers.{ChangeAnswer}
+use Rattle.calls.specs.Answers.{LabelAnswer}
+use Rattle.calls.specs.Answers.{SpoilerAnswer}
+use Rattle.calls.specs.Answers.{ListAnswer}
 use Rattle.file_blocks.specs.Questions.{file_questions}
 use Rattle.refusals.specs.Refusals.{number_of}
 use Rattle.calls.specs.Answers.{tell_label, tell_page}
@@ -66,14 +60,14 @@ both qs k d e = none-ne-some k (sym e ∙ d)
 
 -- The answer to questions 1 to 4 of a rule is determined by its contract.
 pub ask-rule-determined :
-    (r : theory.Rule) (x y : AskedRule) → first_no_told x ≡ first_no (rule_questions document r)
+    (r : theory.Rule) (x y : Result (Unit {0}) Refusal) → first_no_told x ≡ first_no (rule_questions document r)
     → first_no_told y ≡ first_no (rule_questions document r) → x ≡ y
 unfolding every
-ask-rule-determined r rule.Passed rule.Passed d e = refl
-ask-rule-determined r rule.Passed (rule.Refused g) d e = absurd (both (rule_questions document r) _ (sym e) (sym d))
-ask-rule-determined r (rule.Refused f) rule.Passed d e = absurd (both (rule_questions document r) _ (sym d) (sym e))
-ask-rule-determined r (rule.Refused f) (rule.Refused g) d e =
-    ap rule.Refused (refusal-unique (rule_questions document r) refl f g (sym d) (sym e))
+ask-rule-determined r (Ok u) (Ok v) d e = refl
+ask-rule-determined r (Ok u) (Err g) d e = absurd (both (rule_questions document r) _ (sym e) (sym d))
+ask-rule-determined r (Err f) (Ok v) d e = absurd (both (rule_questions document r) _ (sym d) (sym e))
+ask-rule-determined r (Err f) (Err g) d e =
+    ap Err (refusal-unique (rule_questions document r) refl f g (sym d) (sym e))
 
 -- The admissible model of a sound table's unmuted rules is one set.
 pub same-model :
@@ -91,7 +85,7 @@ add-determined t r x y u v (contract.unsound n) (contract.refused g S e) = absur
 add-determined t r x y u v (contract.unsound n) (contract.accepted s w S e l Z h U) = absurd (n S)
 add-determined t r x y u v (contract.refused f S d) (contract.unsound n) = absurd (n S)
 add-determined t r x y u v (contract.refused f S d) (contract.refused g T e) =
-    (ap added.Refused (refusal-unique (add_questions document (all (held t)) r) refl f g d e), refl)
+    (ap Err (refusal-unique (add_questions document (all (held t)) r) refl f g d e), refl)
 add-determined t r x y u v (contract.refused f S d) (contract.accepted s w T e l Z h U) = absurd (both _ _ d e)
 add-determined t r x y u v (contract.accepted s w S d l Z h U) (contract.unsound n) = absurd (n S)
 add-determined t r x y u v (contract.accepted s w S d l Z h U) (contract.refused g T e) = absurd (both _ _ e d)
@@ -99,7 +93,7 @@ add-determined t r x y u v (contract.accepted s w S d l Z h U) (contract.accepte
     let same : s.0 ≡ q.0 = some-injective _ _ (sym l ∙ k) in
     let slot : s ≡ q = λ i. record { 0 = same i } in
     let rules = h ∙ ap (λ (n : ℕ). set (held t) n (some (new_page r))) same ∙ sym i in
-    (ap added.Taken slot, table-unique w z Z Y U W rules)
+    (ap Ok slot, table-unique w z Z Y U W rules)
 
 -- A call that answers that it was accepted, where its questions do not ask 11: the refusal is that of the first
 -- question answered no, and the pages afterwards determine the table.
@@ -111,7 +105,7 @@ change-determined qs other B t x y u v (contract.unsound n) (contract.refused g 
 change-determined qs other B t x y u v (contract.unsound n) (contract.accepted w S e Z h U) = absurd (n S)
 change-determined qs other B t x y u v (contract.refused f S d) (contract.unsound n) = absurd (n S)
 change-determined qs other B t x y u v (contract.refused f S d) (contract.refused g T e) =
-    (ap changed.Refused (refusal-unique qs other f g d e), refl)
+    (ap Err (refusal-unique qs other f g d e), refl)
 change-determined qs other B t x y u v (contract.refused f S d) (contract.accepted w T e Z h U) = absurd (both _ _ d e)
 change-determined qs other B t x y u v (contract.accepted w S d Z h U) (contract.unsound n) = absurd (n S)
 change-determined qs other B t x y u v (contract.accepted w S d Z h U) (contract.refused g T e) = absurd (both _ _ e d)
@@ -144,7 +138,7 @@ label-determined t a x y (contract.unsound n) (contract.refused g S e) = absurd 
 label-determined t a x y (contract.unsound n) (contract.accepted M k S e A L) = absurd (n S)
 label-determined t a x y (contract.refused f S d) (contract.unsound n) = absurd (n S)
 label-determined t a x y (contract.refused f S d) (contract.refused g T e) =
-    ap label.Refused (refusal-unique (atom_questions document a) refl f g d e)
+    ap Err (refusal-unique (atom_questions document a) refl f g d e)
 label-determined t a x y (contract.refused f S d) (contract.accepted M k T e A L) = absurd (both _ _ d e)
 label-determined t a x y (contract.accepted M k S d A L) (contract.unsound n) = absurd (n S)
 label-determined t a x y (contract.accepted M k S d A L) (contract.refused g T e) = absurd (both _ _ e d)
@@ -159,7 +153,7 @@ spoiler-determined t s x y (contract.unsound n) (contract.refused g S e) = absur
 spoiler-determined t s x y (contract.unsound n) (contract.accepted M r S e h A) = absurd (n S)
 spoiler-determined t s x y (contract.refused f S d) (contract.unsound n) = absurd (n S)
 spoiler-determined t s x y (contract.refused f S d) (contract.refused g T e) =
-    ap spoilt.Refused (refusal-unique (slot_questions document (all (held t)) s) refl f g d e)
+    ap Err (refusal-unique (slot_questions document (all (held t)) s) refl f g d e)
 spoiler-determined t s x y (contract.refused f S d) (contract.accepted M r T e h A) = absurd (both _ _ d e)
 spoiler-determined t s x y (contract.accepted M r S d h A) (contract.unsound n) = absurd (n S)
 spoiler-determined t s x y (contract.accepted M r S d h A) (contract.refused g T e) = absurd (both _ _ e d)
@@ -185,13 +179,13 @@ module _ (qs : List Question) (other : every (λ k. not (eqb k 11)) (map (λ q. 
   list-determined t b x y c d (contract.unsound n) (contract.accepted M xs S e A X k) = absurd (n S)
   list-determined t b x y c d (contract.refused f S e) (contract.unsound n) = absurd (n S)
   list-determined t b x y c d (contract.refused f S e) (contract.refused g T h) =
-      (ap listed.Refused (refusal-unique qs other f g e h), refl)
+      (ap Err (refusal-unique qs other f g e h), refl)
   list-determined t b x y c d (contract.refused f S e) (contract.short M xs T h A X k) = absurd (both _ _ e h)
   list-determined t b x y c d (contract.refused f S e) (contract.accepted M xs T h A X k) = absurd (both _ _ e h)
   list-determined t b x y c d (contract.short M xs S e A X k) (contract.unsound n) = absurd (n S)
   list-determined t b x y c d (contract.short M xs S e A X k) (contract.refused g T h) = absurd (both _ _ h e)
   list-determined t b x y c d (contract.short M xs S e A X k) (contract.short N ys T h B Y j) =
-      (ap (λ (zs : List ℕ). listed.Refused (BufferTooShort (length zs))) (same-list t M N xs ys S A B X Y), refl)
+      (ap (λ (zs : List ℕ). Err (BufferTooShort (length zs))) (same-list t M N xs ys S A B X Y), refl)
   list-determined t b x y c d (contract.short M xs S e A X k) (contract.accepted N ys T h B Y j) =
       absurd (omega (arith, ap length (same-list t M N xs ys S A B X Y)))
   list-determined t b x y c d (contract.accepted M xs S e A X k) (contract.unsound n) = absurd (n S)
@@ -200,7 +194,7 @@ module _ (qs : List Question) (other : every (λ k. not (eqb k 11)) (map (λ q. 
       absurd (omega (arith, ap length (same-list t M N xs ys S A B X Y)))
   list-determined t b x y c d (contract.accepted M xs S e A X k) (contract.accepted N ys T h B Y j) =
       let same = same-list t M N xs ys S A B X Y in
-      (ap (λ (zs : List ℕ). listed.Count (length zs)) same, ap (λ (zs : List ℕ). zs ++ drop (length zs) b) same)
+      (ap (λ (zs : List ℕ). Ok (length zs)) same, ap (λ (zs : List ℕ). zs ++ drop (length zs) b) same)
 
 -- Each of the four: a set is written ascending in one way, a reason by depth and then by number in one way.
 
@@ -244,7 +238,7 @@ pub load-determined :
     (bytes : List ℕ) (x y : ChangeAnswer) (u v : Table) → LoadEnds bytes x u → LoadEnds bytes y v → (x ≡ y) × (u ≡ v)
 unfolding every
 load-determined bytes x y u v (contract.refused f d) (contract.refused g e) =
-    (ap changed.Refused (refusal-unique (file_questions document bytes) refl f g d e), refl)
+    (ap Err (refusal-unique (file_questions document bytes) refl f g d e), refl)
 load-determined bytes x y u v (contract.refused f d) (contract.accepted w e Z h U) = absurd (both _ _ d e)
 load-determined bytes x y u v (contract.accepted w d Z h U) (contract.refused g e) = absurd (both _ _ e d)
 load-determined bytes x y u v (contract.accepted w d Z h U) (contract.accepted z e Y i W) =

@@ -1,6 +1,6 @@
 -- The ways in which each call can end (specification 4.2 to 4.10): the table not sound (15), the first question
 -- answered no, or accepted. Each says the answer, the table and every entry of the buffer. Assumes nothing.
-use Rattle.std.specs.Prelude.{ℕ, ◌≤◌, ◌<◌, ◌≡◌, Bool, List, [], ◌++◌, length, get_or, drop, set}
+use Rattle.std.specs.Prelude.{ℕ, ◌≤◌, ◌<◌, ◌≡◌, Bool, List, [], ◌++◌, length, get_or, drop, set, Ok, Err}
 use Rattle.std.proofs.Math.Option.{none, some}
 use Rattle.theory.specs.Lists.{Lists}
 use Rattle.theory.specs.Rules.{Page, Pages, all, active, new_page, with_mark}
@@ -23,16 +23,11 @@ use Rattle.file_blocks.specs.Files.{file_of}
 use Rattle.file_blocks.specs.Questions.{file_questions, pages_of}
 use Rattle.refusals.specs.declared.Refusal.{Refusal}
 use Rattle.refusals.specs.declared.Refusal.TheVariants.{BufferTooShort, TableUnsound}
-use Rattle.calls.specs.declared.AddAnswer.{AddAnswer}
-use Rattle.calls.specs.declared.AddAnswer.TheVariants as added
-use Rattle.calls.specs.declared.ChangeAnswer.{ChangeAnswer}
-use Rattle.calls.specs.declared.ChangeAnswer.TheVariants as changed
-use Rattle.calls.specs.declared.LabelAnswer.{LabelAnswer}
-use Rattle.calls.specs.declared.LabelAnswer.TheVariants as label
-use Rattle.calls.specs.declared.SpoilerAnswer.{SpoilerAnswer}
-use Rattle.calls.specs.declared.SpoilerAnswer.TheVariants as spoilt
-use Rattle.calls.specs.declared.ListAnswer.{ListAnswer}
-use Rattle.calls.specs.declared.ListAnswer.TheVariants as listed
+use Rattle.calls.specs.Answers.{AddAnswer}
+use Rattle.calls.specs.Answers.{ChangeAnswer}
+use Rattle.calls.specs.Answers.{LabelAnswer}
+use Rattle.calls.specs.Answers.{SpoilerAnswer}
+use Rattle.calls.specs.Answers.{ListAnswer}
 use Rattle.refusals.specs.Refusals.{number_of}
 use Rattle.calls.specs.Answers.{tell_label, tell_page}
 
@@ -47,25 +42,25 @@ pub record Sized (t : Table) : Type 0 where
 -- Add: 15, 1, 2, 3, 4, 5, 6, 7. Takes the lowest free slot, where the rule is kept with ascending lists, unmuted;
 -- every other slot keeps its rule and its mark.
 pub data AddEnds (t : Table) (r : theory.Rule) : AddAnswer → Table → Type 0 where
-  unsound : (Sound t → ⊥) → AddEnds t r (added.Refused TableUnsound) t
+  unsound : (Sound t → ⊥) → AddEnds t r (Err TableUnsound) t
   refused :
       (f : Refusal) → Sound t → first_no (add_questions document (all (held t)) r) ≡ some (number_of f)
-      → AddEnds t r (added.Refused f) t
+      → AddEnds t r (Err f) t
   accepted :
       (s : Slot) (u : Table) → Sound t → first_no (add_questions document (all (held t)) r) ≡ none
       → lowest_free (all (held t)) ≡ some s.0 → Sized u → held u ≡ set (held t) s.0 (some (new_page r)) → Sound u
-      → AddEnds t r (added.Taken s) u
+      → AddEnds t r (Ok s) u
 
 -- A call that changes a table and answers that it was accepted: 15, then its questions. Accepted, the slots hold
 -- what is said after them.
 pub data ChangeEnds (questions : List Question) (after : Pages) (t : Table) : ChangeAnswer → Table → Type 0 where
-  unsound : (Sound t → ⊥) → ChangeEnds questions after t (changed.Refused TableUnsound) t
+  unsound : (Sound t → ⊥) → ChangeEnds questions after t (Err TableUnsound) t
   refused :
       (f : Refusal) → Sound t → first_no questions ≡ some (number_of f)
-      → ChangeEnds questions after t (changed.Refused f) t
+      → ChangeEnds questions after t (Err f) t
   accepted :
       (u : Table) → Sound t → first_no questions ≡ none → Sized u → held u ≡ after → Sound u
-      → ChangeEnds questions after t changed.Accepted u
+      → ChangeEnds questions after t (Ok tt) u
 
 -- Remove: 15, 8, 9. That slot becomes free; every other keeps its rule and its mark.
 abbrev pub RemoveEnds : Table → ℕ → ChangeAnswer → Table → Type 0
@@ -82,10 +77,10 @@ MuteEnds t s m = ChangeEnds (slot_questions document (all (held t)) s) (with_mar
 
 -- Label: 15, 10. Answers absent, out, or in with depth and supporting slot.
 pub data LabelEnds (t : Table) (a : ℕ) : LabelAnswer → Type 0 where
-  unsound : (Sound t → ⊥) → LabelEnds t a (label.Refused TableUnsound)
+  unsound : (Sound t → ⊥) → LabelEnds t a (Err TableUnsound)
   refused :
       (f : Refusal) → Sound t → first_no (atom_questions document a) ≡ some (number_of f)
-      → LabelEnds t a (label.Refused f)
+      → LabelEnds t a (Err f)
   accepted :
       (M : AtomSet) (l : theory-labels.Label) → Sound t → first_no (atom_questions document a) ≡ none
       → Admissible (active (held t)) M → Labelled (held t) M a l → LabelEnds t a (tell_label l)
@@ -93,10 +88,10 @@ pub data LabelEnds (t : Table) (a : ℕ) : LabelAnswer → Type 0 where
 -- Spoiler: 15, 8, 9. Answers muted for a muted rule, whatever its entries; of any other valid, or the entry that
 -- spoils: its list, its place there and the atom.
 pub data SpoilerEnds (t : Table) (s : ℕ) : SpoilerAnswer → Type 0 where
-  unsound : (Sound t → ⊥) → SpoilerEnds t s (spoilt.Refused TableUnsound)
+  unsound : (Sound t → ⊥) → SpoilerEnds t s (Err TableUnsound)
   refused :
       (f : Refusal) → Sound t → first_no (slot_questions document (all (held t)) s) ≡ some (number_of f)
-      → SpoilerEnds t s (spoilt.Refused f)
+      → SpoilerEnds t s (Err f)
   accepted :
       (M : AtomSet) (p : Page) → Sound t → first_no (slot_questions document (all (held t)) s) ≡ none
       → get_or (held t) s none ≡ some p → Admissible (active (held t)) M → SpoilerEnds t s (tell_page M p)
@@ -105,17 +100,17 @@ pub data SpoilerEnds (t : Table) (s : ℕ) : SpoilerAnswer → Type 0 where
 -- and later entries stay. `Is M xs` says that xs is the list, in the model M.
 pub data ListEnds (questions : List Question) (Is : AtomSet → List ℕ → Type 0) (t : Table) (before : List ℕ) :
     ListAnswer → List ℕ → Type 0 where
-  unsound : (Sound t → ⊥) → ListEnds questions Is t before (listed.Refused TableUnsound) before
+  unsound : (Sound t → ⊥) → ListEnds questions Is t before (Err TableUnsound) before
   refused :
       (f : Refusal) → Sound t → first_no questions ≡ some (number_of f)
-      → ListEnds questions Is t before (listed.Refused f) before
+      → ListEnds questions Is t before (Err f) before
   short :
       (M : AtomSet) (xs : List ℕ) → Sound t → first_no questions ≡ none → Admissible (active (held t)) M → Is M xs
-      → length before < length xs → ListEnds questions Is t before (listed.Refused (BufferTooShort (length xs))) before
+      → length before < length xs → ListEnds questions Is t before (Err (BufferTooShort (length xs))) before
   accepted :
       (M : AtomSet) (xs : List ℕ) → Sound t → first_no questions ≡ none → Admissible (active (held t)) M → Is M xs
       → length xs ≤ length before
-      → ListEnds questions Is t before (listed.Count (length xs)) (xs ++ drop (length xs) before)
+      → ListEnds questions Is t before (Ok (length xs)) (xs ++ drop (length xs) before)
 
 -- Justifications, consequences, repercussions of an atom: 15, 10, 11. Each is written ascending, without repeats. The
 -- first two are of all rules held, repercussions and reasons of the unmuted ones.
@@ -143,7 +138,7 @@ SaveEnds t = ListEnds [] (λ M bs. bs ≡ file_of (held t)) t
 pub data LoadEnds (bytes : List ℕ) : ChangeAnswer → Table → Type 0 where
   refused :
       (f : Refusal) → first_no (file_questions document bytes) ≡ some (number_of f)
-      → LoadEnds bytes (changed.Refused f) empty_table
+      → LoadEnds bytes (Err f) empty_table
   accepted :
       (u : Table) → first_no (file_questions document bytes) ≡ none → Sized u → held u ≡ pages_of document bytes
-      → Sound u → LoadEnds bytes changed.Accepted u
+      → Sound u → LoadEnds bytes (Ok tt) u

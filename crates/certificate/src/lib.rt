@@ -60,15 +60,13 @@ fn confirmed(
         (depth_at table.now) (spoiler_at table.now) }
 {
     let mut given: [bool; Table::ATOMS] = [false; Table::ATOMS];
-    let mut i: usize = 0;
-    while i < Table::SLOTS {
+    for i in 0..Table::SLOTS {
         let rule = rule_at(table, i);
         let depth = depth_at(table, i);
         let spoiler = spoiler_at(table, i);
         if !compare(rule, depth, spoiler, flags, depths, &mut given) {
             return false;
         }
-        i += 1;
     }
     true
 }

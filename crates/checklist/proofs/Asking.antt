@@ -1,4 +1,5 @@
 -- How the calls that ask a checklist end: complete, and the list of files. Assumes nothing.
+use Rattle.std.specs.Prelude.{Ok, Err}
 use Prim.Native.Nat.{ℕ, ◌+◌, ◌≤◌, ◌<◌}
 use native.Mathlib.Omega.{arith}
 use mathlib.Core.Path.{◌≡◌, refl, sym, ◌∙◌, ap, ap₂, subst}
@@ -14,7 +15,7 @@ use Rattle.theory.proofs.Lists.{unless, and_l, and_r, and-of, le-or-lt}
 use Rattle.theory.proofs.Labels.{label_in}
 use Rattle.theory.proofs.Slots.{labelled}
 use Rattle.theory.proofs.Questions.{first_no-yes}
-use Rattle.table.specs.declared.Slot.{Slot}
+use Rattle.table.specs.declared.Label.{Label}
 use Rattle.table.specs.declared.Table.{Table}
 use Rattle.table.specs.declared.arrays.LabelArrays.{LabelArrays}
 use Rattle.table.specs.Sets.{member, Flags}
@@ -22,47 +23,34 @@ use Rattle.table.specs.Arrays.{ArraysOf}
 use Rattle.table.specs.Sound.{Sound}
 use Rattle.table.proofs.Members.{all_alike}
 use Rattle.refusals.specs.declared.Refusal.{Refusal}
-use Rattle.calls.specs.declared.LabelAnswer.{LabelAnswer}
-use Rattle.calls.specs.declared.LabelAnswer.TheVariants as label
-use Rattle.calls.specs.declared.ListAnswer.{ListAnswer}
+use Rattle.calls.specs.Answers.{ListAnswer}
 use Rattle.calls.specs.Ends as contract
 use Rattle.calls.specs.Ends.{held, LabelEnds}
 use Rattle.written_lists.specs.Lists.{below}
 use Rattle.written_lists.specs.Written.{Written, short, fits}
 use Rattle.written_lists.proofs.Lists.{flags-list}
-use Rattle.checklist_meaning.specs.declared.CompleteAnswer.TheVariants as told
 use Rattle.checklist_frame.specs.Frame.{Checklist, sent, skipped, good, on_list, is_mark, files_of, marked}
 use Rattle.checklist_meaning.specs.Questions.{lacks}
 use Rattle.checklist_meaning.specs.Ends as ends
-use Rattle.checklist_meaning.specs.Ends.{CompleteEnds, MissingEnds, tell_complete}
+use Rattle.checklist_meaning.specs.Ends.{CompleteEnds, MissingEnds}
 use Rattle.checklist.specs.Parts.{Lacking}
 use Rattle.checklist_frame.proofs.Frames.{on-list-between, between-on-list, checklist-of, mark-below, sent-mark}
 use Rattle.checklist_frame.proofs.Frames.{skipped-mark}
 use Rattle.checklist_meaning.proofs.Model.{mark-in}
-use Rattle.checklist.proofs.Labels.{Told, told-absent, told-out, told_in, told-refused, in?, model_in}
+use Rattle.checklist.proofs.Labels.{told-label, told-refused, in?, model_in}
 
 -- Complete is told as the label of the last file's good says: of the atom b, which is that good.
-module _
-    (t : Table) (n : ℕ) (e : files_of (held t) ≡ some n) (b : ℕ) (last : b ≡ good n) {x : LabelAnswer}
-    (E : LabelEnds t b x) where
-  complete-told : Told t b x → {y : Bool} → in? x ≡ y → CompleteEnds t (tell_complete y)
-  complete-told T q =
-      subst (λ (y : Bool). CompleteEnds t (tell_complete y)) (ap T.model (sym last) ∙ model_in t b T ∙ q)
+module _ (t : Table) (n : ℕ) (e : files_of (held t) ≡ some n) (b : ℕ) (last : b ≡ good n) where
+  pub complete-told : {l : Label} → LabelEnds t b (Ok l) → {y : Bool} → in? l ≡ y → CompleteEnds t (Ok y)
+  complete-told E q =
+      let T = told-label t b E in
+      subst (λ (y : Bool). CompleteEnds t (Ok y)) (ap T.model (sym last) ∙ model_in t b T ∙ q)
       (ends.accepted T.model n T.sound e T.admissible)
 
-  pub complete-in : {d : ℕ} {s : Slot} → x ≡ label.In d s → CompleteEnds t told.Complete
-  complete-in q = complete-told (told_in t b E q) (ap in? q)
-
-  pub complete-absent : x ≡ label.Absent → CompleteEnds t told.Incomplete
-  complete-absent q = complete-told (told-absent t b E q) (ap in? q)
-
-  pub complete-out : x ≡ label.Out → CompleteEnds t told.Incomplete
-  complete-out q = complete-told (told-out t b E q) (ap in? q)
-
-  pub complete-refused : {f : Refusal} → x ≡ label.Refused f → CompleteEnds t (told.Refused f)
-  complete-refused q =
-      let w = told-refused t b (omega (arith, (checklist-of (held t) n e).high)) E q in
-      subst (λ (g : Refusal). CompleteEnds t (told.Refused g)) (sym w.0) (ends.unsound (λ S. absurd (w.1 S)))
+  pub complete-refused : {f : Refusal} → LabelEnds t b (Err f) → CompleteEnds t (Err f)
+  complete-refused E =
+      let w = told-refused t b (omega (arith, (checklist-of (held t) n e).high)) E in
+      subst (λ (g : Refusal). CompleteEnds t (Err g)) (sym w.0) (ends.unsound (λ S. absurd (w.1 S)))
 
 -- Which of n files lack something, by the atoms that are in: told for the files below i, and of no other number yet.
 abbrev lacking_in : List Bool → ℕ → Bool

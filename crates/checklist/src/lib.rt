@@ -10,27 +10,19 @@ ghost use Rattle.checklist_frame.specs.Frame.{most_files};
 ghost use Rattle.checklist_meaning.specs.Ends.{MissingEnds, CompleteEnds};
 ghost use Rattle.checklist.specs.Parts.{Lacking};
 
-use calls::{LabelAnswer, ListAnswer};
 use checklist_frame::{MOST_FILES, Mark, file_count, good_atom, mark_atom};
-use checklist_meaning::CompleteAnswer;
 use queries::label;
 use refusals::Refusal;
-use table::Table;
 use table::arrays::arrays_of;
 use table::sets::has;
+use table::{Label, Table};
 use written_lists::write_marked;
 
 // Is the table sound? Every call that answers no refusal 15 says so; this one asks about an atom that passes 10.
 pub fn is_sound(table: &[u16; Table::WORDS]) -> bool
     ensures { (result ≡ true) ↔ Sound (table_of table.now) }
 {
-    let told = label(table, 0);
-    match told {
-        LabelAnswer::Refused(why) => false,
-        LabelAnswer::Absent => true,
-        LabelAnswer::Out => true,
-        LabelAnswer::In(d, s) => true,
-    }
+    label(table, 0).is_ok()
 }
 
 // Which of n files are unsent or have a skip standing, by the atoms that are in.
@@ -39,48 +31,42 @@ fn lacking(flags: &[bool; Table::ATOMS], n: usize) -> [bool; MOST_FILES + 1]
     ensures { Lacking flags.now n result }
 {
     let mut lacks: [bool; MOST_FILES + 1] = [false; MOST_FILES + 1];
-    let mut i: usize = 1;
-    while i <= n {
+    for i in 1..=n {
         let sent = mark_atom(Mark::Sent, i as u16);
         let skipped = mark_atom(Mark::Skipped, i as u16);
         lacks[i] = !has(flags, sent) | has(flags, skipped);
-        i += 1;
     }
     lacks
 }
 
 // The files that are unsent or have a skip standing, written ascending from the start of the buffer; their count is
 // answered, and later entries stay. Asks 15, 11.
-pub fn missing(table: &[u16; Table::WORDS], buffer: &mut [u32]) -> ListAnswer
+pub fn missing(table: &[u16; Table::WORDS], buffer: &mut [u32]) -> Result<usize, Refusal>
     ensures { MissingEnds (table_of table.now) buffer.old result buffer.new }
 {
     if !is_sound(table) {
-        return ListAnswer::Refused(Refusal::TableUnsound);
+        return Err(Refusal::TableUnsound);
     }
-    let files = file_count(table);
-    if files == 0 {
-        return ListAnswer::Refused(Refusal::TableUnsound); // sound, and no checklist
-    }
+    let Some(files) = file_count(table) else {
+        return Err(Refusal::TableUnsound); // sound, and no checklist
+    };
     let kept = arrays_of(table);
-    let flags = kept.flags;
-    let lacks = lacking(&flags, files);
+    let lacks = lacking(&kept.flags, files);
     write_marked(&lacks, buffer)
 }
 
 // Is the last file's good in? Asks 15.
-pub fn complete(table: &[u16; Table::WORDS]) -> CompleteAnswer
+pub fn complete(table: &[u16; Table::WORDS]) -> Result<bool, Refusal>
     ensures { CompleteEnds (table_of table.now) result }
 {
-    let n = file_count(table);
-    if n == 0 {
-        return CompleteAnswer::Refused(Refusal::TableUnsound);
-    }
+    let Some(n) = file_count(table) else {
+        return Err(Refusal::TableUnsound); // whether or not it is sound
+    };
     let last = good_atom(n as u16);
-    let told = label(table, last.0 as u32);
+    let told = label(table, last.0 as u32)?;
     match told {
-        LabelAnswer::In(d, s) => CompleteAnswer::Complete,
-        LabelAnswer::Refused(why) => CompleteAnswer::Refused(why),
-        LabelAnswer::Absent => CompleteAnswer::Incomplete,
-        LabelAnswer::Out => CompleteAnswer::Incomplete,
+        Label::In(depth, slot) => Ok(true),
+        Label::Absent => Ok(false),
+        Label::Out => Ok(false),
     }
 }

@@ -1,5 +1,6 @@
 -- Request #106 over sequences holds: `deposit`, whatever calls came before the opening (`deposit-after`); and after an
 -- opening that was refused every call on a file meets 15 (`refused-opening`). Assumes nothing.
+use Rattle.std.specs.Prelude.{Ok}
 use Prim.Native.Nat.{ℕ, ◌≤◌}
 use native.Mathlib.Omega.{arith}
 use mathlib.Core.Path.{◌≡◌, refl, sym, ◌∙◌, ap, ap₂, subst}
@@ -20,19 +21,16 @@ use Rattle.theory.proofs.Questions.{first_no-none}
 use Rattle.table.specs.declared.Table.{Table}
 use Rattle.table.specs.Clean.{empty_table}
 use Rattle.table.specs.Sound.{Sound}
-use Rattle.calls.specs.declared.ChangeAnswer.{ChangeAnswer}
-use Rattle.calls.specs.declared.ListAnswer.{ListAnswer}
-use Rattle.calls.specs.declared.ListAnswer.TheVariants.{Count}
+use Rattle.calls.specs.Answers.{ChangeAnswer}
+use Rattle.calls.specs.Answers.{ListAnswer}
 use Rattle.calls.specs.Answers.{book_change}
 use Rattle.calls.specs.Ends.{held}
-use Rattle.checklist_meaning.specs.declared.CompleteAnswer.{CompleteAnswer}
-use Rattle.checklist_meaning.specs.declared.CompleteAnswer.TheVariants.{Complete}
 use Rattle.checklist_frame.specs.Frame.{Checklist, most_files, sent, skipped, on_list, is_mark, files_of, marked}
 use Rattle.checklist_meaning.specs.Questions.{FileCall, file_sent, file_skipped, skip_withdrawn, file, allowed}
 use Rattle.checklist_meaning.specs.Questions.{mark_questions, open_questions}
 use Rattle.checklist_meaning.specs.Book.{opening, of_file, marks_changed, opened}
 use Rattle.checklist_meaning.specs.Ends as list
-use Rattle.checklist_meaning.specs.Ends.{OpenEnds, FileEnds, MissingEnds, CompleteEnds}
+use Rattle.checklist_meaning.specs.Ends.{CompleteAnswer, OpenEnds, FileEnds, MissingEnds, CompleteEnds}
 use Rattle.checklist_deposits.specs.Standing.{was_accepted, sent_by, standing_by, unless_refused, after_calls}
 use Rattle.checklist_deposits.specs.Standing.{been_sent, skip_standing}
 use Rattle.checklist_frame.proofs.Frames.{on-list-between, between-on-list, of-checklist, sent-mark, skipped-mark}
@@ -262,7 +260,7 @@ module _
   abbrev same : AllClear (held u) n ↔ NoneMissing n cs xs
   same = clear_none n cs xs (held u) sends skips
 
-  complete-none : (x : CompleteAnswer) → CompleteEnds u x → (x ≡ Complete) ↔ NoneMissing n cs xs
+  complete-none : (x : CompleteAnswer) → CompleteEnds u x → (x ≡ Ok true) ↔ NoneMissing n cs xs
   complete-none x E = (
     λ e. (let w = complete-clear u x e E in
         let q : w.0 ≡ n = some-injective w.0 n (sym w.2 ∙ files) in
@@ -272,17 +270,17 @@ module _
 
   empty-none :
       (before : List ℕ) (x : ListAnswer) (after : List ℕ) → MissingEnds u before x after
-      → (x ≡ Count 0) ↔ NoneMissing n cs xs
+      → (x ≡ Ok 0) ↔ NoneMissing n cs xs
   empty-none before x after E = (
     λ e. same.0 (count-clear u before after n files (counted u before x after 0 e E)),
     λ g. clear-count u before x after n S files (same.1 g) E,
   )
 
   list-files :
-      (before after : List ℕ) (k : ℕ) → MissingEnds u before (Count k) after
+      (before after : List ℕ) (k : ℕ) → MissingEnds u before (Ok k) after
       → (is : List ℕ) × (length is ≡ k) × (after ≡ is ++ drop k before) × Lists is (MissingFile n cs xs)
   list-files before after k E =
-      let c = counted u before (Count k) after k refl E in
+      let c = counted u before (Ok k) after k refl E in
       let w = missing-same n cs xs (held u) sends skips files in (
         c.written,
         c.many,

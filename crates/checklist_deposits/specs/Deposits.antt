@@ -1,7 +1,7 @@
 -- Request #106 over sequences (specification 9.7): a checklist was opened for n files, the opening was accepted, and
 -- then calls on files were made, whichever they were. What the table shows is read off these calls and their answers.
 -- Assumes nothing.
-use Rattle.std.specs.Prelude.{ℕ, ◌≤◌, ◌≡◌, ◌⊎◌, ◌↔◌, true, false, List, ◌∷◌, ◌++◌, map, length, drop}
+use Rattle.std.specs.Prelude.{ℕ, ◌≤◌, ◌≡◌, ◌⊎◌, ◌↔◌, true, false, List, ◌∷◌, ◌++◌, map, length, drop, Ok}
 use Rattle.std.proofs.Math.Option.{some}
 use Rattle.theory.specs.Lists.{Lists}
 use Rattle.theory.specs.Rules.{active}
@@ -10,15 +10,12 @@ use Rattle.theory.specs.Book.{Answer}
 use Rattle.theory.specs.Limits.{document}
 use Rattle.table.specs.declared.Table.{Table}
 use Rattle.table.specs.Sound.{Sound}
-use Rattle.calls.specs.declared.ListAnswer.{ListAnswer}
-use Rattle.calls.specs.declared.ListAnswer.TheVariants.{Count}
+use Rattle.calls.specs.Answers.{ListAnswer}
 use Rattle.calls.specs.Ends.{held}
-use Rattle.checklist_meaning.specs.declared.CompleteAnswer.{CompleteAnswer}
-use Rattle.checklist_meaning.specs.declared.CompleteAnswer.TheVariants.{Complete}
 use Rattle.checklist_frame.specs.Frame.{sent, skipped, good, files_of, marked}
 use Rattle.checklist_meaning.specs.Questions.{FileCall}
 use Rattle.checklist_meaning.specs.Book.{opening, of_file, opened}
-use Rattle.checklist_meaning.specs.Ends.{MissingEnds, CompleteEnds}
+use Rattle.checklist_meaning.specs.Ends.{CompleteAnswer, MissingEnds, CompleteEnds}
 use Rattle.checklist_deposits.specs.Standing.{been_sent, skip_standing}
 use Rattle.history.specs.Calls.{Call, checklist, calls_answers, calls_after}
 
@@ -50,12 +47,12 @@ pub record Deposit (n : ℕ) (cs : List FileCall) (xs : List Answer) (u : Table)
   pub skip_marks : (i : ℕ) → 1 ≤ i → i ≤ n → marked (held u) (skipped i) ≡ skip_standing i cs xs
   -- complete is in if and only if every file has been sent and none has a skip standing; and so it is answered
   pub complete : (M : AtomSet) → Admissible (active (held u)) M → (M (good n) ≡ true) ↔ NoneMissing n cs xs
-  pub complete_answer : (x : CompleteAnswer) → CompleteEnds u x → (x ≡ Complete) ↔ NoneMissing n cs xs
+  pub complete_answer : (x : CompleteAnswer) → CompleteEnds u x → (x ≡ Ok true) ↔ NoneMissing n cs xs
   -- the list of files is empty if and only if every file has been sent and none has a skip standing; what it writes are
   -- exactly the files that have not been sent or have a skip standing, ascending
   pub empty_answer :
       (before : List ℕ) (x : ListAnswer) (after : List ℕ) → MissingEnds u before x after
-      → (x ≡ Count 0) ↔ NoneMissing n cs xs
+      → (x ≡ Ok 0) ↔ NoneMissing n cs xs
   pub list_answer :
-      (before after : List ℕ) (k : ℕ) → MissingEnds u before (Count k) after
+      (before after : List ℕ) (k : ℕ) → MissingEnds u before (Ok k) after
       → (is : List ℕ) × (length is ≡ k) × (after ≡ is ++ drop k before) × Lists is (MissingFile n cs xs)

@@ -18,7 +18,6 @@ use Rattle.theory.proofs.Lists.{first-place, first-in, first-exists, first_of}
 use Rattle.checklist_frame.specs.Frame.{Checklist, most_files, sent, skipped, good, fact, frame, files, is_mark}
 use Rattle.checklist_frame.specs.Frame.{equal_lists}
 use Rattle.checklist_frame.specs.Frame.{equal, free_or_mark, fits, fits_from, files_of, none_muted, on_list}
-use Rattle.checklist_frame.specs.Parts.{count_of}
 use Rattle.checklist_frame.proofs.Unmuted.{unmuted-page}
 
 -- Lists that are told equal are; so are rules, and each is equal to itself.
@@ -296,21 +295,6 @@ no-files B f = go (files_of B) refl
 pub muted-no-files :
     (B : Pages) (s : ℕ) (p : Page) → get_or B s none ≡ some p → p.muted ≡ true → files_of B ≡ none
 muted-no-files B s p e m = no-files B (λ n C. clash m (unmuted-page B C.unmuted s p e))
-
--- The number that was counted is that of the files, and 0 says that there is no checklist.
-module _ (B : Pages) (n : ℕ) (e : n ≡ count_of (files_of B)) where
-  counted : (o : Option ℕ) → files_of B ≡ o → (n ≡ 0 → files_of B ≡ none) × ((n ≡ 0 → ⊥) → files_of B ≡ some n)
-  counted none q = (λ z. q, λ l. absurd (l (e ∙ ap count_of q)))
-  counted (some m) q =
-      let C = checklist-of B m q in
-      let z : n ≡ m = e ∙ ap count_of q in
-      (λ y. absurd (omega (arith, C.low)), λ l. q ∙ ap some (sym z))
-
-  pub counted_none : n ≡ 0 → files_of B ≡ none
-  counted_none = (counted (files_of B) refl).0
-
-  pub counted-some : (n ≡ 0 → ⊥) → files_of B ≡ some n
-  counted-some = (counted (files_of B) refl).1
 
 -- A file on the list is one of at most 60.
 pub on-list-few :

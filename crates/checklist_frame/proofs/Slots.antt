@@ -23,7 +23,7 @@ use Rattle.table.proofs.Programs.{active-rule, active-some, active-state, active
 use Rattle.table.proofs.Programs.{page-there, program-length}
 use Rattle.checklist_frame.specs.Frame.{MarkFact, Checklist, fact, frame, is_mark, files_of, none_muted}
 use Rattle.checklist_frame.specs.Frame.{unmuted_on}
-use Rattle.checklist_frame.specs.Parts.{FreeOrMark, FrameRun, MarksBehind, count_of}
+use Rattle.checklist_frame.specs.Parts.{FreeOrMark, FrameRun, MarksBehind}
 use Rattle.checklist_frame.proofs.Unmuted.{active-all, active-page, page-active, unmuted-of, unmuted-page}
 use Rattle.checklist_frame.proofs.Frames.{frame-not-fact, of-checklist, no-files}
 
@@ -201,8 +201,12 @@ module _ (rules : List Rule) where
       ends = λ k w. f (sym (active-place rules (n + 1)) ∙ w (n + 1) (omega arith));
     }
 
-    pub run-full : n ≤ 60 → 60 ≤ n → FrameRun (active_of rules) n
-    run-full l m = record { few = l; stands = λ k. all; ends = λ k w. absurd (omega arith) }
+    pub run-full : 60 ≤ n → FrameRun (active_of rules) 60
+    run-full m = record {
+      few = omega arith;
+      stands = λ k s l. all s (omega (arith, l, m));
+      ends = λ k w. absurd (omega arith);
+    }
 
 -- The slots from n + 1 to below s are free or hold marks.
 abbrev pub MarksTo : Pages → ℕ → ℕ → Type 0
@@ -246,16 +250,16 @@ module _ (B : Pages) (n : ℕ) (R : FrameRun (active B) n) where
       unmuted-frame : Stands (active B) m
       unmuted-frame s k = ap (λ (P : Program). get_or P s none) (active-all B C.unmuted) ∙ C.frames s k
 
-  pub count_none : n ≡ 0 → 0 ≡ count_of (files_of B)
-  count_none z = sym (ap count_of (no-files B (λ m C. omega (arith, run-number m C, C.low))))
+  pub count_none : n ≡ 0 → none ≡ files_of B
+  count_none z = sym (no-files B (λ m C. omega (arith, run-number m C, C.low)))
 
   module _ (b : Bool) (behind : MarksBehind B n b) where
-    pub count-broken : b ≡ false → 0 ≡ count_of (files_of B)
+    pub count-broken : b ≡ false → none ≡ files_of B
     count-broken f =
-        sym (ap count_of (no-files B (λ m C. (
+        sym (no-files B (λ m C. (
         let D : Checklist B n = subst (Checklist B) (run-number m C) C in
         clash (behind.1 (λ s l p e.
-        (unmuted-page B D.unmuted s p e, D.others s p.rule l (held-page B s p e)))) f))))
+        (unmuted-page B D.unmuted s p e, D.others s p.rule l (held-page B s p e)))) f)))
 
     -- no page is muted: neither the frame's nor one behind it
     whole-unmuted : 1 ≤ n → b ≡ true → none_muted B ≡ true
@@ -272,9 +276,9 @@ module _ (B : Pages) (n : ℕ) (R : FrameRun (active B) n) where
         of-mark none w = refl
         of-mark (some p) w = false-not p.muted (w p refl).0
 
-    pub count-whole : (n ≡ 0 → ⊥) → b ≡ true → n ≡ count_of (files_of B)
+    pub count-whole : (n ≡ 0 → ⊥) → b ≡ true → some n ≡ files_of B
     count-whole l t =
-        sym (ap count_of (of-checklist B n (record {
+        sym (of-checklist B n (record {
           low = omega arith;
           high = R.few;
           unmuted = whole-unmuted (omega arith) t;
@@ -282,4 +286,4 @@ module _ (B : Pages) (n : ℕ) (R : FrameRun (active B) n) where
           others = λ s r k h. (
               let p = page-held B s r h in
               subst (MarkFact n) p.2 (behind.0 t s k p.0 p.1).1);
-        })))
+        }))

@@ -1,6 +1,7 @@
 -- Private to the crates behind the checklist's calls: what the functions that read a table's slots tell. No call's
 -- contract speaks of it. Assumes nothing.
 use Rattle.std.specs.Prelude.{ℕ, suc, ◌≤◌, ◌<◌, ◌≡◌, Bool, true, false, ◌↔◌, get_or}
+use Rattle.std.specs.Prelude as prelude
 use Rattle.std.proofs.Math.Option.{Option, none, some}
 use Rattle.theory.specs.Rules.{Program, Page, Pages, Held}
 use Rattle.checklist_frame.specs.declared.Mark.{Mark}
@@ -12,10 +13,10 @@ abbrev pub mark_atom : Mark → ℕ → ℕ
 mark_atom mark.Sent i = sent i
 mark_atom mark.Skipped i = skipped i
 
--- How many files, 0 where there is no checklist.
-abbrev pub count_of : Option ℕ → ℕ
-count_of none = 0
-count_of (some n) = n
+-- How many files a checklist has, if there is one, as a function tells it.
+abbrev pub files_told : prelude.Option ℕ → Option ℕ
+files_told prelude.None = none
+files_told (prelude.Some n) = some n
 
 -- The frame of n files stands from slot 0 on, and not that of one more, unless n is the most. Where n is 0 it need not
 -- have its start. (It is asked of the unmuted rules.)

@@ -8,7 +8,7 @@ ghost use Rattle.theory.specs.Rules.{entries};
 ghost use Rattle.table.specs.Rules.{numbers, page_of, active_in, book_of, active_of};
 ghost use Rattle.table.specs.Words.{rules_of};
 ghost use Rattle.checklist_frame.specs.Frame.{most_files, good, fact, frame, on_list, is_mark, files_of};
-ghost use Rattle.checklist_frame.specs.Parts.{mark_atom, FreeOrMark, FrameRun, MarksBehind, count_of};
+ghost use Rattle.checklist_frame.specs.Parts.{mark_atom, FreeOrMark, FrameRun, MarksBehind, files_told};
 
 use table::slots::rule_at;
 use table::{Atom, Rule, Table};
@@ -147,15 +147,13 @@ fn frame_run(table: &[u16; Table::WORDS]) -> usize
     if !holds_fact(start, Atom(0)) {
         return 0;
     }
-    let mut n: usize = 0;
-    while n < MOST_FILES {
+    for n in 0..MOST_FILES {
         let rule = rule_at(table, n + 1);
         if !holds_file(rule, n as u16 + 1) {
             return n;
         }
-        n += 1;
     }
-    n
+    MOST_FILES
 }
 
 // Does every slot behind the frame of n files hold nothing, or the fact of a mark, unmuted?
@@ -163,27 +161,25 @@ fn marks_behind(table: &[u16; Table::WORDS], n: usize) -> bool
     requires { n ≤ most_files }
     ensures { MarksBehind (book_of (rules_of table.now)) n result }
 {
-    let mut s: usize = n + 1;
-    while s < Table::SLOTS {
+    for s in n + 1..Table::SLOTS {
         let rule = rule_at(table, s);
         if !free_or_mark(rule, n as u16) {
             return false;
         }
-        s += 1;
     }
     true
 }
 
-// How many files the checklist has that the rules are; 0 where they are none.
-pub fn file_count(table: &[u16; Table::WORDS]) -> usize
-    ensures { result ≡ count_of (files_of (book_of (rules_of table.now))) }
+// How many files the checklist has that the rules are, if they are one.
+pub fn file_count(table: &[u16; Table::WORDS]) -> Option<usize>
+    ensures { files_told result ≡ files_of (book_of (rules_of table.now)) }
 {
     let n = frame_run(table);
     if n == 0 {
-        return 0;
+        return None;
     }
     if !marks_behind(table, n) {
-        return 0;
+        return None;
     }
-    n
+    Some(n)
 }

@@ -1,4 +1,6 @@
 -- How the calls on a file end, from what add, remove and label answered. Assumes nothing.
+use Rattle.std.specs.Prelude.{Ok, Err}
+use Rattle.table.specs.declared.Label.{Label}
 use Prim.Native.Nat.{ℕ, ◌<◌}
 use native.Mathlib.Omega.{arith}
 use mathlib.Core.Path.{◌≡◌, refl, sym, ◌∙◌, ap, subst}
@@ -23,15 +25,9 @@ use Rattle.table.specs.Sound.{Sound}
 use Rattle.refusals.specs.declared.Refusal.{Refusal}
 use Rattle.refusals.specs.declared.Refusal.TheVariants.{FileNotListed, MarkUnchanged}
 use Rattle.refusals.specs.Refusals.{number_of}
-use Rattle.calls.specs.declared.AddAnswer.{AddAnswer}
-use Rattle.calls.specs.declared.AddAnswer.TheVariants as added
-use Rattle.calls.specs.declared.ChangeAnswer.{ChangeAnswer}
-use Rattle.calls.specs.declared.ChangeAnswer.TheVariants as change
-use Rattle.calls.specs.declared.Changed.{Changed}
-use Rattle.calls.specs.declared.LabelAnswer.{LabelAnswer}
-use Rattle.calls.specs.declared.LabelAnswer.TheVariants as label
+use Rattle.calls.specs.Answers.{AddAnswer, ChangeAnswer}
 use Rattle.calls.specs.Ends as contract
-use Rattle.calls.specs.Ends.{held, AddEnds, RemoveEnds, LabelEnds}
+use Rattle.calls.specs.Ends.{held, AddEnds}
 use Rattle.checklist_frame.specs.declared.Mark.{Mark}
 use Rattle.checklist_frame.specs.declared.Mark.TheVariants.{Sent, Skipped}
 use Rattle.checklist_frame.specs.Frame.{Checklist, sent, skipped, fact, on_list, is_mark, files_of, marked}
@@ -46,65 +42,22 @@ use Rattle.checklist_meaning.proofs.Questions.{off_list, not-allowed, is-allowed
 use Rattle.checklist_meaning.proofs.Marks.{marked-at, marked-of, checklist-stratified, free-slot, added-checklist}
 use Rattle.checklist_meaning.proofs.Marks.{rules-added, fact-slot}
 use Rattle.checklist_meaning.proofs.Model.{mark-in, mark-support}
-use Rattle.checklist_marks.specs.declared.AskedFile.{AskedFile}
-use Rattle.checklist_marks.specs.declared.AskedFile.TheVariants as asked
-use Rattle.checklist_marks.specs.Parts.{FileAsked, FactAdded, taken, stands, other, FactRemoved, Handled}
-use Rattle.checklist_marks.specs.Parts.{MarkAdded}
-use Rattle.checklist_marks.specs.Parts.{MarkRemoved}
+use Rattle.checklist_marks.specs.Parts.{FileAsked, FactAdded, taken, stands, other, FactRemoved}
 use Rattle.checklist_marks.specs.Parts as parts
-use Rattle.checklist.proofs.Labels.{Told, told-absent, told-out, told_in, told-refused}
+use Rattle.checklist.proofs.Labels.{Told, told-label, told-refused}
 use Rattle.checklist.proofs.Labels.{in?, slot?, model_in, supporting-slot}
-
--- An answer and a table handed back together.
-pub handed :
-    (Q : ChangeAnswer → Table → Type 0) {x : ChangeAnswer} {u : Table} (r : Changed)
-    → r ≡ record { answer = x; table = u } → Q x u → Q r.answer r.table
-handed Q r e q = subst (λ (z : Changed). Q z.answer z.table) (sym e) q
-
--- A refusal of the file is handed on; to what passed something is done.
-module _ (Done : ℕ → ChangeAnswer → Table → Type 0) (t : Table) {r : AskedFile} where
-  pub hands_on :
-      {f : Refusal} → r ≡ asked.Refused f
-      → Handled (λ a. Done a (change.Refused f) t) t r (change.Refused f) t
-  hands_on {f} e =
-      subst (λ (q : AskedFile). Handled (λ a. Done a (change.Refused f) t) t q (change.Refused f) t) (sym e)
-      (refl, refl)
-
-  pub does :
-      {a : Atom} {x : ChangeAnswer} {u : Table} → r ≡ asked.Passed a → Done a.0 x u
-      → Handled (λ b. Done b x u) t r x u
-  does {x = x} {u = u} e d = subst (λ (q : AskedFile). Handled (λ b. Done b x u) t q x u) (sym e) d
 
 -- What add answered of a mark's fact, by the case that it is.
 module _ (t : Table) (a : ℕ) {x : AddAnswer} {u : Table} (E : AddEnds t (fact a) x u) where
-  pub mark-taken : {s : Slot} → x ≡ added.Taken s → FactAdded t a change.Accepted u
+  pub mark-taken : {s : Slot} → x ≡ Ok s → FactAdded t a (Ok tt) u
   mark-taken e = taken (subst (λ (y : AddAnswer). AddEnds t (fact a) y u) e E)
 
-  module _ {f : Refusal} (e : x ≡ added.Refused f) (k : ℕ) (number : k ≡ number_of f) where
-    pub mark-stands : k ≡ 5 → FactAdded t a (change.Refused MarkUnchanged) u
+  module _ {f : Refusal} (e : x ≡ Err f) (k : ℕ) (number : k ≡ number_of f) where
+    pub mark-stands : k ≡ 5 → FactAdded t a (Err MarkUnchanged) u
     mark-stands five = stands (subst (λ (y : AddAnswer). AddEnds t (fact a) y u) e E) (sym number ∙ five)
 
-    pub mark-other : (k ≡ 5 → ⊥) → FactAdded t a (change.Refused f) u
+    pub mark-other : (k ≡ 5 → ⊥) → FactAdded t a (Err f) u
     mark-other n = other (subst (λ (y : AddAnswer). AddEnds t (fact a) y u) e E) (λ q. n (number ∙ q))
-
--- The same of label, where the mark is to be removed.
-module _ (t : Table) (a : ℕ) {x : LabelAnswer} (E : LabelEnds t a x) where
-  abbrev ends_as : {y : LabelAnswer} → x ≡ y → LabelEnds t a y
-  ends_as e = subst (LabelEnds t a) e E
-
-  pub mark-freed :
-      {d : ℕ} {s : Slot} → x ≡ label.In d s → {y : ChangeAnswer} {u : Table} → RemoveEnds t s.0 y u
-      → FactRemoved t a y u
-  mark-freed e R = parts.removed (ends_as e) R
-
-  pub mark-out : x ≡ label.Out → FactRemoved t a (change.Refused MarkUnchanged) t
-  mark-out e = parts.out (ends_as e)
-
-  pub mark-absent : x ≡ label.Absent → FactRemoved t a (change.Refused MarkUnchanged) t
-  mark-absent e = parts.absent (ends_as e)
-
-  pub mark-unsound : {f : Refusal} → x ≡ label.Refused f → FactRemoved t a (change.Refused f) t
-  mark-unsound e = parts.refused (ends_as e)
 
 -- A fact of an atom below the limit passes 1 to 4, and is kept as it is.
 fact-passes : (a : ℕ) → a < document.atoms → first_no (rule_questions document (fact a)) ≡ none
@@ -192,15 +145,15 @@ module _
   -- the slot that supports it holds its fact, and no other does.
   module _ (asks-mark : allowed (held t) c ≡ marked (held t) a) where
     withdrawn-out :
-        {x : LabelAnswer} → Told t a x → in? x ≡ false → FileEnds t c (change.Refused MarkUnchanged) t
+        {l : Label} → Told t a l → in? l ≡ false → FileEnds t c (Err MarkUnchanged) t
     withdrawn-out T f =
         ends.refused MarkUnchanged T.sound (not-allowed (held t) c n e l
         (asks-mark ∙ sym (mark-in (held t) n C T.model T.admissible a m) ∙ model_in t a T ∙ f))
 
     -- its fact stands in the slot that supports it, and a slot that holds a rule passes 8 and 9
     mark-slot :
-        Sound t → {x : LabelAnswer} → Told t a x → in? x ≡ true
-        → Held (all (held t)) (slot? x) (fact a) × (n < slot? x)
+        Sound t → {l : Label} → Told t a l → in? l ≡ true
+        → Held (all (held t)) (slot? l) (fact a) × (n < slot? l)
     mark-slot S T y = mark-support (held t) n C T.model a _ m (supporting-slot t a T y)
 
     slot-asks :
@@ -214,50 +167,47 @@ module _
     mark-removed :
         marks_changed (held t) c ≡ set (held t) (first_slot (fact a) (all (held t))) none
         → {x : ChangeAnswer} {u : Table} → FactRemoved t a x u → FileEnds t c x u
-    mark-removed removes (parts.out E) = withdrawn-out (told-out t a E refl) refl
-    mark-removed removes (parts.absent E) = withdrawn-out (told-absent t a E refl) refl
+    mark-removed removes (parts.out E) = withdrawn-out (told-label t a E) refl
+    mark-removed removes (parts.absent E) = withdrawn-out (told-label t a E) refl
     mark-removed removes (parts.refused E) =
-        let w = told-refused t a (omega (arith, mark-below n a m, C.high)) E refl in
-        subst (λ (g : Refusal). FileEnds t c (change.Refused g) t) (sym w.0) (ends.unsound (λ S. absurd (w.1 S)))
-    mark-removed removes (parts.removed {s = s} E (contract.unsound un)) = absurd (un (told_in t a E refl).sound)
+        let w = told-refused t a (omega (arith, mark-below n a m, C.high)) E in
+        subst (λ (g : Refusal). FileEnds t c (Err g) t) (sym w.0) (ends.unsound (λ S. absurd (w.1 S)))
+    mark-removed removes (parts.removed {s = s} E (contract.unsound un)) = absurd (un (told-label t a E).sound)
     mark-removed removes (parts.removed {s = s} E (contract.refused f S q)) =
-        let w = mark-slot S (told_in t a E refl) refl in
+        let w = mark-slot S (told-label t a E) refl in
         absurd (none-ne-some _ (sym (slot-asks S s.0 w.0) ∙ q))
     mark-removed removes (parts.removed {s = s} E (contract.accepted u S q Z h U)) =
-        let w = mark-slot S (told_in t a E refl) refl in
+        let w = mark-slot S (told-label t a E) refl in
         ends.accepted u S (is-allowed (held t) c n e l (asks-mark ∙ marked-of (all (held t)) a s.0 w.0)) Z
         (h ∙ sym (removes
         ∙ ap (λ (k : ℕ). set (held t) k none) (fact-slot (all (held t)) S.rules.single a s.0 w.0))) U
 
 -- A call on a file: 15 and 20 as they were asked, or what is done to the mark of a file on the list.
-module _ (t : Table) (c : FileCall) (m : Mark) {x : ChangeAnswer} {u : Table} where
-  handed-back : {f : Refusal} → (x ≡ change.Refused f) × (u ≡ t) → FileEnds t c (change.Refused f) t → FileEnds t c x u
-  handed-back (d, e) E =
-      subst (λ (z : Table). FileEnds t c x z) (sym e) (subst (λ (y : ChangeAnswer). FileEnds t c y t) (sym d) E)
+module _ (t : Table) (c : FileCall) (m : Mark) where
+  pub asked-refused : {f : Refusal} → FileAsked t (file c) m (Err f) → FileEnds t c (Err f) t
+  asked-refused (parts.unsound un) = ends.unsound un
+  asked-refused (parts.off_list n S e l) = ends.refused FileNotListed S (off_list (held t) c n e l)
 
   asked-ends :
-      (Done : ℕ → Type 0)
+      (Done : ℕ → Type 0) {x : ChangeAnswer} {u : Table}
       → ((n : ℕ) → files_of (held t) ≡ some n → on_list (some n) (file c) ≡ true → Done (mark_atom m (file c))
       → FileEnds t c x u)
-      → {r : AskedFile} → FileAsked t (file c) m r → Handled Done t r x u → FileEnds t c x u
-  asked-ends Done f (parts.unsound un) h = handed-back h (ends.unsound un)
-  asked-ends Done f (parts.off_list n S e l) h =
-      handed-back h (ends.refused FileNotListed S (off_list (held t) c n e l))
+      → {a : Atom} → FileAsked t (file c) m (Ok a) → Done a.0 → FileEnds t c x u
   asked-ends Done f (parts.passed n a e l q) d = f n e l (subst Done q d)
 
 -- File sent, file skipped, skip withdrawn.
-module _ (t : Table) (i : ℕ) {r : AskedFile} {x : ChangeAnswer} {u : Table} where
-  pub sent-ends : FileAsked t i Sent r → MarkAdded t r x u → FileEnds t (file_sent i) x u
-  sent-ends = asked-ends t (file_sent i) Sent (λ a. FactAdded t a x u) (λ n e l d. (
+module _ (t : Table) (i : ℕ) {a : Atom} {x : ChangeAnswer} {u : Table} where
+  pub sent-ends : FileAsked t i Sent (Ok a) → FactAdded t a.0 x u → FileEnds t (file_sent i) x u
+  sent-ends = asked-ends t (file_sent i) Sent (λ b. FactAdded t b x u) (λ n e l d. (
       let b = on-list-between n i l in
       mark-added t (file_sent i) n (sent i) e l (sent-mark n i b.0 b.1) refl refl d))
 
-  pub skipped_ends : FileAsked t i Skipped r → MarkAdded t r x u → FileEnds t (file_skipped i) x u
-  skipped_ends = asked-ends t (file_skipped i) Skipped (λ a. FactAdded t a x u) (λ n e l d. (
+  pub skipped_ends : FileAsked t i Skipped (Ok a) → FactAdded t a.0 x u → FileEnds t (file_skipped i) x u
+  skipped_ends = asked-ends t (file_skipped i) Skipped (λ b. FactAdded t b x u) (λ n e l d. (
       let b = on-list-between n i l in
       mark-added t (file_skipped i) n (skipped i) e l (skipped-mark n i b.0 b.1) refl refl d))
 
-  pub withdrawn-ends : FileAsked t i Skipped r → MarkRemoved t r x u → FileEnds t (skip_withdrawn i) x u
-  withdrawn-ends = asked-ends t (skip_withdrawn i) Skipped (λ a. FactRemoved t a x u) (λ n e l d. (
+  pub withdrawn-ends : FileAsked t i Skipped (Ok a) → FactRemoved t a.0 x u → FileEnds t (skip_withdrawn i) x u
+  withdrawn-ends = asked-ends t (skip_withdrawn i) Skipped (λ b. FactRemoved t b x u) (λ n e l d. (
       let b = on-list-between n i l in
       mark-removed t (skip_withdrawn i) n (skipped i) e l (skipped-mark n i b.0 b.1) refl refl d))

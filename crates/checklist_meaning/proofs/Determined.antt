@@ -1,4 +1,5 @@
 -- Each contract of a checklist's call determines its result. Assumes nothing.
+use Rattle.std.specs.Prelude.{Err}
 use Prim.Native.Nat.{ℕ}
 use mathlib.Core.Path.{◌≡◌, refl, sym, ◌∙◌, ap}
 use mathlib.Core.List.{List}
@@ -11,17 +12,14 @@ use Rattle.table.specs.declared.Table.{Table}
 use Rattle.table.specs.Sound.{Sound}
 use Rattle.refusals.specs.declared.Refusal.{Refusal}
 use Rattle.refusals.specs.declared.Refusal.TheVariants.{TableUnsound}
-use Rattle.calls.specs.declared.ChangeAnswer.{ChangeAnswer}
-use Rattle.calls.specs.declared.ChangeAnswer.TheVariants as change
-use Rattle.calls.specs.declared.ListAnswer.{ListAnswer}
+use Rattle.calls.specs.Answers.{ChangeAnswer, ListAnswer}
 use Rattle.refusals.specs.Refusals.{number_of}
 use Rattle.calls.specs.Ends.{held}
 use Rattle.calls.proofs.Determined.{refusal-unique, both, same-model, list-determined}
 use Rattle.calls.proofs.OneTable.{table-unique}
-use Rattle.checklist_meaning.specs.declared.CompleteAnswer.{CompleteAnswer}
 use Rattle.checklist_frame.specs.Frame.{good, files_of}
 use Rattle.checklist_meaning.specs.Questions.{FileCall, checklist_questions, mark_questions, open_questions}
-use Rattle.checklist_meaning.specs.Ends.{OpenEnds, FileEnds, MissingEnds, CompleteEnds, tell_complete}
+use Rattle.checklist_meaning.specs.Ends.{OpenEnds, FileEnds, MissingEnds, CompleteAnswer, CompleteEnds, tell_complete}
 use Rattle.checklist_meaning.specs.Ends.{unsound, refused, accepted}
 use Rattle.checklist_meaning.proofs.Questions.{no-list}
 
@@ -29,7 +27,7 @@ pub open-determined :
     (n : ℕ) (x y : ChangeAnswer) (u v : Table) → OpenEnds n x u → OpenEnds n y v → (x ≡ y) × (u ≡ v)
 unfolding every
 open-determined n x y u v (refused f d) (refused g e) =
-    (ap change.Refused (refusal-unique (open_questions n) refl f g d e), refl)
+    (ap Err (refusal-unique (open_questions n) refl f g d e), refl)
 open-determined n x y u v (refused f d) (accepted w e Z h U) = absurd (both _ _ d e)
 open-determined n x y u v (accepted w d Z h U) (refused g e) = absurd (both _ _ e d)
 open-determined n x y u v (accepted w d Z h U) (accepted z e Y i W) = (refl, table-unique w z Z Y U W (h ∙ sym i))
@@ -48,11 +46,11 @@ pub file-determined :
     → (x ≡ y) × (u ≡ v)
 unfolding every
 file-determined t c x y u v (unsound n) (unsound m) = (refl, refl)
-file-determined t c x y u v (unsound n) (refused g S e) = (ap change.Refused (is-15 t c n S g e), refl)
+file-determined t c x y u v (unsound n) (refused g S e) = (ap Err (is-15 t c n S g e), refl)
 file-determined t c x y u v (unsound n) (accepted w S e Z h U) = absurd (not_yes t c n S e)
-file-determined t c x y u v (refused f S d) (unsound n) = (ap change.Refused (sym (is-15 t c n S f d)), refl)
+file-determined t c x y u v (refused f S d) (unsound n) = (ap Err (sym (is-15 t c n S f d)), refl)
 file-determined t c x y u v (refused f S d) (refused g T e) =
-    (ap change.Refused (refusal-unique (mark_questions (held t) c) refl f g d e), refl)
+    (ap Err (refusal-unique (mark_questions (held t) c) refl f g d e), refl)
 file-determined t c x y u v (refused f S d) (accepted w T e Z h U) = absurd (both _ _ d e)
 file-determined t c x y u v (accepted w S d Z h U) (unsound n) = absurd (not_yes t c n S d)
 file-determined t c x y u v (accepted w S d Z h U) (refused g T e) = absurd (both _ _ e d)

@@ -1,5 +1,6 @@
 -- Of any table, however it came about: the list of files is empty exactly if complete is in; and a table that is no
 -- checklist, as one with a muted rule, meets 15, whichever call it is handed to, and nothing changes. Assumes nothing.
+use Rattle.std.specs.Prelude.{Ok, Err}
 use Prim.Native.Nat.{ℕ, ◌≤◌}
 use native.Mathlib.Omega.{arith}
 use mathlib.Core.Path.{◌≡◌, refl, sym, ◌∙◌, ap, subst}
@@ -21,20 +22,13 @@ use Rattle.table.specs.declared.Table.{Table}
 use Rattle.table.specs.Sound.{Sound}
 use Rattle.table.proofs.Members.{all_alike}
 use Rattle.refusals.specs.declared.Refusal.TheVariants.{TableUnsound}
-use Rattle.calls.specs.declared.ChangeAnswer.{ChangeAnswer}
-use Rattle.calls.specs.declared.ChangeAnswer.TheVariants as change
-use Rattle.calls.specs.declared.ListAnswer.{ListAnswer}
-use Rattle.calls.specs.declared.ListAnswer.TheVariants.{Count}
-use Rattle.calls.specs.declared.ListAnswer.TheVariants as list_answer
+use Rattle.calls.specs.Answers.{ChangeAnswer, ListAnswer}
 use Rattle.calls.specs.Ends as contract
 use Rattle.calls.specs.Ends.{held}
-use Rattle.checklist_meaning.specs.declared.CompleteAnswer.{CompleteAnswer}
-use Rattle.checklist_meaning.specs.declared.CompleteAnswer.TheVariants.{Complete}
-use Rattle.checklist_meaning.specs.declared.CompleteAnswer.TheVariants as told
 use Rattle.checklist_frame.specs.Frame.{good, frame, on_list, files_of}
 use Rattle.checklist_meaning.specs.Questions.{FileCall, checklist_questions, lacks}
 use Rattle.checklist_meaning.specs.Ends as list
-use Rattle.checklist_meaning.specs.Ends.{FileEnds, MissingEnds, CompleteEnds, tell_complete}
+use Rattle.checklist_meaning.specs.Ends.{FileEnds, MissingEnds, CompleteAnswer, CompleteEnds, tell_complete}
 use Rattle.checklist_frame.proofs.Frames.{on-list-between, between-on-list, checklist-of, no-files, muted-no-files}
 use Rattle.checklist_meaning.proofs.Determined.{file-determined, missing-determined, complete-determined}
 use Rattle.checklist_meaning.proofs.Model.{Clear, lacks-iff, complete-iff}
@@ -87,7 +81,7 @@ pub record Counted (t : Table) (before after : List ℕ) (k : ℕ) : Type 0 wher
   pub lists : Lists written (Missing (held t))
 
 pub counted :
-    (t : Table) (before : List ℕ) (x : ListAnswer) (after : List ℕ) (k : ℕ) → x ≡ Count k
+    (t : Table) (before : List ℕ) (x : ListAnswer) (after : List ℕ) (k : ℕ) → x ≡ Ok k
     → MissingEnds t before x after → Counted t before after k
 counted t before x after k e (contract.unsound n) = (let z : Differ = cc in absurd (omega arith))
 counted t before x after k e (contract.refused f S a) = (let z : Differ = cc in absurd (omega arith))
@@ -111,7 +105,7 @@ count-clear t before after n e c = none-missing (held t) n e (λ i m. Memᴰ.not
 
 pub clear-count :
     (t : Table) (before : List ℕ) (x : ListAnswer) (after : List ℕ) (n : ℕ) → Sound t → files_of (held t) ≡ some n
-    → AllClear (held t) n → MissingEnds t before x after → x ≡ Count 0
+    → AllClear (held t) n → MissingEnds t before x after → x ≡ Ok 0
 clear-count t before x after n S e f (contract.unsound g) = absurd (g S)
 clear-count t before x after n S e f (contract.refused g T a) =
     absurd (none-ne-some _ (sym (list-asked (held t) n e) ∙ a))
@@ -119,16 +113,16 @@ clear-count t before x after n S e f (contract.short M is T a A L l) =
     let q = ap length (no-entries is (Missing (held t)) L (missing-none (held t) n e f)) in
     absurd (omega arith)
 clear-count t before x after n S e f (contract.accepted M is T a A L l) =
-    ap Count (ap length (no-entries is (Missing (held t)) L (missing-none (held t) n e f)))
+    ap Ok (ap length (no-entries is (Missing (held t)) L (missing-none (held t) n e f)))
 
 -- What complete says.
 
-tells-complete : (b : Bool) → tell_complete b ≡ Complete → b ≡ true
+tells-complete : (b : Bool) → tell_complete b ≡ Ok true → b ≡ true
 tells-complete true e = refl
 tells-complete false e = (let z : Differ = cc in absurd (omega arith))
 
 pub complete-clear :
-    (t : Table) (y : CompleteAnswer) → y ≡ Complete → CompleteEnds t y
+    (t : Table) (y : CompleteAnswer) → y ≡ Ok true → CompleteEnds t y
     → (n : ℕ) × Sound t × (files_of (held t) ≡ some n) × AllClear (held t) n
 complete-clear t y e (list.unsound f) = (let z : Differ = cc in absurd (omega arith))
 complete-clear t y e (list.accepted M n S a A) =
@@ -136,7 +130,7 @@ complete-clear t y e (list.accepted M n S a A) =
 
 pub clear-complete :
     (t : Table) (y : CompleteAnswer) (n : ℕ) → Sound t → files_of (held t) ≡ some n → AllClear (held t) n
-    → CompleteEnds t y → y ≡ Complete
+    → CompleteEnds t y → y ≡ Ok true
 clear-complete t y n S e f (list.unsound g) = absurd (none-ne-some n (sym (g S) ∙ e))
 clear-complete t y n S e f (list.accepted M m T a A) =
     let q : n ≡ m = some-injective n m (sym e ∙ a) in
@@ -146,7 +140,7 @@ clear-complete t y n S e f (list.accepted M m T a A) =
 -- The list of files is empty exactly if complete is in.
 pub empty-iff-complete :
     (t : Table) (before : List ℕ) (x : ListAnswer) (after : List ℕ) (y : CompleteAnswer)
-    → MissingEnds t before x after → CompleteEnds t y → (x ≡ Count 0) ↔ (y ≡ Complete)
+    → MissingEnds t before x after → CompleteEnds t y → (x ≡ Ok 0) ↔ (y ≡ Ok true)
 empty-iff-complete t before x after y E F = (
   λ e. (let c = counted t before x after 0 e E in
       let n = c.files in
@@ -158,18 +152,18 @@ empty-iff-complete t before x after y E F = (
 -- writes nothing, complete is not answered.
 module _ (t : Table) (none-there : Sound t → files_of (held t) ≡ none) where
   pub no-checklist-file :
-      (c : FileCall) (x : ChangeAnswer) (u : Table) → FileEnds t c x u → (x ≡ change.Refused TableUnsound) × (u ≡ t)
-  no-checklist-file c x u E = file-determined t c x (change.Refused TableUnsound) u t E (list.unsound none-there)
+      (c : FileCall) (x : ChangeAnswer) (u : Table) → FileEnds t c x u → (x ≡ Err TableUnsound) × (u ≡ t)
+  no-checklist-file c x u E = file-determined t c x (Err TableUnsound) u t E (list.unsound none-there)
 
-  pub no-checklist-complete : (x : CompleteAnswer) → CompleteEnds t x → x ≡ told.Refused TableUnsound
-  no-checklist-complete x E = complete-determined t x (told.Refused TableUnsound) E (list.unsound none-there)
+  pub no-checklist-complete : (x : CompleteAnswer) → CompleteEnds t x → x ≡ Err TableUnsound
+  no-checklist-complete x E = complete-determined t x (Err TableUnsound) E (list.unsound none-there)
 
   pub no-checklist-list :
       (before : List ℕ) (x : ListAnswer) (after : List ℕ) → MissingEnds t before x after
-      → (x ≡ list_answer.Refused TableUnsound) × (after ≡ before)
+      → (x ≡ Err TableUnsound) × (after ≡ before)
   no-checklist-list before x after (contract.unsound n) = (refl, refl)
   no-checklist-list before x after (contract.refused f S e) =
-      missing-determined t before x (list_answer.Refused TableUnsound) after before (contract.refused f S e)
+      missing-determined t before x (Err TableUnsound) after before (contract.refused f S e)
       (contract.refused TableUnsound S (first_no-here (asks 15 _) [] (ap is_some (none-there S))))
   no-checklist-list before x after (contract.short M is S a A L l) =
       absurd (none-ne-some 15 (sym a ∙ first_no-here (asks 15 _) [] (ap is_some (none-there S))))
@@ -179,11 +173,11 @@ module _ (t : Table) (none-there : Sound t → files_of (held t) ≡ none) where
 -- So each call of a checklist meets 15.
 pub record Meets15 (t : Table) : Type 0 where
   pub file :
-      (c : FileCall) (x : ChangeAnswer) (u : Table) → FileEnds t c x u → (x ≡ change.Refused TableUnsound) × (u ≡ t)
-  pub complete : (x : CompleteAnswer) → CompleteEnds t x → x ≡ told.Refused TableUnsound
+      (c : FileCall) (x : ChangeAnswer) (u : Table) → FileEnds t c x u → (x ≡ Err TableUnsound) × (u ≡ t)
+  pub complete : (x : CompleteAnswer) → CompleteEnds t x → x ≡ Err TableUnsound
   pub list :
       (before : List ℕ) (x : ListAnswer) (after : List ℕ) → MissingEnds t before x after
-      → (x ≡ list_answer.Refused TableUnsound) × (after ≡ before)
+      → (x ≡ Err TableUnsound) × (after ≡ before)
 
 -- A checklist with a muted rule is none (request #108): where a rule of the table is muted, each call meets 15.
 pub muted-no-checklist :

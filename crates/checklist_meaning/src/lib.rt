@@ -1,13 +1,3 @@
-// What the calls of the deposit checklist answer, and what they mean: definitions and contracts are in specs/, the laws
-// about them in proofs/.
+// What the calls of the deposit checklist mean has no code: definitions and contracts are in specs/, the laws about them
+// in proofs/.
 #![tactic(auto)]
-
-use refusals::Refusal;
-
-// Is every file good?
-#[derive(Clone, Copy)]
-pub enum CompleteAnswer {
-    Complete,
-    Incomplete,
-    Refused(Refusal),
-}

@@ -1,6 +1,7 @@
 -- The frame's rules put into the slots of the empty table: no two are equal and no loop goes through a negation, so that
 -- the table made of them holds the frame. Assumes nothing.
-use Prim.Native.Nat.{ℕ, zero, suc, ◌+◌, ◌-◌, ◌*◌, ◌≤◌, ◌<◌}
+use Rattle.std.specs.Prelude.{Ok, Err}
+use Prim.Native.Nat.{ℕ, zero, suc, ◌+◌, ◌-◌, ◌*◌, ◌≤◌}
 use native.Mathlib.Omega.{arith}
 use mathlib.Core.Path.{◌≡◌, sym, ◌∙◌, ap, ap₂, subst}
 use mathlib.Core.Bool.{Bool, true, false}
@@ -26,7 +27,6 @@ use Rattle.well_formed.specs.Slots.{Single}
 use Rattle.from_rules.specs.Making.{Made, WellFormedSlots, twice, cyclic, made}
 use Rattle.from_rules.proofs.Making.{empty-well, well-set}
 use Rattle.refusals.specs.declared.Refusal.TheVariants.{WrongFileCount}
-use Rattle.calls.specs.declared.ChangeAnswer.TheVariants as change
 use Rattle.checklist_frame.specs.Frame.{most_files, frame, on_list}
 use Rattle.checklist_frame.proofs.Frames.{frame-head}
 use Rattle.checklist_frame.proofs.Slots.{file_rule, frame-file}
@@ -133,12 +133,11 @@ module _ (n : ℕ) (low : 1 ≤ n) (high : n ≤ most_files) where
   opened-acyclic = checklist-acyclic (opened document n) n (opened-checklist n low high)
 
   pub staged-made :
-      (before after : List ℕ) (i : ℕ) (b : Bool) → i ≤ n + 1 → n < i → Staged i before → Made before after b
-      → Framed n (table_of after)
-  staged-made before after i b l k S M = go M
+      (before after : List ℕ) (b : Bool) → Staged (n + 1) before → Made before after b → Framed n (table_of after)
+  staged-made before after b S M = go M
     where
       frames : book_of (rules_of before) ≡ opened document n
-      frames = (let e : i ≡ suc n = omega arith in S.holds ∙ ap stage e)
+      frames = (let e : n + 1 ≡ suc n = omega arith in S.holds ∙ ap stage e)
 
       go : {w : List ℕ} {c : Bool} → Made before w c → Framed n (table_of w)
       go (twice f) = absurd (f (subst (λ (B : Pages). Single (all B)) (sym frames) opened-once))
@@ -149,10 +148,10 @@ module _ (n : ℕ) (low : 1 ≤ n) (high : n ≤ most_files) where
 
 pub open-refused :
     (n : ℕ) (t : Table) → on_list (some most_files) n ≡ false → t ≡ empty_table
-    → OpenEnds n (change.Refused WrongFileCount) t
+    → OpenEnds n (Err WrongFileCount) t
 open-refused n t f e =
-    subst (OpenEnds n (change.Refused WrongFileCount)) (sym e) (contract.refused WrongFileCount (first_no-here _ _ f))
+    subst (OpenEnds n (Err WrongFileCount)) (sym e) (contract.refused WrongFileCount (first_no-here _ _ f))
 
-pub open-accepted : (n : ℕ) (u : Table) → on_list (some most_files) n ≡ true → Framed n u → OpenEnds n change.Accepted u
+pub open-accepted : (n : ℕ) (u : Table) → on_list (some most_files) n ≡ true → Framed n u → OpenEnds n (Ok tt) u
 unfolding first_no
 open-accepted n u l F = contract.accepted u (first_no-yes _ [] l) F.sized F.holds F.sound

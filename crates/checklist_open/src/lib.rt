@@ -6,7 +6,6 @@ ghost use Rattle.checklist_frame.specs.Frame.{most_files};
 ghost use Rattle.checklist_meaning.specs.Ends.{OpenEnds};
 ghost use Rattle.checklist_open.specs.Parts.{FrameSlot, Framed};
 
-use calls::{ChangeAnswer, Changed};
 use checklist_frame::{MOST_FILES, on_list};
 use from_rules::make;
 use refusals::Refusal;
@@ -48,28 +47,22 @@ fn framed(n: u16) -> Table
 {
     let empty = Table::empty();
     let mut words = empty.words;
-    let mut i: u16 = 0;
-    while i <= n {
+    for i in 0..=n {
         let rule = frame_rule(i);
         put_rule(&mut words, Slot(i), rule);
-        i += 1;
     }
     make(&mut words);
-    Table { words: words }
+    Table { words }
 }
 
-// Opens a checklist for some files, or refuses and hands back the empty table. Asks 21.
-pub fn open(files: u32) -> Changed
-    ensures { OpenEnds files result.answer result.table }
+// Opens a checklist for some files, whatever table is lent, or refuses and leaves the empty table. Asks 21.
+pub fn open(table: &mut Table, files: u32) -> Result<(), Refusal>
+    ensures { OpenEnds files result table.new }
 {
     if !on_list(files, MOST_FILES) {
-        return Changed {
-            answer: ChangeAnswer::Refused(Refusal::WrongFileCount),
-            table: Table::empty(),
-        };
+        *table = Table::empty();
+        return Err(Refusal::WrongFileCount);
     }
-    Changed {
-        answer: ChangeAnswer::Accepted,
-        table: framed(files as u16),
-    }
+    *table = framed(files as u16);
+    Ok(())
 }

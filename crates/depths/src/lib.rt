@@ -14,7 +14,7 @@ ghost use Rattle.depths.specs.Numbers.{DepthsOf, within};
 ghost use Rattle.depths.specs.Passes.{Found, Lowered};
 
 use rule::{positive_end, valid};
-use table::sets::{larger, number_of, set_number};
+use table::sets::{number_of, set_number};
 use table::slots::{rule_at, rule_in};
 use table::turns::slot_at;
 use table::{Atom, Rule, Slot, Table};
@@ -30,9 +30,7 @@ pub fn below(rule: Rule, depths: &[u16; Table::ATOMS], limit: u16) -> bool
     ensures { result ≡ every (within (number depths.now) limit) (rule_of rule).positives }
 {
     let n = positive_end(rule);
-    let mut j: usize = 0;
-    while j < n {
-        let a = rule.entries[j];
+    for &a in &rule.entries[..n] {
         let d = number_of(depths, a);
         if d == 0 {
             return false;
@@ -40,7 +38,6 @@ pub fn below(rule: Rule, depths: &[u16; Table::ATOMS], limit: u16) -> bool
         if d >= limit {
             return false;
         }
-        j += 1;
     }
     true
 }
@@ -51,12 +48,9 @@ pub fn level(rule: Rule, depths: &[u16; Table::ATOMS]) -> usize
 {
     let n = positive_end(rule);
     let mut most: usize = 0;
-    let mut j: usize = 0;
-    while j < n {
-        let a = rule.entries[j];
+    for &a in &rule.entries[..n] {
         let d = number_of(depths, a);
-        most = larger(most, d as usize);
-        j += 1;
+        most = most.max(d as usize);
     }
     most + 1
 }
@@ -112,15 +106,8 @@ fn lower_first(
     ensures { Found (active_of (rules_of table.now)) (member model.now) document.atoms 0
         found.new }
 {
-    let hint = &order[..];
-    let mut i: usize = 0;
-    while i < Table::SLOTS {
-        i += 1;
-        let n = i as u16;
-        if n > hint[0] {
-            return;
-        }
-        let rule = rule_in(table, Slot(hint[i]));
+    for &s in order[1..].iter().take(order[0] as usize) {
+        let rule = rule_in(table, Slot(s));
         lower(rule, model, found);
     }
 }
@@ -144,13 +131,11 @@ pub fn depths(
     while lowered {
         lowered = false;
         let down = round % 2 == 1;
-        let mut i: usize = 0;
-        while i < Table::SLOTS {
+        for i in 0..Table::SLOTS {
             let s = slot_at(down, i);
             let rule = rule_at(table, s);
             let fell = lower(rule, model, &mut found);
             lowered = fell | lowered;
-            i += 1;
         }
         round += 1;
     }

@@ -17,6 +17,8 @@ use Rattle.theory.specs.Certificate.{level, gives?, depth_due}
 use Rattle.theory.specs.Limits.{document}
 use Rattle.theory.proofs.Lists.{clash, eqb-eq, eqb-not, eqb_of, unless}
 use Rattle.theory.proofs.Slots.{place-valid}
+use Rattle.std.specs.Prelude.{Some}
+use Rattle.std.specs.Prelude as rust
 use Rattle.table.specs.declared.Atom.{Atom}
 use Rattle.table.specs.declared.Rule.{Rule}
 use Rattle.table.specs.declared.Spoiler.{Spoiler}
@@ -59,13 +61,13 @@ module _ (d : ℕ → ℕ) (head level x : ℕ) (deep : x ≡ d head) (before : 
     }
 
 -- The place of a spoiler in the positive list.
-pub place-positive : (r : Rule) (f : Spoiler) (i : ℕ) (a : Atom) → f ≡ Positive i a
+pub place-positive : (r : Rule) (f : rust.Option Spoiler) (i : ℕ) (a : Atom) → f ≡ Some (Positive i a)
     → i + 1 ≡ place_over (rule_of r) (spoiler_of f)
 place-positive r f i a e = add-one i ∙ sym (ap (λ g. place_over (rule_of r) (spoiler_of g)) e)
 
 -- The place of a spoiler in the negative list, after the positive list, which ends at p.
-pub place-negative : (r : Rule) → length r.entries ≡ document.entries → (f : Spoiler) (i : ℕ) (a : Atom)
-    → f ≡ Negative i a → (p : ℕ) → p ≡ min r.positives document.entries
+pub place-negative : (r : Rule) → length r.entries ≡ document.entries → (f : rust.Option Spoiler) (i : ℕ) (a : Atom)
+    → f ≡ Some (Negative i a) → (p : ℕ) → p ≡ min r.positives document.entries
     → p + i + 1 ≡ place_over (rule_of r) (spoiler_of f)
 place-negative r long f i a g p e =
     let n : length (rule_of r).positives ≡ p = simp (length-map, length-take) (omega arith) in

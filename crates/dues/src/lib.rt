@@ -25,11 +25,13 @@ pub struct Due {
 }
 
 // The place of the spoiler, counted from 1 over both lists; 0 if nothing spoils the rule.
-fn place(rule: Rule, found: Spoiler) -> u16
+fn place(rule: Rule, found: Option<Spoiler>) -> u16
     ensures { result ≡ place_over (rule_of rule) (spoiler_of found) }
 {
-    match found {
-        Spoiler::Nothing => 0,
+    let Some(first) = found else {
+        return 0;
+    };
+    match first {
         Spoiler::Positive(i, a) => i as u16 + 1,
         Spoiler::Negative(i, a) => {
             let p = positive_end(rule);

@@ -10,10 +10,7 @@ ghost use Rattle.fields.specs.Written.{WroteIn};
 pub fn bytes_left(len: usize, at: usize) -> usize
     ensures { result ≡ len - at }
 {
-    if len < at {
-        return 0;
-    }
-    len - at
+    len.saturating_sub(at)
 }
 
 // Writes bytes at a place, and answers the place behind them.
@@ -27,11 +24,7 @@ pub fn write_bytes(out: &mut [u8], at: usize, bytes: &[u8]) -> usize
     if out.len() - at < bytes.len() {
         return at;
     }
-    let mut i: usize = 0;
-    while i < bytes.len() {
-        out[at + i] = bytes[i];
-        i += 1;
-    }
+    out[at..at + bytes.len()].copy_from_slice(bytes);
     at + bytes.len()
 }
 

@@ -1,6 +1,6 @@
 -- Questions 16 to 19 (specification 7.7), asked of any bytes in this order over the whole file, and the pages that a
 -- file has. Assumes nothing.
-use Rattle.std.specs.Prelude.{ℕ, zero, suc, ◌+◌, ◌*◌, ◌/◌, ◌%◌, Bool, true, false, cond, not, ◌&&◌, ◌||◌, ltb, List, [], ◌∷◌, ◌++◌, map, length, take, drop, ◌==◌, nat_eq, nat_le, nat_lt, slice_set}
+use Rattle.std.specs.Prelude.{ℕ, zero, suc, ◌+◌, ◌*◌, ◌/◌, ◌%◌, Bool, true, cond, not, ◌&&◌, ◌||◌, ltb, List, [], ◌∷◌, ◌++◌, map, length, take, drop, ◌==◌, nat_eq, nat_le, nat_lt, slice_set}
 use Rattle.std.proofs.Math.Option.{some}
 use Rattle.theory.specs.Lists.{every, any}
 use Rattle.theory.specs.Limits.{Limits}

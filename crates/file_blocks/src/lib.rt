@@ -7,8 +7,6 @@ ghost use Rattle.fields.specs.Written.{Wrote};
 ghost use Rattle.file_blocks.specs.Words.{BYTE, word, word_at};
 ghost use Rattle.file_blocks.specs.Sums.{sum_a, sum_b};
 
-use std::num::wrapping_add_u16;
-
 // The bytes of a block; those of them that are summed up, from the first on; those before the places.
 pub const BLOCK: usize = 512;
 
@@ -73,12 +71,9 @@ pub fn sums(bytes: &[u8]) -> Pair
 {
     let mut a: u16 = 1;
     let mut b: u16 = 0;
-    let mut i: usize = 0;
-    while i < bytes.len() {
-        let x = wide(bytes[i]);
-        a = wrapping_add_u16(a, x);
-        b = wrapping_add_u16(b, a);
-        i += 1;
+    for &x in bytes {
+        a = a.wrapping_add(wide(x));
+        b = b.wrapping_add(a);
     }
-    Pair { a: a, b: b }
+    Pair { a, b }
 }

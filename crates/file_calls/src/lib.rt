@@ -1,15 +1,9 @@
 // The calls that keep a table on disk: save writes its file into a lent buffer, load makes a table of a file's bytes.
 #![tactic(auto)]
 
-ghost use Rattle.std.specs.Prelude.{◌≡◌};
-ghost use Rattle.table.specs.Words.{rules_of, table_of};
-ghost use Rattle.table.specs.Clean.{empty_table};
-ghost use Rattle.calls.specs.declared.ChangeAnswer.TheVariants.{Refused};
+ghost use Rattle.table.specs.Words.{table_of};
 ghost use Rattle.calls.specs.Ends.{SaveEnds, LoadEnds};
-ghost use Rattle.from_rules.specs.Making.{WellFormedSlots};
-ghost use Rattle.file_calls.specs.Rules.{RulesLoad};
 
-use calls::{ChangeAnswer, Changed, ListAnswer};
 use file_blocks::BLOCK;
 use file_loading::read_records;
 use file_questions::{check_blocks, whole};
@@ -22,68 +16,47 @@ use table::Table;
 
 // Writes the file of the table from the start of the buffer and answers its length, or refuses by the first question
 // answered no, and writes nothing.
-pub fn save(table: &[u16; Table::WORDS], buffer: &mut [u8]) -> ListAnswer
+pub fn save(table: &[u16; Table::WORDS], buffer: &mut [u8]) -> Result<usize, Refusal>
     ensures { SaveEnds (table_of table.now) buffer.old result buffer.new }
 {
     if !sound(table) {
-        return ListAnswer::Refused(Refusal::TableUnsound);
+        return Err(Refusal::TableUnsound);
     }
     let held = held_slots(table);
     let n = blocks_for(held.count);
     let needed = BLOCK * n;
     if buffer.len() < needed {
-        return ListAnswer::Refused(Refusal::BufferTooShort(needed));
+        return Err(Refusal::BufferTooShort(needed));
     }
     write_file(buffer, table, held, n);
-    ListAnswer::Count(needed)
+    Ok(needed)
 }
 
-// A refusal hands back the empty table.
-fn refuse(why: Refusal) -> Changed
-    ensures { result ≡ record { answer = Refused why; table = empty_table } }
+// The table becomes the one that the file records; or the empty one, with a refusal by the first question answered no.
+pub fn load(table: &mut Table, bytes: &[u8]) -> Result<(), Refusal>
+    ensures { LoadEnds bytes.now result table.new }
 {
-    Changed {
-        answer: ChangeAnswer::Refused(why),
-        table: Table::empty(),
-    }
-}
-
-// The table of the rules that were read, with their marks, if they pass questions 5 and 7; else the empty one.
-fn load_rules(read: Table) -> Changed
-    requires { WellFormedSlots (rules_of read.words) }
-    ensures { RulesLoad (rules_of read.words) result.answer result.table }
-{
-    let mut words = read.words;
-    if make(&mut words) {
-        return Changed {
-            answer: ChangeAnswer::Accepted,
-            table: Table { words: words },
-        };
-    }
-    refuse(Refusal::WrongRecord)
-}
-
-// The table that the file records, or the empty one and a refusal by the first question answered no.
-pub fn load(bytes: &[u8]) -> Changed
-    ensures { LoadEnds bytes.now result.answer result.table }
-{
+    *table = Table::empty();
     if !whole(bytes) {
-        return refuse(Refusal::WrongLength);
+        return Err(Refusal::WrongLength);
     }
     let checked = check_blocks(bytes);
     if !checked.summed {
-        return refuse(Refusal::WrongChecksum);
+        return Err(Refusal::WrongChecksum);
     }
     if !checked.numbered {
-        return refuse(Refusal::WrongBlock);
+        return Err(Refusal::WrongBlock);
     }
     if !checked.filled {
-        return refuse(Refusal::WrongRecord); // what stands behind the records
+        return Err(Refusal::WrongRecord); // what stands behind the records
     }
-    let read = read_records(bytes);
-    if !read.right {
-        return refuse(Refusal::WrongRecord);
+    let Some(read) = read_records(bytes) else {
+        return Err(Refusal::WrongRecord); // the records
+    };
+    let mut words = read.words;
+    if !make(&mut words) {
+        return Err(Refusal::WrongRecord); // questions 5 and 7
     }
-    let table = read.table;
-    load_rules(table)
+    table.words = words;
+    Ok(())
 }

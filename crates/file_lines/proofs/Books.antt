@@ -1,4 +1,5 @@
 -- What is printed of a file and the plain book, joined: it is what the book shows of the file's pages. Assumes nothing.
+use Rattle.std.specs.Prelude.{Ok, Err}
 use Prim.Native.Nat.{ℕ, ◌+◌, ◌≤◌, ◌<◌}
 use native.Mathlib.Omega.{arith}
 use mathlib.Core.Path.{◌≡◌, refl, sym, ◌∙◌, ap, subst}
@@ -22,8 +23,7 @@ use Rattle.table.specs.Labels.{label_at}
 use Rattle.table.specs.Sound.{Sound}
 use Rattle.file_blocks.specs.Questions.{file_questions, whole}
 use Rattle.file_blocks.proofs.Reading.{whole_parts}
-use Rattle.calls.specs.declared.ChangeAnswer.{ChangeAnswer}
-use Rattle.calls.specs.declared.ChangeAnswer.TheVariants as changed
+use Rattle.calls.specs.Answers.{ChangeAnswer}
 use Rattle.refusals.specs.declared.Refusal.TheVariants.{WrongLength}
 use Rattle.calls.specs.Ends as contract
 use Rattle.calls.specs.Ends.{held, LoadEnds}
@@ -43,7 +43,7 @@ load-prints-unique {file} p q =
 
 -- The labels read off a sound table are those that the book shows of its rules.
 table-labels :
-    {B : Pages} {out : List ℕ} (u : Table) → Sound u → held u ≡ B → out ≡ tell_load changed.Accepted u
+    {B : Pages} {out : List ℕ} (u : Table) → Sound u → held u ≡ B → out ≡ tell_load (Ok tt) u
     → SeesLabels B out
 table-labels {B} u S h told =
     let model = S.kept.model in
@@ -78,7 +78,7 @@ longer-16 file l = first_no-here _ _ (unless (whole file) (λ t. omega (arith, l
 longer-prints : (file : List ℕ) → LONGEST < length file → LoadPrints file (refused_line 16)
 longer-prints file l =
     record {
-      answer = changed.Refused WrongLength;
+      answer = Err WrongLength;
       table = empty_table;
       ends = contract.refused WrongLength (longer-16 file l);
       told = refl;

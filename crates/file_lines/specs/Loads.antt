@@ -1,5 +1,5 @@
 -- What is printed of a file's bytes, whatever they are. Assumes nothing.
-use Rattle.std.specs.Prelude.{ℕ, ◌*◌, ◌≤◌, ◌<◌, ◌≡◌, List, length}
+use Rattle.std.specs.Prelude.{ℕ, ◌*◌, ◌≤◌, ◌<◌, ◌≡◌, List, length, Ok, Err}
 use Rattle.std.proofs.Math.Option.{Option, none, some}
 use Rattle.theory.specs.Limits.{document}
 use Rattle.theory.specs.Questions.{first_no}
@@ -7,10 +7,7 @@ use Rattle.table.specs.declared.Table.{Table}
 use Rattle.table.specs.Labels.{label_at}
 use Rattle.file_blocks.specs.Files.{BLOCK, BLOCKS}
 use Rattle.file_blocks.specs.Questions.{file_questions, pages_of}
-use Rattle.calls.specs.declared.ChangeAnswer.{ChangeAnswer}
-use Rattle.calls.specs.declared.ChangeAnswer.TheVariants as changed
-use Rattle.calls.specs.declared.ListAnswer.{ListAnswer}
-use Rattle.calls.specs.declared.ListAnswer.TheVariants as listed
+use Rattle.calls.specs.Answers.{ChangeAnswer, ListAnswer}
 use Rattle.refusals.specs.declared.Refusal.TheVariants.{BufferTooShort}
 use Rattle.refusals.specs.Refusals.{number_of}
 use Rattle.calls.specs.Ends.{LoadEnds}
@@ -27,8 +24,8 @@ refused_line k = named (bytes "refused") k
 -- The lines that tell how a load ended: those of the labels of the table handed back, as `L` prints them, or that of
 -- the refusal.
 abbrev pub tell_load : ChangeAnswer → Table → List ℕ
-tell_load changed.Accepted u = label_lines (label_at u.words) document.atoms
-tell_load (changed.Refused f) u = refused_line (number_of f)
+tell_load (Ok done) u = label_lines (label_at u.words) document.atoms
+tell_load (Err f) u = refused_line (number_of f)
 
 -- What is printed of a file's bytes, whatever they are.
 pub record LoadPrints (file out : List ℕ) : Type 0 where
@@ -53,7 +50,7 @@ LONGEST = BLOCK * BLOCKS
 -- What is printed stands from the start of a buffer with room for the lines of every atom, and so many bytes it has. A shorter buffer is
 -- refused by 11, and stays as it was.
 pub data LoadWrites (file before : List ℕ) : ListAnswer → List ℕ → Type 0 where
-  short : length before < LABELS_ROOM → LoadWrites file before (listed.Refused (BufferTooShort LABELS_ROOM)) before
+  short : length before < LABELS_ROOM → LoadWrites file before (Err (BufferTooShort LABELS_ROOM)) before
   printed :
       {out after : List ℕ} {n : ℕ} → LABELS_ROOM ≤ length before → LoadPrints file out → Wrote out before 0 after n
-      → LoadWrites file before (listed.Count n) after
+      → LoadWrites file before (Ok n) after

@@ -37,7 +37,7 @@ use Rattle.file_blocks.specs.Questions.{pages_with}
 use Rattle.file_blocks.proofs.Written.{zeros-every}
 use Rattle.file_blocks.proofs.Reading.{place_at, word-drop}
 use Rattle.file_blocks.proofs.Records.{ascends-sorted}
-use Rattle.file_loading.specs.Reading.{atom, slot_from, Stands, all_are_right, ReadFrom}
+use Rattle.file_loading.specs.Reading.{atom, slot_from, Stands, all_are_right, Recorded}
 
 -- Atoms made of numbers have these numbers.
 numbers-atoms : (xs : List ℕ) → numbers (map atom xs) ≡ xs
@@ -224,12 +224,8 @@ module _ (ps : List Place) (table : List ℕ) (least k : ℕ) (G : Going ps (rul
   rules = rules_of table
 
   pub going-bad :
-      (Stands p.slot least (slot_from p) → ⊥) → ReadFrom ps (record { right = false; table = table_of table })
-  going-bad n = record {
-    told = sym (G.asked ∙ ap (all_are_right least) here ∙ all-right-not least p (drop (k + 1) ps) n);
-    pages = λ e. absurd (clash e refl);
-    well = λ e. absurd (clash e refl);
-  }
+      (Stands p.slot least (slot_from p) → ⊥) → all_are_right 0 ps ≡ false
+  going-bad n = G.asked ∙ ap (all_are_right least) here ∙ all-right-not least p (drop (k + 1) ps) n
 
   pub going_next :
       k < length ps → Stands p.slot least (slot_from p)
@@ -256,14 +252,14 @@ module _ (ps : List Place) (table : List ℕ) (least k : ℕ) (G : Going ps (rul
 
 pub going-all :
     (ps : List Place) (table : List ℕ) (least k : ℕ) → Going ps (rules_of table) least k → length ps ≤ k
-    → ReadFrom ps (record { right = true; table = table_of table })
+    → Recorded ps (table_of table)
 unfolding all_are_right ascends every recorded_on
 going-all ps table least k G l =
     let over : drop k ps ≡ [] = drop_of_length-le ps {i = k} l in
     record {
-      told = sym (G.asked ∙ ap (all_are_right least) over);
-      pages = λ e. sym (G.pages ∙ ap (recorded_on document (book_of (rules_of table))) over);
-      well = λ e. G.well;
+      told = G.asked ∙ ap (all_are_right least) over;
+      pages = sym (G.pages ∙ ap (recorded_on document (book_of (rules_of table))) over);
+      well = G.well;
     }
 
 -- One turn of the code's loop: the record that is read where it stands in the file.
@@ -297,7 +293,7 @@ module _ (bs : List ℕ) (w : whole bs ≡ true) (t : numbered (block_count bs) 
       (subst (λ (n : ℕ). Stands n least (slot_from p)) (sym same-slot) S)
 
   pub read-bad :
-      (Stands slot least rule → ⊥) → ReadFrom (places_of (blocks bs)) (record { right = false; table = table_of table })
+      (Stands slot least rule → ⊥) → all_are_right 0 (places_of (blocks bs)) ≡ false
   read-bad n = going-bad (places_of (blocks bs)) table least k G p here (λ S. n (back-stands S))
 
   pub read_next :

@@ -6,14 +6,14 @@ use mathlib.Core.Bool.{Bool, true, false}
 use mathlib.Core.Logic.{◌↔◌}
 use mathlib.Core.List.{List, map}
 use lib.Dec.{leb}
-use lib.ListN.{length, get_or, drop}
-use lib.Seq.{get_or-drop, drop-drop}
+use lib.ListN.{length, get_or, drop, length-map, get_or-map}
+use lib.Seq.{ext_get_or, get_or-drop, drop-drop}
 use Rattle.theory.specs.Limits.{document}
 use Rattle.theory.proofs.Lists.{le-leb, leb-le, unless}
 use Rattle.table.specs.declared.Atom.{Atom}
 use Rattle.table.specs.declared.Rule.{Rule}
 use Rattle.table.specs.Clean.{WellFormed}
-use Rattle.table.specs.Rules.{state_of}
+use Rattle.table.specs.Rules.{no_atom, state_of}
 use Rattle.theory.proofs.Lists.{is_not}
 use Rattle.file_blocks.specs.Words.{BYTE, word_at, words_in}
 use Rattle.file_blocks.specs.Places.{place_numbered}
@@ -34,7 +34,7 @@ module _ (slot least : ℕ) (rule : Rule) where
 
 -- The entries of a record that begins at an offset of some bytes, one by one.
 
-pub words-length : (n : ℕ) (bs : List ℕ) → n ≡ length (words_in n bs)
+words-length : (n : ℕ) (bs : List ℕ) → n ≡ length (words_in n bs)
 unfolding words_in
 words-length zero bs = refl
 words-length (suc n) bs = ap suc (words-length n (drop 2 bs))
@@ -51,10 +51,16 @@ word-here (suc n) (suc j) bs l =
     (get_or-drop 2 bs (2 * j) 0 ∙ ap (λ (k : ℕ). get_or bs k 0) here)
     (get_or-drop 2 bs (2 * j + 1) 0 ∙ ap (λ (k : ℕ). get_or bs k 0) next)
 
-pub word_in :
-    (bs : List ℕ) (at j : ℕ) → j < 8 → (x : ℕ) → x ≡ word_at bs (at + 6 + 2 * j)
-    → atom x ≡ atom (get_or (words_in 8 (drop (at + 6) bs)) j 0)
-word_in bs at j l x e = ap atom (e ∙ sym (word-here 8 j (drop (at + 6) bs) l ∙ word-drop (at + 6) (2 * j) bs))
+pub entries-read :
+    (bs : List ℕ) (at : ℕ) (entries : List Atom) → length entries ≡ 8
+    → ((k : ℕ) → k < 8 → get_or entries k no_atom ≡ atom (word_at bs (at + 6 + 2 * k)))
+    → entries ≡ map atom (words_in 8 (drop (at + 6) bs))
+entries-read bs at entries long each =
+    let ws = words_in 8 (drop (at + 6) bs) in
+    ext_get_or no_atom entries (map atom ws) (long ∙ words-length 8 (drop (at + 6) bs) ∙ sym (length-map ws atom)) (λ k l.
+    each k (omega (arith, long))
+    ∙ ap atom (sym (word-here 8 k (drop (at + 6) bs) (omega (arith, long)) ∙ word-drop (at + 6) (2 * k) bs))
+    ∙ sym (get_or-map atom ws k 0))
 
 -- The state by the byte of the positive count: without the mark, and with it.
 pub state-plain : (count : ℕ) → count < 128 → 1 ≡ state_of (leb 128 count)

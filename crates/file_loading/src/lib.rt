@@ -12,16 +12,9 @@ ghost use Rattle.file_loading.specs.Reading.{atom, slot_from, Stands, ReadFrom};
 
 use file_blocks::{BLOCK, HEADER, MARK, PLACE, PLACES, word_at};
 use questions::clean::well_formed;
+use std::array::from_fn;
 use table::slots::put_rule;
 use table::{Atom, Rule, Slot, Table};
-
-// A table's numbers with the rules of the records and their marks, if the slots ascend and each record is one that a
-// sound table can hold. Its slots keep nothing.
-#[derive(Clone, Copy)]
-pub struct Records {
-    pub right: bool,
-    pub table: Table,
-}
 
 // How many records a file has whose blocks are numbered: 22 in every block but the last.
 fn record_count(bytes: &[u8]) -> usize
@@ -47,14 +40,7 @@ fn entries_at(bytes: &[u8], at: usize) -> [Atom; Table::ENTRIES]
     requires { at + format.PLACE ≤ length bytes.now }
     ensures { result ≡ map atom (words_in PLACE_ENTRIES (drop (at + 6) bytes.now)) }
 {
-    let mut entries: [Atom; Table::ENTRIES] = [Atom(0); Table::ENTRIES];
-    let mut j: usize = 0;
-    while j < Table::ENTRIES {
-        let n = word_at(bytes, at + 6 + 2 * j);
-        entries[j] = Atom(n);
-        j += 1;
-    }
-    entries
+    from_fn(|j| Atom(word_at(bytes, at + 6 + 2 * j)))
 }
 
 // The state of the slot by the byte of the positive count: with the mark in it the rule is muted.
@@ -84,11 +70,11 @@ fn rule_at(bytes: &[u8], at: usize) -> Rule
     let state = state_of(count);
     let entries = entries_at(bytes, at);
     Rule {
-        state: state,
+        state,
         head: Atom(head),
-        positives: positives,
-        negatives: negatives,
-        entries: entries,
+        positives,
+        negatives,
+        entries,
     }
 }
 
@@ -107,8 +93,9 @@ fn stands(slot: Slot, least: usize, rule: Rule) -> bool
     well_formed(rule)
 }
 
-// The rules of all records with their marks, each in its slot, of a file whose length and numbers are right.
-pub fn read_records(bytes: &[u8]) -> Records
+// A table's numbers with the rules of all records and their marks, each in its slot, of a file whose length and numbers
+// are right, if the slots ascend and each record is one that a sound table can hold. Its slots keep nothing.
+pub fn read_records(bytes: &[u8]) -> Option<Table>
     requires { (whole bytes.now ≡ true) × (numbered (block_count bytes.now) 0 (blocks bytes.now) ≡ true) }
     ensures { ReadFrom (places_of (blocks bytes.now)) result }
 {
@@ -116,23 +103,15 @@ pub fn read_records(bytes: &[u8]) -> Records
     let empty = Table::empty();
     let mut words = empty.words;
     let mut least: usize = 0;
-    let mut k: usize = 0;
-    while k < count {
+    for k in 0..count {
         let at = record_start(k);
         let slot = Slot(word_at(bytes, at));
         let rule = rule_at(bytes, at);
         if !stands(slot, least, rule) {
-            return Records {
-                right: false,
-                table: Table { words: words },
-            };
+            return None;
         }
         put_rule(&mut words, slot, rule);
         least = slot.0 as usize + 1;
-        k += 1;
     }
-    Records {
-        right: true,
-        table: Table { words: words },
-    }
+    Some(Table { words })
 }

@@ -83,14 +83,10 @@ fn block_filled(block: &[u8]) -> bool
     ensures { result ≡ filled block.now }
 {
     let count = word_at(block, 4) as usize;
-    let mut i = HEADER + PLACE * count;
-    while i < BODY {
-        if block[i] != 0 {
-            return false;
-        }
-        i += 1;
-    }
-    true
+    block[..BODY]
+        .iter()
+        .skip(HEADER + PLACE * count)
+        .all(|&x| x == 0)
 }
 
 // The questions of a block, and of those before it.
@@ -119,12 +115,9 @@ pub fn check_blocks(bytes: &[u8]) -> Checked
         numbered: true,
         filled: true,
     };
-    let mut i: usize = 0;
-    while i < blocks {
+    for i in 0..blocks {
         let at = BLOCK * i;
-        let end = at + BLOCK;
-        checked = check_block(&bytes[at..end], blocks, i, checked);
-        i += 1;
+        checked = check_block(&bytes[at..at + BLOCK], blocks, i, checked);
     }
     checked
 }

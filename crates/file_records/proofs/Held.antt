@@ -1,5 +1,5 @@
 -- The slots that hold rules are those of the records, found one after the other. Assumes nothing.
-use Prim.Native.Nat.{ℕ, zero, suc, min, ◌+◌, ◌≤◌, ◌<◌}
+use Prim.Native.Nat.{ℕ, zero, suc, min, ◌+◌, ◌-◌, ◌≤◌, ◌<◌}
 use native.Mathlib.Omega.{arith}
 use native.Mathlib.Numerals.{add-one}
 use mathlib.Core.Path.{◌≡◌, refl, sym, ◌∙◌, ap, ap₂}
@@ -7,8 +7,8 @@ use mathlib.Core.Logic.{⊎_elim}
 use mathlib.Core.Bool.{false}
 use mathlib.Core.List.{List, [], ◌∷◌, ◌++◌, map, map-append, append-nil}
 use mathlib.Core.Option.{none, some, none-ne-some, some-injective}
-use lib.ListN.{length, get_or, take, set, length-append, length-set, get_or-map}
-use lib.Seq.{take-suc, take-suc-set, take-set-le, take_all, get_or-take, length-take-le}
+use lib.ListN.{length, get_or, take, drop, set, length-append, length-set, length-take, length-drop, get_or-map}
+use lib.Seq.{take-suc, take-suc-set, take-set-le, take_all, get_or-take, get_or-drop, length-take-le}
 use Rattle.theory.specs.Limits.{document}
 use Rattle.theory.specs.Rules.{Page, Pages}
 use Rattle.theory.proofs.Lists.{le-or-lt, some_below}
@@ -188,3 +188,24 @@ module _ (rules : List Rule) (h : HeldSlots) (H : HeldIn (book_of rules) h) (k :
       found.is
       ∙ ap₂ (λ (n : ℕ) (p : Page). recorded n p) e
       (page-of (get_or rules noted_slot past_rule) found.page (sym (book-at rules noted_slot) ∙ there))
+
+-- The slots noted from one on, as many as are asked for.
+module _ (h : HeldSlots) (from count : ℕ) where
+  abbrev pub slots_from : List Slot
+  slots_from = take (from + count - from) (drop from h.slots)
+
+  pub slots-long : from + count ≤ length h.slots → length slots_from ≡ count
+  slots-long l =
+      omega (arith, length-take (from + count - from) (drop from h.slots), length-drop from h.slots)
+
+  module _ (k : ℕ) (low : k < count) where
+    pub slot-from : get_or slots_from k (slot 0) ≡ get_or h.slots (from + k) (slot 0)
+    slot-from =
+        get_or-take (from + count - from) (drop from h.slots) k (slot 0) (omega arith)
+        ∙ get_or-drop from h.slots k (slot 0)
+
+    pub slot-from-below :
+        (rules : List Rule) → HeldIn (book_of rules) h → from + count ≤ h.count
+        → (get_or slots_from k (slot 0)).0 < length rules
+    slot-from-below rules H l =
+        omega (arith, ap (λ (n : Slot). n.0) slot-from, slot-below rules h H (from + k) (omega arith))

@@ -15,6 +15,7 @@ use Rattle.theory.specs.Rules.{entries}
 use Rattle.theory.proofs.Lists.{le-leb, leb-le, unless}
 use Rattle.table.specs.declared.Atom.{Atom}
 use Rattle.table.specs.declared.Rule.{Rule}
+use Rattle.table.specs.declared.Slot.{Slot}
 use Rattle.table.specs.Rules.{numbers, rule_of, book_of, no_atom, past_rule}
 use Rattle.table.specs.Clean.{CleanRule}
 use Rattle.table.proofs.Members.{all_alike}
@@ -168,16 +169,16 @@ module _ (rules : List Rule) (from : ℕ) where
   pub wrote-next-record :
       {before out after : List ℕ} {at : ℕ} (h : HeldSlots) (H : HeldIn (book_of rules) h) (k : ℕ)
       → from + k < h.count → Wrote (records_bytes rules from k) before at out (at + PLACE * k)
-      → (r : Rule) → (let s = (get_or h.slots (from + k) (slot 0)).0 in
-      (r ≡ get_or rules s past_rule)
-      × Wrote (record_bytes s r) out (at + PLACE * k) after (at + PLACE * k + PLACE))
+      → (s : Slot) (r : Rule) → s ≡ get_or h.slots (from + k) (slot 0) → r ≡ get_or rules s.0 past_rule
+      → Wrote (record_bytes s.0 r) out (at + PLACE * k) after (at + PLACE * k + PLACE)
       → Wrote (records_bytes rules from (k + 1)) before at after (at + PLACE * (k + 1))
   unfolding records_bytes record_bytes
-  wrote-next-record {out = out} {after} {at} h H k l v r (read, write) =
+  wrote-next-record {out = out} {after} {at} h H k l v s r noted read write =
       let R = records (book_of rules) in
-      let s = (get_or h.slots (from + k) (slot 0)).0 in
-      let w = subst (λ (q : Rule). Wrote (record_bytes s q) out (at + PLACE * k) after (at + PLACE * k + PLACE)) read
+      let w = subst (λ (q : Rule). Wrote (record_bytes s.0 q) out (at + PLACE * k) after (at + PLACE * k + PLACE)) read
       write in
+      let is : get_or R (from + k) no_place ≡ recorded s.0 (held_page (get_or rules s.0 past_rule)) =
+      rw noted (record-at rules h H (from + k) l) in
       let more = places-next R from k no_place (omega (arith, H.count))
-      ∙ ap (λ (p : Place). places_bytes (take k (drop from R)) ++ place_bytes p) (record-at rules h H (from + k) l) in
+      ∙ ap (λ (p : Place). places_bytes (take k (drop from R)) ++ place_bytes p) is in
       rw more (wrote_then v (wrote-to (at + PLACE * (k + 1)) (omega arith) w))

@@ -37,18 +37,13 @@ pub fn held_slots(table: &[u16; Table::WORDS]) -> HeldSlots
 {
     let mut slots: [Slot; Table::SLOTS] = [Slot(0); Table::SLOTS];
     let mut count: usize = 0;
-    let mut i: usize = 0;
-    while i < Table::SLOTS {
+    for i in 0..Table::SLOTS {
         let rule = rule_at(table, i);
         let number = i as u16;
         slots[count] = Slot(number);
         count += one_if_held(rule.state);
-        i += 1;
     }
-    HeldSlots {
-        count: count,
-        slots: slots,
-    }
+    HeldSlots { count, slots }
 }
 
 // Writes the entries of a rule. In a clean slot the unused ones are zero.
@@ -57,11 +52,8 @@ fn write_entries(out: &mut [u8], at: usize, entries: [Atom; Table::ENTRIES])
     ensures { Wrote (words (numbers entries))
         out.old at out.new (at + 2 * document.entries) }
 {
-    let mut j: usize = 0;
-    while j < Table::ENTRIES {
-        let a = entries[j];
+    for (j, a) in entries.iter().enumerate() {
         write_word(out, at + 2 * j, a.0);
-        j += 1;
     }
 }
 
@@ -104,12 +96,8 @@ pub fn write_records(
     ensures { Wrote (records_bytes (rules_of table.now) from count)
         out.old at out.new (at + format.PLACE * count) }
 {
-    let mut k: usize = 0;
-    while k < count {
-        let slot = held.slots[from + k];
-        let s = slot.0 as usize;
-        let rule = rule_at(table, s);
+    for (k, &slot) in held.slots[from..from + count].iter().enumerate() {
+        let rule = rule_at(table, slot.0 as usize);
         write_record(out, at + PLACE * k, slot, rule);
-        k += 1;
     }
 }

@@ -1,7 +1,7 @@
 // The file of a table's rules and marks, written into a lent buffer block by block.
 #![tactic(auto)]
 
-ghost use Rattle.std.specs.Prelude.{◌≡◌, min, ◌+◌, ◌-◌, ◌*◌, ◌≤◌, ◌<◌, length, take, drop, replicate};
+ghost use Rattle.std.specs.Prelude.{◌≡◌, ◌+◌, ◌-◌, ◌*◌, ◌≤◌, ◌<◌, length, take, drop, replicate};
 ghost use Rattle.theory.specs.Limits.{document};
 ghost use Rattle.table.specs.Rules.{book_of};
 ghost use Rattle.table.specs.Words.{rules_of};
@@ -30,18 +30,7 @@ fn write_zeros(out: &mut [u8], at: usize, to: usize)
     requires { (at ≤ to) × (to ≤ length out.old) }
     ensures { Wrote (replicate (to - at) 0) out.old at out.new to }
 {
-    let mut i = at;
-    while i < to {
-        out[i] = 0;
-        i += 1;
-    }
-}
-
-// The smaller of two numbers.
-fn smaller(x: usize, y: usize) -> usize
-    ensures { result ≡ min x y }
-{
-    if x < y { x } else { y }
+    out[at..to].fill(0);
 }
 
 // Writes the head of a block: its index, the number of blocks, the number of its records.
@@ -84,7 +73,7 @@ fn write_block(
 {
     let at = BLOCK * index;
     let from = PLACES * index;
-    let count = smaller(PLACES, held.count - from);
+    let count = PLACES.min(held.count - from);
     write_header(out, at, index as u16, blocks as u16, count as u16);
     write_records(out, at + HEADER, table, held, from, count);
     write_zeros(out, at + HEADER + PLACE * count, at + BODY);
@@ -99,9 +88,7 @@ pub fn write_file(out: &mut [u8], table: &[u16; Table::WORDS], held: HeldSlots, 
     ensures { Wrote (format.file_of (book_of (rules_of table.now)))
         out.old 0 out.new (format.BLOCK * blocks) }
 {
-    let mut i: usize = 0;
-    while i < blocks {
+    for i in 0..blocks {
         write_block(out, table, held, i, blocks);
-        i += 1;
     }
 }

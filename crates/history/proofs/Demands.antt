@@ -1,6 +1,7 @@
 -- Demand 2 (specification 9.2): after an addition, a removal, a replacement, a muting, a load or a call of a checklist
 -- an atom is in if and only if it is in the admissible model of the unmuted rules now held; a rule that closes a loop
 -- through a negation is refused by 7, and no other is. Request #102, of the calls. Assumes nothing.
+use Rattle.std.specs.Prelude.{Ok, Err}
 use Prim.Native.Nat.{ℕ, ◌<◌}
 use native.Mathlib.Omega.{arith}
 use mathlib.Core.Path.{◌≡◌, refl, sym, ◌∙◌, ap, subst}
@@ -32,10 +33,7 @@ use Rattle.table.specs.Labels.{label_at}
 use Rattle.table.specs.Clean.{empty_table}
 use Rattle.table.specs.Sound.{Sound}
 use Rattle.table.proofs.Empty.{empty-sound}
-use Rattle.calls.specs.declared.AddAnswer.{AddAnswer}
-use Rattle.calls.specs.declared.AddAnswer.TheVariants as added
-use Rattle.calls.specs.declared.ChangeAnswer.{ChangeAnswer}
-use Rattle.calls.specs.declared.ChangeAnswer.TheVariants as changed
+use Rattle.calls.specs.Answers.{AddAnswer, ChangeAnswer}
 use Rattle.refusals.specs.declared.Refusal.{Refusal}
 use Rattle.refusals.specs.declared.Refusal.TheVariants as refusal
 use Rattle.refusals.specs.Refusals.{number_of}
@@ -128,7 +126,7 @@ refusal-asked f k m e =
     sym (refusal-number f (λ h. m (sym q ∙ h))) ∙ ap refusal_of q
 
 add-asked :
-    (t u : Table) (r : Rule) (f : Refusal) (x : AddAnswer) → x ≡ added.Refused f → AddEnds t r x u → Sound t
+    (t u : Table) (r : Rule) (f : Refusal) (x : AddAnswer) → x ≡ Err f → AddEnds t r x u → Sound t
     → first_no (add_questions document (all (held t)) r) ≡ some (number_of f)
 add-asked t u r f x q (contract.unsound n) S = absurd (n S)
 add-asked t u r f x q (contract.refused g T e) S =
@@ -137,14 +135,14 @@ add-asked t u r f x q (contract.accepted s w T e l Z h U) S = (let z : ◌≡◌
 
 add-refused :
     (t u : Table) (r : Rule) (x : AddAnswer) → AddEnds t r x u → Sound t → (k : ℕ) → (k ≡ 11 → ⊥)
-    → first_no (add_questions document (all (held t)) r) ≡ some k → x ≡ added.Refused (refusal_of k)
+    → first_no (add_questions document (all (held t)) r) ≡ some k → x ≡ Err (refusal_of k)
 add-refused t u r x (contract.unsound n) S k m asked = absurd (n S)
-add-refused t u r x (contract.refused f T e) S k m asked = ap added.Refused (refusal-asked f k m (sym e ∙ asked))
+add-refused t u r x (contract.refused f T e) S k m asked = ap Err (refusal-asked f k m (sym e ∙ asked))
 add-refused t u r x (contract.accepted s w T e l Z h U) S k m asked = absurd (none-ne-some k (sym e ∙ asked))
 
 module _ (questions : List Question) (after : Pages) (t : Table) where
   change-asked :
-      (u : Table) (f : Refusal) (x : ChangeAnswer) → x ≡ changed.Refused f → ChangeEnds questions after t x u → Sound t
+      (u : Table) (f : Refusal) (x : ChangeAnswer) → x ≡ Err f → ChangeEnds questions after t x u → Sound t
       → first_no questions ≡ some (number_of f)
   change-asked u f x q (contract.unsound n) S = absurd (n S)
   change-asked u f x q (contract.refused g T e) S =
@@ -153,23 +151,23 @@ module _ (questions : List Question) (after : Pages) (t : Table) where
 
   change-refused-first :
       (u : Table) (x : ChangeAnswer) → ChangeEnds questions after t x u → Sound t → (k : ℕ) → (k ≡ 11 → ⊥)
-      → first_no questions ≡ some k → x ≡ changed.Refused (refusal_of k)
+      → first_no questions ≡ some k → x ≡ Err (refusal_of k)
   change-refused-first u x (contract.unsound n) S k m asked = absurd (n S)
   change-refused-first u x (contract.refused f T e) S k m asked =
-      ap changed.Refused (refusal-asked f k m (sym e ∙ asked))
+      ap Err (refusal-asked f k m (sym e ∙ asked))
   change-refused-first u x (contract.accepted w T e Z h U) S k m asked = absurd (none-ne-some k (sym e ∙ asked))
 
 -- Refused by 7: the rule closes a loop through a negation.
 
 pub refused-7-cycle :
-    (t u : Table) (r : Rule) → AddEnds t r (added.Refused refusal.NegativeCycle) u → Sound t
+    (t u : Table) (r : Rule) → AddEnds t r (Err refusal.NegativeCycle) u → Sound t
     → NegativeCycle (program_with_rule t r)
 refused-7-cycle t u r E S =
     seven-cycle (add_questions document (all (held t)) r) (program_with_rule t r) (λ y. unfold every in (rw (y, every)))
     (add-asked t u r refusal.NegativeCycle _ refl E S)
 
 pub replace-refused-7-cycle :
-    (t u : Table) (s : ℕ) (r : Rule) → ReplaceEnds t s r (changed.Refused refusal.NegativeCycle) u → Sound t
+    (t u : Table) (s : ℕ) (r : Rule) → ReplaceEnds t s r (Err refusal.NegativeCycle) u → Sound t
     → NegativeCycle (with_new t s r)
 replace-refused-7-cycle t u s r E S =
     seven-cycle (replace_questions document (all (held t)) s r) (with_new t s r) (λ y. unfold every in (rw (y, every)))
@@ -181,7 +179,7 @@ replace-refused-7-cycle t u s r E S =
 pub cycle-refused-7 :
     (t u : Table) (r : Rule) (x : AddAnswer) → AddEnds t r x u → Sound t
     → first_no (take 6 (add_questions document (all (held t)) r)) ≡ none → NegativeCycle (program_with_rule t r)
-    → x ≡ added.Refused refusal.NegativeCycle
+    → x ≡ Err refusal.NegativeCycle
 cycle-refused-7 t u r x E S six c =
     add-refused t u r x E S 7 (λ e. omega arith)
     (cycle-seven 6 (add_questions document (all (held t)) r) (program_with_rule t r) six refl c)
@@ -189,7 +187,7 @@ cycle-refused-7 t u r x E S six c =
 pub replace-cycle-refused-7 :
     (t u : Table) (s : ℕ) (r : Rule) (x : ChangeAnswer) → ReplaceEnds t s r x u → Sound t
     → first_no (take 7 (replace_questions document (all (held t)) s r)) ≡ none → NegativeCycle (with_new t s r)
-    → x ≡ changed.Refused refusal.NegativeCycle
+    → x ≡ Err refusal.NegativeCycle
 replace-cycle-refused-7 t u s r x E S seven c =
     change-refused-first _ _ t u x E S 7 (λ e. omega arith)
     (cycle-seven 7 (replace_questions document (all (held t)) s r) (with_new t s r) seven refl c)
@@ -200,14 +198,14 @@ replace-cycle-refused-7 t u s r x E S seven c =
 pub same-refused-5 :
     (t u : Table) (r : Rule) (x : AddAnswer) → AddEnds t r x u → Sound t
     → first_no (take 4 (add_questions document (all (held t)) r)) ≡ none → (s : ℕ) (q : Rule) → Held (all (held t)) s q
-    → same r q ≡ true → x ≡ added.Refused refusal.SameRule
+    → same r q ≡ true → x ≡ Err refusal.SameRule
 same-refused-5 t u r x E S four s q h y =
     add-refused t u r x E S 5 (λ e. omega arith)
     (first_no-take 4 (add_questions document (all (held t)) r) four
     ∙ first_no-here _ _ (ap not (any_rule-of (same r) (all (held t)) s q h y)))
 
 pub removed-none-left :
-    (t u : Table) (s : ℕ) (y : ChangeAnswer) → RemoveEnds t s y u → y ≡ changed.Accepted → (q r : Rule)
+    (t u : Table) (s : ℕ) (y : ChangeAnswer) → RemoveEnds t s y u → y ≡ Ok tt → (q r : Rule)
     → Held (all (held t)) s q → same r q ≡ true → any_rule (same r) (all (held u)) ≡ false
 removed-none-left t u s y (contract.unsound n) e q r h v = (let z : ◌≡◌ {A = ℕ} 0 1 = cc in absurd (omega arith))
 removed-none-left t u s y (contract.refused f S a) e q r h v = (let z : ◌≡◌ {A = ℕ} 0 1 = cc in absurd (omega arith))
@@ -216,7 +214,7 @@ removed-none-left t u s y (contract.accepted w S a Z i U) e q r h v =
 
 -- And where the removed rule was the only one of its head, in whatever order, that atom's label is not in any more.
 pub removed-label-gone :
-    (t u : Table) (s : ℕ) (y : ChangeAnswer) → RemoveEnds t s y u → y ≡ changed.Accepted → (q r : Rule)
+    (t u : Table) (s : ℕ) (y : ChangeAnswer) → RemoveEnds t s y u → y ≡ Ok tt → (q r : Rule)
     → Held (all (held t)) s q → same r q ≡ true
     → ((k : ℕ) (p : Rule) → Held (all (held t)) k p → p.head ≡ r.head → same r p ≡ true)
     → is_in_label (label_at u.words r.head) ≡ false

@@ -36,10 +36,7 @@ use Rattle.table.proofs.Words.{zero-rules}
 use Rattle.table.proofs.Empty.{empty-sound, free-book}
 use Rattle.file_blocks.specs.Questions.{file_questions, pages_of}
 use Rattle.file_blocks.specs.Book.{load_answer, load_pages}
-use Rattle.calls.specs.declared.ChangeAnswer.{ChangeAnswer}
-use Rattle.calls.specs.declared.LabelAnswer.{LabelAnswer}
-use Rattle.calls.specs.declared.SpoilerAnswer.{SpoilerAnswer}
-use Rattle.calls.specs.Answers.{book_change, tell_label, tell_page}
+use Rattle.calls.specs.Answers.{ChangeAnswer, LabelAnswer, SpoilerAnswer, book_change, tell_label, tell_page}
 use Rattle.calls.specs.Ends as contract
 use Rattle.calls.specs.Ends.{held, ChangeEnds, LabelEnds, SpoilerEnds}
 use Rattle.calls.proofs.Asking.{atom-yes, slot-asked}

@@ -14,10 +14,7 @@ use Rattle.theory.specs.Limits.{document}
 use Rattle.table.specs.declared.Table.{Table}
 use Rattle.table.specs.Labels.{label_at}
 use Rattle.table.specs.Sound.{Sound}
-use Rattle.calls.specs.declared.AddAnswer.{AddAnswer}
-use Rattle.calls.specs.declared.ChangeAnswer.{ChangeAnswer}
-use Rattle.calls.specs.declared.LabelAnswer.{LabelAnswer}
-use Rattle.calls.specs.declared.SpoilerAnswer.{SpoilerAnswer}
+use Rattle.calls.specs.Answers.{AddAnswer, ChangeAnswer, LabelAnswer, SpoilerAnswer}
 use Rattle.calls.specs.Answers.{book_add, book_change, tell_label, tell_page}
 use Rattle.calls.specs.Ends.{held, AddEnds, RemoveEnds, ReplaceEnds, MuteEnds, LabelEnds, SpoilerEnds, LoadEnds}
 use Rattle.checklist_meaning.specs.Questions.{FileCall}

@@ -104,13 +104,19 @@ module _
         written = G.buffer;
       }
 
-  pub going-over : placed ws files at ≡ none → Replays ws files before (record { count = count; table = t }) now
-  going-over e = finished (decode-over (length before - count) ws files at e)
+  pub going-over :
+      (u : Table) → placed ws files at ≡ none → u ≡ t
+      → Replays ws files before (record { count = count; table = u }) now
+  going-over u e same =
+      subst (λ (v : Table). Replays ws files before (record { count = count; table = v }) now) (sym same)
+      (finished (decode-over (length before - count) ws files at e))
 
-  pub going-full : length before ≤ count → Replays ws files before (record { count = count; table = t }) now
+  pub going-full : length before ≤ count → Replays ws files before (record { count = length now; table = t }) now
   going-full l =
       let z : length before - count ≡ 0 = omega arith in
-      finished (ap (λ (k : ℕ). decode k ws files at) z ∙ (unfold decode in refl))
+      let all : count ≡ length now = omega (arith, going-length, G.room) in
+      subst (λ (n : ℕ). Replays ws files before (record { count = n; table = t }) now) all
+      (finished (ap (λ (k : ℕ). decode k ws files at) z ∙ (unfold decode in refl)))
 
 -- So `replay` can be asked for any list of calls: its words are read as this list (`decode-written`), and the answers
 -- that the claim speaks of are the book's.

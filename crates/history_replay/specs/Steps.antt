@@ -1,9 +1,9 @@
 -- Private: what the functions behind `replay` tell each other. No exported contract speaks of it. Assumes nothing.
-use Rattle.std.specs.Prelude.{ℕ, ◌≡◌, true, false, List}
+use Rattle.std.specs.Prelude.{ℕ, ◌≡◌, Option, Some, None, List}
 use Rattle.std.proofs.Math.Option.{none, some}
 use Rattle.theory.specs.Book.{Answer}
 use Rattle.table.specs.declared.Table.{Table}
-use Rattle.calls.specs.declared.ChangeAnswer.{ChangeAnswer}
+use Rattle.calls.specs.Answers.{ChangeAnswer}
 use Rattle.checklist_meaning.specs.Book.{opening, of_file}
 use Rattle.checklist_meaning.specs.Book as list
 use Rattle.checklist_meaning.specs.Ends.{OpenEnds, FileEnds}
@@ -21,10 +21,10 @@ pub record CallMade (ws files : List ℕ) (at : ℕ) (t : Table) (answer behind 
   pub step : Step t call told u
   pub number : answer ≡ encode told
 
--- One step from a place: no call stands there, or it was made.
-pub record StepOf (ws files : List ℕ) (at : ℕ) (t : Table) (r : Stepped) : Type 0 where
-  pub over : r.more ≡ false → placed ws files at ≡ none
-  pub made : r.more ≡ true → CallMade ws files at t r.answer r.at r.table
+-- One step from a place: no call stands there, and the table is as it was; or the call was made.
+abbrev pub StepOf : List ℕ → List ℕ → ℕ → Table → Option Stepped → Table → Type 0
+StepOf ws files at t None u = (placed ws files at ≡ none) × (u ≡ t)
+StepOf ws files at t (Some r) u = CallMade ws files at t r.answer r.at u
 
 -- A call of a checklist, as its contract says.
 abbrev pub ChecklistEnds : Table → list.Call → ChangeAnswer → Table → Type 0

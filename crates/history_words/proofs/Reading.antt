@@ -4,7 +4,9 @@ use native.Mathlib.Omega.{arith}
 use mathlib.Core.Path.{◌≡◌, refl, sym, ◌∙◌, ap, ap₂, subst}
 use mathlib.Core.Bool.{Bool, true, false, not, ◌&&◌}
 use mathlib.Core.List.{List, [], ◌∷◌}
-use mathlib.Core.Option.{Option, none, some}
+use mathlib.Core.Option as math
+use mathlib.Core.Option.{none, some}
+use Rattle.std.specs.Prelude.{Option, Some, None}
 use lib.Dec.{eqb, leb}
 use lib.ListN.{length, get_or, take, drop}
 use Rattle.theory.specs.Rules.{Rule}
@@ -12,14 +14,13 @@ use Rattle.theory.specs.Book as book
 use Rattle.theory.proofs.Lists.{unless, leb-le, le-leb, and_l, and_r, and-of}
 use Rattle.history_words.specs.declared.Next.{Next}
 use Rattle.history_words.specs.declared.Next.TheVariants as next
-use Rattle.history_words.specs.declared.RuleFound.{RuleFound}
-use Rattle.history_words.specs.declared.RuleFound.TheVariants as found
-use Rattle.history.specs.Calls.{change, checklist}
+use Rattle.history_words.specs.declared.RuleWords.{RuleWords}
+use Rattle.history.specs.Calls.{change}
 use Rattle.history_words.specs.Encoding.{Placed, rule_in_words, rule_end, load_at, mute_at, when, in_files}
 use Rattle.history_words.specs.Encoding.{placed_rule, placed_load, placed_mute, placed_kind, placed, decode}
 use Rattle.history_words.specs.Reading.{rule_between, call_of, Parts, InOrder, ReadAs, FindRule, cut, whole}
-use Rattle.history_words.specs.Reading.{NextLoad, NextMute, NextOf, checklist_call}
-use Rattle.history_words.specs.Reading.{NextChecklist, below, above, among}
+use Rattle.history_words.specs.Reading.{NextLoad, NextMute, NextOf}
+use Rattle.history_words.specs.Reading.{NextChecklist, neither, opens, sent, skipped, withdrawn}
 
 module _ (ws files : List ℕ) (at : ℕ) where
   pub short : length ws < at + 2 → placed ws files at ≡ none
@@ -52,16 +53,16 @@ module _ (ws files : List ℕ) (at : ℕ) where
 
   -- Nothing is read.
 
-  pub end_short : length ws < at + 2 → NextOf ws files at next.End
+  pub end_short : length ws < at + 2 → NextOf ws files at None
   end_short l = record { read = sym (short l); order = tt }
 
-  pub load-short : length ws < at + 3 → NextLoad ws files at next.End
+  pub load-short : length ws < at + 3 → NextLoad ws files at None
   load-short l = record {
     read = sym (no-load (λ t. omega (arith, leb-le (at + 3) (length ws) (and_l _ _ t))));
     order = tt;
   }
 
-  pub load-backward : get_or ws (at + 2) 0 < get_or ws (at + 1) 0 → NextLoad ws files at next.End
+  pub load-backward : get_or ws (at + 2) 0 < get_or ws (at + 1) 0 → NextLoad ws files at None
   load-backward l = record {
     read = sym (no-load (λ t. omega (
       arith,
@@ -70,7 +71,7 @@ module _ (ws files : List ℕ) (at : ℕ) where
     order = tt;
   }
 
-  pub load_past : length files < get_or ws (at + 2) 0 → NextLoad ws files at next.End
+  pub load_past : length files < get_or ws (at + 2) 0 → NextLoad ws files at None
   load_past l = record {
     read = sym (no-load (λ t. omega (
       arith,
@@ -83,68 +84,44 @@ module _ (ws files : List ℕ) (at : ℕ) where
   -- A removal, a load.
 
   pub reads-removal :
-      at + 2 ≤ length ws → get_or ws at 0 ≡ 0 → NextOf ws files at (next.Remove (get_or ws (at + 1) 0) (at + 2))
+      at + 2 ≤ length ws → get_or ws at 0 ≡ 0
+      → NextOf ws files at (Some (next.Remove (get_or ws (at + 1) 0) (at + 2)))
   reads-removal l e = record { read = sym (by_kind l 0 e); order = l }
 
   pub reads_load :
       at + 3 ≤ length ws → get_or ws (at + 1) 0 ≤ get_or ws (at + 2) 0 → get_or ws (at + 2) 0 ≤ length files
-      → NextLoad ws files at (next.Load (get_or ws (at + 1) 0) (get_or ws (at + 2) 0) (at + 3))
+      → NextLoad ws files at (Some (next.Load (get_or ws (at + 1) 0) (get_or ws (at + 2) 0) (at + 3)))
   reads_load l o i = record { read = sym (load_fits l o i); order = (o, i) }
 
   -- What another function read, of the kind that stands there.
   pub reads-kind :
-      (k : ℕ) (r : Next) → at + 2 ≤ length ws → get_or ws at 0 ≡ k → ReadAs ws files (placed_kind ws files at k) r
-      → NextOf ws files at r
+      (k : ℕ) (r : Option Next) → at + 2 ≤ length ws → get_or ws at 0 ≡ k
+      → ReadAs ws files (placed_kind ws files at k) r → NextOf ws files at r
   reads-kind k r l e N = record { read = N.read ∙ sym (by_kind l k e); order = N.order }
-
-  abbrev this : ℕ → Option Placed
-  this j = some (record { call = checklist (checklist_call j (get_or ws (at + 1) 0)); behind = at + 2 })
 
   -- What a kind that is neither 0, 1, 2, 7 nor 8 says, from 9 on nothing.
   pub reads-checklist :
-      (r : Next) → at + 2 ≤ length ws → (get_or ws at 0 ≡ 0 → ⊥) → (get_or ws at 0 ≡ 1 → ⊥) → (get_or ws at 0 ≡ 2 → ⊥)
-      → (get_or ws at 0 ≡ 7 → ⊥) → (get_or ws at 0 ≡ 8 → ⊥)
+      (r : Option Next) → at + 2 ≤ length ws → (get_or ws at 0 ≡ 0 → ⊥) → (get_or ws at 0 ≡ 1 → ⊥)
+      → (get_or ws at 0 ≡ 2 → ⊥) → (get_or ws at 0 ≡ 7 → ⊥) → (get_or ws at 0 ≡ 8 → ⊥)
       → NextChecklist (get_or ws at 0) (get_or ws (at + 1) 0) (at + 2) r → NextOf ws files at r
-  reads-checklist r l f g h i j (below k) = absurd (low (get_or ws at 0) refl k)
+  reads-checklist r l f g h i j (neither k) = record { read = sym (other (get_or ws at 0) refl k); order = tt }
     where
-      low : (k : ℕ) → get_or ws at 0 ≡ k → k < 3 → ⊥
-      low zero e k = f e
-      low (suc zero) e k = g e
-      low (suc (suc zero)) e k = h e
-      low (suc (suc (suc j))) e k = omega arith
-  reads-checklist r l f g h i j (above k) = record { read = sym (other (get_or ws at 0) refl k); order = tt }
-    where
-      other : (k : ℕ) → get_or ws at 0 ≡ k → 6 < k → placed ws files at ≡ none
-      other zero e k = absurd (omega arith)
-      other (suc zero) e k = absurd (omega arith)
-      other (suc (suc zero)) e k = absurd (omega arith)
-      other (suc (suc (suc zero))) e k = absurd (omega arith)
-      other (suc (suc (suc (suc zero)))) e k = absurd (omega arith)
-      other (suc (suc (suc (suc (suc zero))))) e k = absurd (omega arith)
-      other (suc (suc (suc (suc (suc (suc zero)))))) e k = absurd (omega arith)
+      other : (k : ℕ) → get_or ws at 0 ≡ k → (3 ≤ get_or ws at 0 → get_or ws at 0 ≤ 6 → ⊥) → placed ws files at ≡ none
+      other zero e k = absurd (f e)
+      other (suc zero) e k = absurd (g e)
+      other (suc (suc zero)) e k = absurd (h e)
+      other (suc (suc (suc zero))) e k = absurd (k (omega arith) (omega arith))
+      other (suc (suc (suc (suc zero)))) e k = absurd (k (omega arith) (omega arith))
+      other (suc (suc (suc (suc (suc zero))))) e k = absurd (k (omega arith) (omega arith))
+      other (suc (suc (suc (suc (suc (suc zero)))))) e k = absurd (k (omega arith) (omega arith))
       other (suc (suc (suc (suc (suc (suc (suc zero))))))) e k = absurd (i e)
       other (suc (suc (suc (suc (suc (suc (suc (suc zero)))))))) e k = absurd (j e)
       other (suc (suc (suc (suc (suc (suc (suc (suc (suc n))))))))) e k =
           by_kind l (suc (suc (suc (suc (suc (suc (suc (suc (suc n))))))))) e
-  reads-checklist r l f g h i j (among k m) = record {
-    read = sym (which (get_or ws at 0) refl k m);
-    order = l;
-  }
-    where
-      told : (j : ℕ) → j ≡ get_or ws at 0 - 3 → this j ≡ this (get_or ws at 0 - 3)
-      told j e = ap this e
-
-      which :
-          (k : ℕ) → get_or ws at 0 ≡ k → 3 ≤ k → k ≤ 6
-          → placed ws files at ≡ this (get_or ws at 0 - 3)
-      which zero e k m = absurd (omega arith)
-      which (suc zero) e k m = absurd (omega arith)
-      which (suc (suc zero)) e k m = absurd (omega arith)
-      which (suc (suc (suc zero))) e k m = by_kind l 3 e ∙ told 0 (omega arith)
-      which (suc (suc (suc (suc zero)))) e k m = by_kind l 4 e ∙ told 1 (omega arith)
-      which (suc (suc (suc (suc (suc zero))))) e k m = by_kind l 5 e ∙ told 2 (omega arith)
-      which (suc (suc (suc (suc (suc (suc zero)))))) e k m = by_kind l 6 e ∙ told 3 (omega arith)
-      which (suc (suc (suc (suc (suc (suc (suc j))))))) e k m = absurd (omega arith)
+  reads-checklist r l f g h i j (opens e) = record { read = sym (by_kind l 3 e); order = l }
+  reads-checklist r l f g h i j (sent e) = record { read = sym (by_kind l 4 e); order = l }
+  reads-checklist r l f g h i j (skipped e) = record { read = sym (by_kind l 5 e); order = l }
+  reads-checklist r l f g h i j (withdrawn e) = record { read = sym (by_kind l 6 e); order = l }
 
 -- A muting: none if it is cut short.
 module _ (ws : List ℕ) (at : ℕ) where
@@ -155,7 +132,7 @@ module _ (ws : List ℕ) (at : ℕ) where
   pub mute-whole : at + 3 ≤ length ws → placed_mute ws at ≡ some (mute_at ws at)
   mute-whole l = mute-fits true (le-leb _ _ l)
 
-  pub mute-short : length ws < at + 3 → NextMute ws at next.End
+  pub mute-short : length ws < at + 3 → NextMute ws at None
   mute-short l files = record {
     read = sym (mute-fits false
         (unless (leb (at + 3) (length ws)) (λ t. omega (arith, leb-le (at + 3) (length ws) t))));
@@ -164,12 +141,12 @@ module _ (ws : List ℕ) (at : ℕ) where
 
   pub reads-mute :
       at + 3 ≤ length ws
-      → NextMute ws at (next.Mute (get_or ws (at + 1) 0) (not (eqb (get_or ws (at + 2) 0) 0)) (at + 3))
+      → NextMute ws at (Some (next.Mute (get_or ws (at + 1) 0) (not (eqb (get_or ws (at + 2) 0) 0)) (at + 3)))
   reads-mute l files = record { read = sym (mute-whole l); order = l }
 
 -- A call of the rule whose head stands at a place: none if the rule is cut short.
 module _ (ws : List ℕ) (at : ℕ) (of : Rule → book.Call) where
-  abbrev call_of_rule : Option Placed
+  abbrev call_of_rule : math.Option Placed
   call_of_rule = some (record { call = change (of (rule_in_words ws at)); behind = rule_end ws at })
 
   rule_fits : (t : Bool) → leb (rule_end ws at) (length ws) ≡ t → placed_rule ws at of ≡ when t call_of_rule
@@ -184,21 +161,21 @@ module _ (ws : List ℕ) (at : ℕ) (of : Rule → book.Call) where
   pub rule-whole : rule_end ws at ≤ length ws → placed_rule ws at of ≡ call_of_rule
   rule-whole l = rule_fits true (le-leb _ _ l)
 
-  pub found-cut : (x : RuleFound) → FindRule ws at x → x ≡ found.Cut → placed_rule ws at of ≡ none
-  found-cut x (cut l) e = rule-cut l
-  found-cut x (whole l) e = (let z : ◌≡◌ {A = ℕ} 0 1 = cc in absurd (omega arith))
+  pub found-cut : FindRule ws at None → placed_rule ws at of ≡ none
+  found-cut (cut l) = rule-cut l
+
+  -- The call of a rule that was found.
+  abbrev found_call : RuleWords → math.Option Placed
+  found_call w = some (record { call = change (of (rule_between ws w.head w.from w.middle w.to)); behind = w.to })
 
   pub found-whole :
-      (x : RuleFound) → FindRule ws at x → (h f m b : ℕ) → x ≡ found.At h f m b
-      → (some (record { call = change (of (rule_between ws h f m b)); behind = b }) ≡ placed_rule ws at of)
-      × Parts (length ws) f m b
-  found-whole x (cut l) h f m b e = (let z : ◌≡◌ {A = ℕ} 0 1 = cc in absurd (omega arith))
-  found-whole x (whole l) h f m b e =
+      (w : RuleWords) → FindRule ws at (Some w)
+      → (found_call w ≡ placed_rule ws at of) × Parts (length ws) w.from w.middle w.to
+  found-whole w (whole l) =
       let p = get_or ws (at + 1) 0 in
       let n = get_or ws (at + 2) 0 in
       let u : at + 3 + p - (at + 3) ≡ p = omega arith in
-      let v : at + 3 + p + n - (at + 3 + p) ≡ n = omega arith in
-      subst (λ (y : RuleFound). told y) e (
+      let v : at + 3 + p + n - (at + 3 + p) ≡ n = omega arith in (
         ◌∙◌ {b = call_of_rule}
             (ap₂ (λ (j k : ℕ). some (record {
               call = change (of (record {
@@ -211,29 +188,22 @@ module _ (ws : List ℕ) (at : ℕ) (of : Rule → book.Call) where
             (sym (rule-whole l)),
         (omega arith, omega arith, l),
       )
-    where
-      told : RuleFound → Type 0
-      told found.Cut = ⊥
-      told (found.At h f m b) =
-          (some (record { call = change (of (rule_between ws h f m b)); behind = b }) ≡ placed_rule ws at of)
-          × Parts (length ws) f m b
 
 -- A call of a rule is read.
 module _ (ws files : List ℕ) (at place : ℕ) (of : Rule → book.Call)
-    (stands : placed ws files at ≡ placed_rule ws place of) (x : RuleFound) (F : FindRule ws place x) where
-  pub reads-no-rule : x ≡ found.Cut → NextOf ws files at next.End
-  reads-no-rule e = record { read = sym (stands ∙ found-cut ws place of x F e); order = tt }
+    (stands : placed ws files at ≡ placed_rule ws place of) where
+  pub reads-no-rule : FindRule ws place None → NextOf ws files at None
+  reads-no-rule F = record { read = sym (stands ∙ found-cut ws place of F); order = tt }
 
   pub reads-rule :
-      (h f m b : ℕ) → x ≡ found.At h f m b → (z : Next)
-      → call_of ws files z ≡ some (record { call = change (of (rule_between ws h f m b)); behind = b })
-      → (Parts (length ws) f m b → InOrder (length ws) (length files) z) → NextOf ws files at z
-  reads-rule h f m b e z q o =
-      let w = found-whole ws place of x F h f m b e in
-      record { read = q ∙ w.0 ∙ sym stands; order = o w.1 }
+      (w : RuleWords) → FindRule ws place (Some w) → (z : Option Next)
+      → call_of ws files z ≡ found_call ws place of w → (Parts (length ws) w.from w.middle w.to → InOrder (length ws) (length files) z) → NextOf ws files at z
+  reads-rule w F z q o =
+      let f = found-whole ws place of w F in
+      record { read = q ∙ f.0 ∙ sym stands; order = o f.1 }
 
 -- What was read has its parts in order.
-pub order-of : (n k : ℕ) (x y : Next) → x ≡ y → InOrder n k x → InOrder n k y
+pub order-of : (n k : ℕ) (x y : Option Next) → x ≡ y → InOrder n k x → InOrder n k y
 order-of n k x y e o = subst (InOrder n k) e o
 
 -- The calls from a place on: none where no call stands there, else that call and those behind it.

@@ -14,7 +14,7 @@ use Rattle.theory.proofs.Labels.{supporting-unique}
 use Rattle.theory.proofs.Lists.{clash}
 use Rattle.theory.proofs.Pages.{active-held}
 use Rattle.table.specs.declared.Table.{Table}
-use Rattle.calls.specs.declared.ListAnswer.{ListAnswer}
+use Rattle.calls.specs.Answers.{ListAnswer}
 use Rattle.calls.specs.Ends.{held}
 use Rattle.calls.proofs.Determined.{list-determined}
 use Rattle.label_list.specs.Listed.{label_numbers, LabelsEnd, LabelsListed}

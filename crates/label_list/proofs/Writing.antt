@@ -1,4 +1,5 @@
 -- What is written of the atoms is what the labels tell. Assumes nothing.
+use Rattle.std.specs.Prelude.{Ok, Err}
 use Prim.Native.Nat.{ℕ, zero, suc, ◌+◌, ◌*◌, ◌≤◌, ◌<◌}
 use native.Mathlib.Omega.{arith}
 use native.Mathlib.Numerals.{add-one}
@@ -28,7 +29,6 @@ use Rattle.table.specs.Sound.{Sound}
 use Rattle.occurring.specs.Occurrence.{OccurringIn}
 use Rattle.reading.proofs.SoundArrays.{sound-label}
 use Rattle.refusals.specs.declared.Refusal.TheVariants.{BufferTooShort}
-use Rattle.calls.specs.declared.ListAnswer.TheVariants as listed
 use Rattle.calls.specs.Ends.{accepted, held, short}
 use Rattle.written_lists.specs.Lists.{below}
 use Rattle.written_lists.specs.Written.{Appends}
@@ -170,14 +170,14 @@ module _ (t : Table) (S : Sound t) (k : LabelArrays) (K : ArraysOf t.words k) (O
     count-is : n ≡ length list
     count-is = omega (arith, four-all O (member k.flags) (number k.depths) (number k.slots) document.atoms)
 
-    pub ends-short : length buffer < n → LabelsEnd t buffer (listed.Refused (BufferTooShort n)) buffer
+    pub ends-short : length buffer < n → LabelsEnd t buffer (Err (BufferTooShort n)) buffer
     unfolding Rattle.theory.specs.Questions.first_no
     ends-short l =
         rw count-is (short S.kept.model list S refl S.kept.admissible is-list (omega (arith, count-is)))
 
     pub ends-written :
         n ≤ length buffer → (r : ℕ) (after : List ℕ) → Appends list 0 r buffer after
-        → LabelsEnd t buffer (listed.Count n) after
+        → LabelsEnd t buffer (Ok n) after
     unfolding Rattle.theory.specs.Questions.first_no
     ends-written l r after A =
         let fits : length list ≤ length buffer = omega (arith, count-is) in

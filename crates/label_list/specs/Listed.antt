@@ -5,7 +5,7 @@ use Rattle.theory.specs.Models.{AtomSet}
 use Rattle.theory.specs.Labels.{Label, Labelled, absent, in_at, out}
 use Rattle.theory.specs.Limits.{document}
 use Rattle.table.specs.declared.Table.{Table}
-use Rattle.calls.specs.declared.ListAnswer.{ListAnswer}
+use Rattle.calls.specs.Answers.{ListAnswer}
 use Rattle.calls.specs.Ends.{held, ListEnds}
 
 -- What is told of an atom with this label: the atom, its state (1 out, 2 in), its depth and its supporting slot (0 and

@@ -10,7 +10,6 @@ ghost use Rattle.written_lists.specs.Written.{Appends};
 ghost use Rattle.label_list.specs.Listed.{up_to, LabelsEnd};
 ghost use Rattle.label_list.specs.Found.{numbers_of, found_numbers};
 
-use calls::ListAnswer;
 use occurring::occurring;
 use refusals::Refusal;
 use sound::sound;
@@ -22,7 +21,7 @@ use written_lists::{count_marked, write_at};
 // Numbers to an atom.
 const FOUR: usize = 4;
 
-// The state that is told of an atom that occurs: 2 if it is in, else 1.
+// The state that is told of an atom that occurs: 2 if it is in, else 1. A number: the call's form is four numbers.
 fn state_of(is_in: bool) -> u32
     ensures { result ≡ cond is_in 2 1 }
 {
@@ -81,17 +80,15 @@ fn write_atoms(
         0 result buffer.old buffer.new }
 {
     let mut next: usize = 0;
-    let mut i: usize = 0;
-    while i < Table::ATOMS {
-        let a = i as u16;
-        next = write_atom(there, flags, depths, slots, Atom(a), buffer, next);
-        i += 1;
+    for i in 0..Table::ATOMS {
+        let a = Atom(i as u16);
+        next = write_atom(there, flags, depths, slots, a, buffer, next);
     }
     next
 }
 
 // The labels of all atoms that occur, of a table that is sound: 11. The atoms are counted before a number is written.
-pub fn labels_of_sound(table: &[u16; Table::WORDS], buffer: &mut [u32]) -> ListAnswer
+pub fn labels_of_sound(table: &[u16; Table::WORDS], buffer: &mut [u32]) -> Result<usize, Refusal>
     requires { Sound (table_of table.now) }
     ensures { LabelsEnd (table_of table.now) buffer.old result buffer.new }
 {
@@ -102,20 +99,20 @@ pub fn labels_of_sound(table: &[u16; Table::WORDS], buffer: &mut [u32]) -> ListA
     let there = occurring(table);
     let n = FOUR * count_marked(&there);
     if buffer.len() < n {
-        return ListAnswer::Refused(Refusal::BufferTooShort(n));
+        return Err(Refusal::BufferTooShort(n));
     }
     write_atoms(&there, &flags, &depths, &slots, buffer);
-    ListAnswer::Count(n)
+    Ok(n)
 }
 
 // The labels of all atoms that occur, ascending: 15, 11. Of each, four numbers: the atom, its state (1 out, 2 in), its
 // depth and its supporting slot (0 and 0 if it is out). They are written from the start of the buffer, how many numbers
 // is answered, and later entries stay.
-pub fn labels(table: &[u16; Table::WORDS], buffer: &mut [u32]) -> ListAnswer
+pub fn labels(table: &[u16; Table::WORDS], buffer: &mut [u32]) -> Result<usize, Refusal>
     ensures { LabelsEnd (table_of table.now) buffer.old result buffer.new }
 {
     if !sound(table) {
-        return ListAnswer::Refused(Refusal::TableUnsound);
+        return Err(Refusal::TableUnsound);
     }
     labels_of_sound(table, buffer)
 }

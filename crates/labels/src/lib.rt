@@ -28,12 +28,10 @@ fn keep_dues(
         document.slots table.new }
 {
     let mut given: [bool; Table::ATOMS] = [false; Table::ATOMS];
-    let mut i: usize = 0;
-    while i < Table::SLOTS {
+    for i in 0..Table::SLOTS {
         let rule = rule_at(table, i);
         let due = due_in(rule, model, depths, &mut given);
         keep(table, i, due.depth, due.spoiler);
-        i += 1;
     }
 }
 
@@ -45,11 +43,9 @@ pub fn relabel(table: &mut [u16; Table::WORDS]) -> bool
 {
     // a slice tells its length, which the contract promises: a lent array does not
     let whole = &table[..];
-    let s = strata(table);
-    if !s.acyclic {
+    let Some(of) = strata(table) else {
         return false;
-    }
-    let of = s.of;
+    };
     let search = in_atoms(table, &of);
     let found = search.found;
     let order = search.order;

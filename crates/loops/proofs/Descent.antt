@@ -3,7 +3,7 @@ use Prim.Native.Nat.{ℕ, ◌+◌, ◌≤◌, ◌<◌}
 use native.Mathlib.Omega.{arith}
 use mathlib.Core.Path.{◌≡◌, refl, sym, ◌∙◌, ap, subst}
 use mathlib.Core.Logic.{◌↔◌, ⊎_elim}
-use mathlib.Core.Bool.{true, false}
+use mathlib.Core.Bool.{true}
 use mathlib.Core.List.Memᴰ
 use mathlib.Core.List.{List, []}
 use mathlib.Core.Option.{none, some, none-ne-some, some-injective}
@@ -13,11 +13,11 @@ use Rattle.theory.specs.Lists.{◌∈◌}
 use Rattle.theory.specs.Rules.{Program, Bounded}
 use Rattle.theory.specs.Rules as theory
 use Rattle.theory.specs.Dependencies.{NegativeCycle}
-use Rattle.theory.proofs.Lists.{is_not, le-or-lt, leb-le, le-leb}
+use Rattle.theory.proofs.Lists.{le-or-lt, leb-le, le-leb}
 use Rattle.theory.proofs.Strata.{Strata, strata-acyclic}
 use Rattle.table.specs.declared.Rule.{Rule}
 use Rattle.table.specs.Rules.{numbers, slot_of, rule_of, program_of, past_rule}
-use Rattle.table.proofs.Programs.{program-at, program-length, slot-free, slot_held, slot_rule}
+use Rattle.table.proofs.Programs.{program-at, program-length, slot_held, slot_rule}
 use Rattle.strata.specs.Needed.{needed, EntriesBelow}
 use Rattle.strata.proofs.Numbers.{needed-enough, needed-reached, Reached}
 use Rattle.strata.proofs.Walks.{Entry, plain, denied}
@@ -50,9 +50,6 @@ module _ (ℓ : ℕ → ℕ) (r : theory.Rule) where
 
 -- A slot: free, or with a rule that is tested.
 module _ (ℓ : ℕ → ℕ) (r : Rule) where
-  pub free-descends : r.state ≡ 0 → (true ≡ true) ↔ DescendsAt ℓ (slot_of r)
-  free-descends e = (λ t q h. absurd (none-ne-some q (sym (slot-free r e) ∙ h)), λ w. refl)
-
   pub descent :
       (r.state ≡ 0 → ⊥) → (n h : ℕ) → n ≡ needed ℓ (slot_of r) → h ≡ ℓ r.head.0
       → (leb n h ≡ true) ↔ DescendsAt ℓ (slot_of r)
@@ -77,23 +74,18 @@ module _ (rows : List Rule) where
       → AtomsBelow b (slot_of r)
   atoms-of b s B r e q h = B s q (program-at rows s ∙ ap slot_of (sym e) ∙ h)
 
-  module _ (ℓ : ℕ → ℕ) (i : ℕ) where
-    pub pass-stops : (DescendsAt ℓ (slot_of (get_or rows i past_rule)) → ⊥)
-        → (false ≡ true) ↔ Descending (program_of rows) ℓ
-    pass-stops f = is_not (λ D. f (λ q h. D i q (program-at rows i ∙ h)))
-
-    pub pass-ends : (n : ℕ) → length rows ≡ n → n ≤ i
-        → ((s : ℕ) → s < i → DescendsAt ℓ (slot_of (get_or rows s past_rule)))
-        → (true ≡ true) ↔ Descending (program_of rows) ℓ
-    pass-ends n long l all = (
-      λ t s q h. ⊎_elim
-          (λ (m : length (program_of rows) ≤ s). absurd
-          (none-ne-some q (sym (get_or-eq_default (program_of rows) none m) ∙ h)))
-          (λ (m : s < length (program_of rows)). all s (omega (arith, program-length rows)) q
-          (sym (program-at rows s) ∙ h))
-          (le-or-lt (length (program_of rows)) s),
-      λ w. refl,
-    )
+  -- What is asked of the slots is asked of the program.
+  pub descends-slots : (ℓ : ℕ → ℕ) (n : ℕ) → length rows ≡ n
+      → ((s : ℕ) → s < n → DescendsAt ℓ (slot_of (get_or rows s past_rule))) ↔ Descending (program_of rows) ℓ
+  descends-slots ℓ n long = (
+    λ all s q h. ⊎_elim
+        (λ (m : length (program_of rows) ≤ s). absurd
+        (none-ne-some q (sym (get_or-eq_default (program_of rows) none m) ∙ h)))
+        (λ (m : s < length (program_of rows)). all s (omega (arith, long, program-length rows)) q
+        (sym (program-at rows s) ∙ h))
+        (le-or-lt (length (program_of rows)) s),
+    λ D s l q h. D s q (program-at rows s ∙ h),
+  )
 
 -- A rule whose code counts no negative entry has none, so that it descends by the numbers 0.
 pub positive-descends : (r : Rule) → r.negatives ≡ 0 → DescendsAt (λ a. 0) (slot_of r)

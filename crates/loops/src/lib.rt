@@ -36,30 +36,14 @@ fn descends(table: &[u16; Table::WORDS], numbers: &[u16; Table::ATOMS]) -> bool
     ensures { (result ≡ true) ↔ Descending (program_of (rules_of table.now))
         (number numbers.now) }
 {
-    let mut i: usize = 0;
-    while i < Table::SLOTS {
-        let rule = rule_at(table, i);
-        if !rule_descends(rule, numbers) {
-            return false;
-        }
-        i += 1;
-    }
-    true
+    (0..Table::SLOTS).all(|i| rule_descends(rule_at(table, i), numbers))
 }
 
 // Has no rule a negative entry? Then no dependency goes against the numbers 0. (Promised is only that yes is right.)
 fn without_negation(table: &[u16; Table::WORDS]) -> bool
     ensures { result ≡ true → Descending (program_of (rules_of table.now)) (λ a. 0) }
 {
-    let mut slot: usize = 0;
-    while slot < Table::SLOTS {
-        let rule = rule_at(table, slot);
-        if rule.negatives != 0 {
-            return false;
-        }
-        slot += 1;
-    }
-    true
+    (0..Table::SLOTS).all(|i| rule_at(table, i).negatives == 0)
 }
 
 // Is there no loop through a negation? There is none without a negation; else a guessed order nearly always shows it,
@@ -76,6 +60,5 @@ pub fn acyclic(table: &[u16; Table::WORDS]) -> bool
     if descends(table, &numbers) {
         return true;
     }
-    let s = strata(table);
-    s.acyclic
+    strata(table).is_some()
 }

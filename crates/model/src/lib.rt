@@ -82,7 +82,7 @@ fn note(order: &mut [u16; Search::STRATA], slot: usize) {
     }
     let v = slot as u16;
     let s = &order[..];
-    let n = std::num::wrapping_add_u16(s[0], 1);
+    let n = s[0].wrapping_add(1);
     put(order, n, v);
     put(order, 0, n);
 }
@@ -105,15 +105,12 @@ fn fill_stratum(
     loop {
         let mut adds = false;
         let mut last: usize = 0;
-        let mut i: usize = 0;
-        while i < end {
-            let slot = i;
-            i += 1;
+        for slot in 0..end {
             let rule = rule_at(table, slot);
             if !waits(rule.state, rule.head, strata, k, found) {
                 continue;
             }
-            last = i;
+            last = slot + 1;
             if !holds_valid(rule, found) {
                 continue;
             }
@@ -133,13 +130,9 @@ fn fill_stratum(
 fn highest(strata: &[u16; Table::ATOMS]) -> u16
     ensures { HighestOf (number strata.now) result }
 {
-    let s = &strata[..];
     let mut top: u16 = 0;
-    for i in 0..Table::ATOMS {
-        if s[i] <= top {
-            continue;
-        }
-        top = s[i];
+    for &n in strata {
+        top = top.max(n);
     }
     top
 }
@@ -153,17 +146,13 @@ pub fn in_atoms(table: &[u16; Table::WORDS], strata: &[u16; Table::ATOMS]) -> Se
     let mut found: [bool; Table::ATOMS] = [false; Table::ATOMS];
     let mut rounds: [u16; Search::STRATA] = [0; Search::STRATA];
     let mut order: [u16; Search::STRATA] = [0; Search::STRATA];
-    let mut k: u16 = 0;
-    loop {
+    for k in 0..=top {
         let n = fill_stratum(table, strata, k, &mut found, &mut order);
         rounds[k as usize] = n;
-        if k >= top {
-            return Search {
-                found: found,
-                rounds: rounds,
-                order: order,
-            };
-        }
-        k += 1;
+    }
+    Search {
+        found,
+        rounds,
+        order,
     }
 }

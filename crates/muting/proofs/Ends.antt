@@ -1,4 +1,5 @@
 -- How muting a rule of a sound table ends, from the answers of its questions. Assumes nothing.
+use Rattle.std.specs.Prelude.{Ok}
 use Prim.Native.Nat.{ℕ, ◌<◌}
 use native.Mathlib.Omega.{arith}
 use mathlib.Core.Path.{◌≡◌, sym, ◌∙◌, ap, ap₂, subst}
@@ -23,7 +24,6 @@ use Rattle.table.specs.Sound.{Sound}
 use Rattle.table.proofs.Entries.{there as there-too}
 use Rattle.table.proofs.Programs.{page-stated}
 use Rattle.table.proofs.Words.{rules-length}
-use Rattle.calls.specs.declared.ChangeAnswer.TheVariants as changed
 use Rattle.calls.specs.Ends.{held, ChangeEnds, MuteEnds}
 use Rattle.calls.proofs.Asking.{PassesSlot, slot-low, slot-holds}
 use Rattle.labels.specs.Labelling.{Relabelled}
@@ -104,9 +104,9 @@ module _
       bounded-marked : Bounded (program_of (rules_of w)) document.atoms
       bounded-marked = bounded-after t S s inside new (clean-marked m r clean-there) passes ascending fresh w put
 
-      mute-ends : (v : List ℕ) (b : Bool) → Relabelled w v b → MuteEnds t s m changed.Accepted (table_of v)
+      mute-ends : (v : List ℕ) (b : Bool) → Relabelled w v b → MuteEnds t s m (Ok tt) (table_of v)
       mute-ends v b L =
-          subst (λ (B : Pages). ChangeEnds (slot_questions document (all (held t)) s) B t changed.Accepted (table_of v))
+          subst (λ (B : Pages). ChangeEnds (slot_questions document (all (held t)) s) B t (Ok tt) (table_of v))
           pages-marked
           (accepted-after t S s inside new (clean-marked m r clean-there) passes ascending fresh w put v b L _ Q.yes
           (λ c. S.rules.acyclic (subst NegativeCycle all_stay c)))
@@ -126,5 +126,5 @@ module _
     pub bounded-after-mark : Bounded (program_of (rules_of w)) document.atoms
     bounded-after-mark = bounded-marked t s x Q h is-there m w is-put
 
-    pub muted-ends : (v : List ℕ) (b : Bool) → Relabelled w v b → MuteEnds t s m changed.Accepted (table_of v)
+    pub muted-ends : (v : List ℕ) (b : Bool) → Relabelled w v b → MuteEnds t s m (Ok tt) (table_of v)
     muted-ends = mute-ends t s x Q h is-there m w is-put

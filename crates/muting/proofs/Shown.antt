@@ -1,5 +1,6 @@
 -- What request #108 asks to be shown (specification 9.5), of what the calls answer and hand back. (Demands 2 and 3 with
 -- mutings stand in crates/history.) Assumes nothing.
+use Rattle.std.specs.Prelude.{Ok, Err}
 use Prim.Native.Nat.{ℕ, ◌<◌}
 use mathlib.Core.Path.{◌≡◌, refl, sym, ◌∙◌, ap, ap₂, subst}
 use mathlib.Core.Bool.{Bool, true, false}
@@ -29,8 +30,7 @@ use Rattle.table.specs.declared.Table.{Table}
 use Rattle.table.specs.Labels.{label_at}
 use Rattle.table.specs.Sound.{Sound}
 use Rattle.refusals.specs.declared.Refusal.TheVariants as refusal
-use Rattle.calls.specs.declared.ChangeAnswer.{ChangeAnswer}
-use Rattle.calls.specs.declared.ChangeAnswer.TheVariants as changed
+use Rattle.calls.specs.Answers.{ChangeAnswer}
 use Rattle.calls.specs.Ends as contract
 use Rattle.calls.specs.Ends.{held, Sized, RemoveEnds, MuteEnds}
 use Rattle.calls.proofs.Asking.{slot-asked}
@@ -38,7 +38,7 @@ use Rattle.calls.proofs.OneTable.{table-unique}
 use Rattle.calls.proofs.Determined.{both}
 
 -- Unmuting never meets 7, nor does muting: it is not asked. That it need not be are the next two laws.
-pub never-7 : (t u : Table) (s : ℕ) (m : Bool) → MuteEnds t s m (changed.Refused refusal.NegativeCycle) u → ⊥
+pub never-7 : (t u : Table) (s : ℕ) (m : Bool) → MuteEnds t s m (Err refusal.NegativeCycle) u → ⊥
 unfolding every
 never-7 t u s m (contract.refused f S e) = never-refused 7 (slot_questions document (all (held t)) s) refl e
 
@@ -67,7 +67,7 @@ module _ (t : Table) (s : ℕ) (m : Bool) (p : Page) (h : get_or (held t) s none
 
   -- Setting a mark there is accepted, and the table has it.
   pub set-accepted : (u : Table) (x : ChangeAnswer) → MuteEnds t s m x u
-      → (x ≡ changed.Accepted) × (Sound u × Sized u × (held u ≡ with_mark (held t) s m))
+      → (x ≡ Ok tt) × (Sound u × Sized u × (held u ≡ with_mark (held t) s m))
   set-accepted u x (contract.unsound n) = absurd (n S)
   set-accepted u x (contract.refused f T e) = absurd (both _ _ e asked)
   set-accepted u x (contract.accepted w T e Z i U) = (refl, (U, Z, i))
@@ -81,7 +81,7 @@ marked-there B s m p l h = get_or-set_same B s (set_mark m (get_or B s none)) no
 -- Setting what is set already is accepted and gives the same table.
 pub set-again :
     (t u : Table) (s : ℕ) (p : Page) (x : ChangeAnswer) → Sound t → Sized t → get_or (held t) s none ≡ some p
-    → MuteEnds t s p.muted x u → (x ≡ changed.Accepted) × (u ≡ t)
+    → MuteEnds t s p.muted x u → (x ≡ Ok tt) × (u ≡ t)
 set-again t u s p x S Z h E =
     let w = set-accepted t s p.muted p h S u x E in
     (w.0, table-unique u t w.1.1 Z w.1.0 S (w.1.2 ∙ mark_set (held t) s p h))
@@ -90,7 +90,7 @@ set-again t u s p x S Z h E =
 -- not muted.
 pub marked-and-back :
     (t u v : Table) (s : ℕ) (p : Page) (m : Bool) (x : ChangeAnswer) → Sized t → get_or (held t) s none ≡ some p
-    → MuteEnds t s m changed.Accepted u → MuteEnds u s p.muted x v → (x ≡ changed.Accepted) × (v ≡ t)
+    → MuteEnds t s m (Ok tt) u → MuteEnds u s p.muted x v → (x ≡ Ok tt) × (v ≡ t)
 marked-and-back t u v s p m x Z h (contract.accepted w S d Y i W) E =
     let below = some_below (held t) s p h in
     let there : get_or (held w) s none ≡ some (record { rule = p.rule; muted = m }) =
@@ -102,8 +102,8 @@ marked-and-back t u v s p m x Z h (contract.accepted w S d Y i W) E =
 
 pub muted-and-unmuted :
     (t u v : Table) (s : ℕ) (p : Page) (x : ChangeAnswer) → Sized t → get_or (held t) s none ≡ some p
-    → p.muted ≡ false → MuteEnds t s true changed.Accepted u → MuteEnds u s false x v
-    → (x ≡ changed.Accepted) × (v ≡ t)
+    → p.muted ≡ false → MuteEnds t s true (Ok tt) u → MuteEnds u s false x v
+    → (x ≡ Ok tt) × (v ≡ t)
 muted-and-unmuted t u v s p x Z h off M U =
     marked-and-back t u v s p true x Z h M (subst (λ (m : Bool). MuteEnds u s m x v) (sym off) U)
 
@@ -206,7 +206,7 @@ all-muted-out t S a o none-heads =
 
 -- The same of the calls: muting a rule, and removing it.
 pub muted-as-removed :
-    (t u v : Table) (s : ℕ) → MuteEnds t s true changed.Accepted u → RemoveEnds t s changed.Accepted v → (a : ℕ)
+    (t u v : Table) (s : ℕ) → MuteEnds t s true (Ok tt) u → RemoveEnds t s (Ok tt) v → (a : ℕ)
     → Occurs (all (held v)) a → label_at u.words a ≡ label_at v.words a
 muted-as-removed t u v s (contract.accepted w S d Y i W) (contract.accepted z T e Z j R) a o =
     let old = old-rule document (all (held t)) s d in

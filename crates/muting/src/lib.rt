@@ -7,7 +7,7 @@ ghost use Rattle.table.specs.Sound.{Sound};
 ghost use Rattle.calls.specs.Ends.{MuteEnds};
 ghost use Rattle.muting.specs.Marks.{slot_marked};
 
-use calls::{AskedSlot, ChangeAnswer, Changed, slot_asked};
+use calls::slot_asked;
 use labels::relabel;
 use refusals::Refusal;
 use sound::sound;
@@ -23,41 +23,26 @@ fn with_mark(slot: Rule, muted: bool) -> Rule
     changed
 }
 
-// Sets the mark of the rule in a slot of a table that is sound, or refuses.
-pub fn mute_in_sound(table: Table, slot: u32, muted: bool) -> Changed
-    requires { Sound table }
-    ensures { MuteEnds table slot muted result.answer result.table }
+// Sets the mark of the rule in a slot of a table that is sound, or refuses. No mark is refused after question 9, so the
+// table itself is changed.
+pub fn mute_in_sound(table: &mut Table, slot: u32, muted: bool) -> Result<(), Refusal>
+    requires { Sound table.old }
+    ensures { MuteEnds table.old slot muted result table.new }
 {
-    let asked = slot_asked(&table.words, slot);
-    match asked {
-        AskedSlot::Refused(why) => Changed {
-            answer: ChangeAnswer::Refused(why),
-            table: table,
-        },
-        AskedSlot::Passed(s) => {
-            let held = rule_in(&table.words, s);
-            let other = with_mark(held, muted);
-            let mut changed = table.words;
-            put_rule(&mut changed, s, other);
-            relabel(&mut changed);
-            Changed {
-                answer: ChangeAnswer::Accepted,
-                table: Table { words: changed },
-            }
-        }
-    }
+    let s = slot_asked(&table.words, slot)?;
+    let held = rule_in(&table.words, s);
+    put_rule(&mut table.words, s, with_mark(held, muted));
+    relabel(&mut table.words);
+    Ok(())
 }
 
 // Sets the mark of the rule in the slot, on or off, or refuses by the first question answered no: 15, 8, 9. A table
-// refused is handed back as it came. Setting what is set already is accepted and changes nothing.
-pub fn mute(table: Table, slot: u32, muted: bool) -> Changed
-    ensures { MuteEnds table slot muted result.answer result.table }
+// refused is left as it came. Setting what is set already is accepted and changes nothing.
+pub fn mute(table: &mut Table, slot: u32, muted: bool) -> Result<(), Refusal>
+    ensures { MuteEnds table.old slot muted result table.new }
 {
     if !sound(&table.words) {
-        return Changed {
-            answer: ChangeAnswer::Refused(Refusal::TableUnsound),
-            table: table,
-        };
+        return Err(Refusal::TableUnsound);
     }
     mute_in_sound(table, slot, muted)
 }

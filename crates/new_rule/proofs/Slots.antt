@@ -7,6 +7,10 @@ use mathlib.Core.Bool.{Bool, true, false}
 use mathlib.Core.List.{List}
 use mathlib.Core.Option.{none, some}
 use lib.ListN.{length, get_or}
+use Rattle.std.specs.Bool.{MatchBool}
+use Rattle.std.specs.List.{AllWithin, HoldsAt, range_with_len}
+use Rattle.std.proofs.lemmas.List.FromFn.{get_or-range_with_len, length-range_with_len}
+use Rattle.std.specs.Prelude.{Option, Some, None}
 use Rattle.theory.specs.Rules.{Program, Held}
 use Rattle.theory.specs.Rules as theory
 use Rattle.theory.specs.Questions.{lowest_free}
@@ -16,43 +20,8 @@ use Rattle.theory.proofs.Questions.{held_below, lowest_free-of, lowest_free-none
 use Rattle.table.specs.declared.Rule.{Rule}
 use Rattle.table.specs.declared.Slot.{Slot}
 use Rattle.table.specs.Rules.{program_of, slot_of, rule_of, past_rule}
-use Rattle.table.proofs.Programs.{program-at, program-length, slot-free, slot_held, slot_rule, slot-state}
-use Rattle.new_rule.specs.declared.FreeSlot.{FreeSlot}
-use Rattle.new_rule.specs.declared.FreeSlot.TheVariants.{At, Nowhere}
+use Rattle.table.proofs.Programs.{program-at, program-length, slot-free, slot_held}
 use Rattle.new_rule.specs.Parts.{LowestFree, at, nowhere}
-
--- A slot holds the rule if it is not free and its own rule is that.
-module _ (r : Rule) (q : theory.Rule) where
-  pub free-not : r.state ≡ 0 → (false ≡ true) ↔ (slot_of r ≡ some q)
-  free-not e = (λ t. absurd (clash t refl), λ h. absurd (slot-state r q h e))
-
-  pub held-equal :
-      (r.state ≡ 0 → ⊥) → (b : Bool) → (b ≡ true) ↔ (rule_of r ≡ q) → (b ≡ true) ↔ (slot_of r ≡ some q)
-  held-equal n b told = (λ t. slot_held r n ∙ ap some (told.0 t), λ h. told.1 (slot_rule r q h))
-
--- No slot up to i holds the rule.
-abbrev pub NoneHolds : Program → theory.Rule → ℕ → Type 0
-NoneHolds P q i = (k : ℕ) → k < i → Held P k q → ⊥
-
-module _ (q : theory.Rule) (rules : List Rule) (i : ℕ) where
-  -- what the test of the rule read in slot i tells
-  module _ (r : Rule) (read : r ≡ get_or rules i past_rule) (b : Bool) (told : (b ≡ true) ↔ (slot_of r ≡ some q)) where
-    there : get_or (program_of rules) i none ≡ slot_of r
-    there = program-at rules i ∙ ap slot_of (sym read)
-
-    pub holds-here : b ≡ true → (true ≡ true) ↔ ((s : ℕ) × Held (program_of rules) s q)
-    holds-here t = (λ u. (i, there ∙ told.0 t), λ w. refl)
-
-    pub holds_not : b ≡ false → Held (program_of rules) i q → ⊥
-    holds_not f h = clash (told.1 (sym there ∙ h)) f
-
-  pub holds-none :
-      length rules ≤ i → NoneHolds (program_of rules) q i → (false ≡ true) ↔ ((s : ℕ) × Held (program_of rules) s q)
-  holds-none l none_before = (
-    λ t. absurd (clash t refl),
-    λ w. (let k = held_below (program_of rules) w.0 q w.1 in
-        absurd (none_before w.0 (omega (arith, k, program-length rules)) w.1)),
-  )
 
 -- Every slot up to i holds a rule.
 abbrev pub AllHeld : Program → ℕ → Type 0
@@ -61,30 +30,56 @@ AllHeld P i = (k : ℕ) → k < i → (r : theory.Rule) × Held P k r
 module _ (rules : List Rule) (i : ℕ) (long : length rules ≡ document.slots) (all : AllHeld (program_of rules) i) where
   pub free-here :
       (r : Rule) → r ≡ get_or rules i past_rule → i < document.slots → r.state ≡ 0
-      → LowestFree (program_of rules) (At (record { 0 = i }))
+      → LowestFree (program_of rules) (Some (record { 0 = i }))
   free-here r read l e =
       at i l
       (lowest_free-of (program_of rules) i (omega (arith, program-length rules))
       (program-at rules i ∙ ap slot_of (sym read) ∙ slot-free r e) all)
 
-  pub free-none : document.slots ≤ i → LowestFree (program_of rules) Nowhere
+  pub free-none : document.slots ≤ i → LowestFree (program_of rules) None
   free-none m = nowhere (lowest_free-none (program_of rules) (λ t j. all t (omega (arith, program-length rules))))
 
 -- What was found, by cases.
-module _ (P : Program) (r : FreeSlot) (L : LowestFree P r) where
-  pub lowest-at : (s : Slot) → r ≡ At s → (s.0 < document.slots) × (lowest_free P ≡ some s.0)
+module _ (P : Program) (r : Option Slot) (L : LowestFree P r) where
+  pub lowest-at : (s : Slot) → r ≡ Some s → (s.0 < document.slots) × (lowest_free P ≡ some s.0)
   lowest-at s e = go s (subst (LowestFree P) e L)
     where
-      go : (s : Slot) → LowestFree P (At s) → (s.0 < document.slots) × (lowest_free P ≡ some s.0)
+      go : (s : Slot) → LowestFree P (Some s) → (s.0 < document.slots) × (lowest_free P ≡ some s.0)
       go s (at k l q) = (l, q)
 
-  pub lowest-none : r ≡ Nowhere → lowest_free P ≡ none
+  pub lowest-none : r ≡ None → lowest_free P ≡ none
   lowest-none e = go (subst (LowestFree P) e L)
     where
-      go : LowestFree P Nowhere → lowest_free P ≡ none
+      go : LowestFree P None → lowest_free P ≡ none
       go (nowhere q) = q
 
 pub held-here :
     (rules : List Rule) (i : ℕ) (r : Rule) → r ≡ get_or rules i past_rule → (r.state ≡ 0 → ⊥)
     → (q : theory.Rule) × Held (program_of rules) i q
 held-here rules i r read n = (rule_of r, program-at rules i ∙ ap slot_of (sym read) ∙ slot_held r n)
+
+-- What `any` answers over the slots that may hold the rule.
+module _ (rules : List Rule) (q : theory.Rule) where
+  abbrev pub HoldsIn : ℕ → Type 0
+  HoldsIn s = slot_of (get_or rules s past_rule) ≡ some q
+
+  slot-number : (n k : ℕ) → k < n → get_or (range_with_len 0 n) k 0 ≡ k
+  slot-number n k l = (let e = get_or-range_with_len 0 n k 0 l in omega (arith, e))
+
+  pub any_holds :
+      (n : ℕ) → length rules ≡ n → (t : Bool)
+      → MatchBool t
+      ((k : ℕ) × (k < length (range_with_len 0 n)) × HoldsAt HoldsIn (range_with_len 0 n) k)
+      (AllWithin (λ s. HoldsIn s → ⊥) (range_with_len 0 n) 0 (length (range_with_len 0 n)))
+      → (t ≡ true) ↔ ((s : ℕ) × Held (program_of rules) s q)
+  any_holds n long true h = (
+    λ u. (h.0, program-at rules h.0 ∙ subst HoldsIn (slot-number n h.0 (omega (arith, h.1, length-range_with_len 0 n))) (h.2 0)),
+    λ w. refl,
+  )
+  any_holds n long false h = (
+    λ u. absurd (clash u refl),
+    λ w.
+        let k = held_below (program_of rules) w.0 q w.1 in
+        absurd (h w.0 0 (omega arith) (omega (arith, k, long, program-length rules, length-range_with_len 0 n))
+        (subst HoldsIn (sym (slot-number n w.0 (omega (arith, k, long, program-length rules)))) (sym (program-at rules w.0) ∙ w.1))),
+  )

@@ -1,5 +1,5 @@
 -- Private: what the functions behind an addition answer. Assumes nothing.
-use Rattle.std.specs.Prelude.{ℕ, ◌+◌, ◌≤◌, ◌<◌, ◌≡◌, ◌⊎◌, false, List, length, get_or}
+use Rattle.std.specs.Prelude.{ℕ, ◌+◌, ◌≤◌, ◌<◌, ◌≡◌, ◌⊎◌, false, List, length, get_or, Option, Some, None}
 use Rattle.std.proofs.Math.Option.{none, some}
 use Rattle.std.proofs.Math.Seq.{slice}
 use Rattle.theory.specs.Lists.{insert}
@@ -9,10 +9,9 @@ use Rattle.theory.specs.Questions.{lowest_free}
 use Rattle.theory.specs.Limits.{document}
 use Rattle.table.specs.declared.Atom.{Atom}
 use Rattle.table.specs.declared.Rule.{Rule}
+use Rattle.table.specs.declared.Slot.{Slot}
 use Rattle.table.specs.Rules.{page_of, numbers, no_atom}
 use Rattle.table.specs.Clean.{CleanRule}
-use Rattle.new_rule.specs.declared.FreeSlot.{FreeSlot}
-use Rattle.new_rule.specs.declared.FreeSlot.TheVariants.{At, Nowhere}
 
 -- An atom x is put among the entries from a place to below another, as `insert` does; every other entry is as before.
 pub record Inserted (before : List Atom) (from to x : ℕ) (after : List Atom) : Type 0 where
@@ -30,6 +29,6 @@ pub record SlotWith (q : theory.Rule) (r : Rule) : Type 0 where
   pub clean : CleanRule r
 
 -- The lowest free slot, or that none is free.
-pub data LowestFree (P : Program) : FreeSlot → Type 0 where
-  at : (s : ℕ) → s < document.slots → lowest_free P ≡ some s → LowestFree P (At (record { 0 = s }))
-  nowhere : lowest_free P ≡ none → LowestFree P Nowhere
+pub data LowestFree (P : Program) : Option Slot → Type 0 where
+  at : (s : ℕ) → s < document.slots → lowest_free P ≡ some s → LowestFree P (Some (record { 0 = s }))
+  nowhere : lowest_free P ≡ none → LowestFree P None

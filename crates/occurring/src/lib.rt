@@ -19,11 +19,8 @@ fn mark_entries(rule: Rule, flags: &mut [bool; Table::ATOMS])
     ensures { Marked (entries (rule_of rule)) flags.old flags.new }
 {
     let n = negative_end(rule);
-    let mut j: usize = 0;
-    while j < n {
-        let a = rule.entries[j];
+    for &a in &rule.entries[..n] {
         mark(flags, a);
-        j += 1;
     }
 }
 
@@ -45,11 +42,9 @@ pub fn occurring(table: &[u16; Table::WORDS]) -> [bool; Table::ATOMS]
     ensures { OccurringIn (program_of (rules_of table.now)) (member result) }
 {
     let mut flags: [bool; Table::ATOMS] = [false; Table::ATOMS];
-    let mut i: usize = 0;
-    while i < Table::SLOTS {
+    for i in 0..Table::SLOTS {
         let rule = rule_at(table, i);
         mark_rule(rule, &mut flags);
-        i += 1;
     }
     flags
 }

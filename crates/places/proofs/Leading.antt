@@ -1,39 +1,25 @@
--- Laws of `leading`, the number of bytes at the start that pass a test, as a loop meets them: one byte at a time.
+-- Laws of `leading`, the number of bytes at the start that pass a test, as a chain counts them.
 -- Assumes nothing.
-use Prim.Native.Nat.{ℕ, suc, ◌+◌, ◌≤◌, ◌<◌}
+use Prim.Native.Nat.{ℕ, suc, ◌≤◌}
 use native.Mathlib.Omega.{arith}
-use native.Mathlib.Numerals.{add-one}
-use mathlib.Core.Path.{◌≡◌, refl}
-use mathlib.Core.Bool.{Bool, true, false}
+use native.Mathlib.Numerals.{one-add}
+use mathlib.Core.Path.{◌≡◌, refl, ◌∙◌, ap}
+use mathlib.Core.Bool.{Bool, true, false, cond}
 use mathlib.Core.List.{List, [], ◌∷◌}
-use lib.ListN.{length, get_or, drop, drop_of_length-le}
-use lib.Seq.{drop-cons}
+use lib.ListN.{length, take, drop}
+use Rattle.std.specs.List.{prefix_len}
+use Rattle.std.proofs.lemmas.List.Folds.{length-prefix_len}
 use Rattle.places.specs.Places.{leading}
 
 module _ (f : ℕ → Bool) where
-  leading_end : (line : List ℕ) (i : ℕ) → length line ≤ i → leading f (drop i line) ≡ 0
+  leading-prefix : (s : List ℕ) → prefix_len f s ≡ leading f s
   unfolding leading
-  leading_end line i h = rw (drop_of_length-le line h)
+  leading-prefix [] = refl
+  leading-prefix (b ∷ s) = ap (λ (n : ℕ). cond (f b) n 0) (one-add (prefix_len f s) ∙ ap suc (leading-prefix s))
 
-  leading-more : (line : List ℕ) (i : ℕ) → i < length line → f (get_or line i 0) ≡ true
-      → leading f (drop i line) ≡ suc (leading f (drop (suc i) line))
-  unfolding leading
-  leading-more line i h t = rw (drop-cons line i 0 h, t)
-
-  leading-none : (line : List ℕ) (i : ℕ) → i < length line → f (get_or line i 0) ≡ false → leading f (drop i line) ≡ 0
-  unfolding leading
-  leading-none line i h t = rw (drop-cons line i 0 h, t)
-
-  -- A loop that starts at an offset ends at e: at the start, after a byte that passes, at one that fails, at the end.
-  module _ (line : List ℕ) (i e : ℕ) (inv : i + leading f (drop i line) ≡ e) where
-    pub seek-next : i < length line → f (get_or line i 0) ≡ true → (i + 1) + leading f (drop (i + 1) line) ≡ e
-    seek-next h t = rw (add-one i) (omega (arith, leading-more line i h t))
-
-    pub seek_stop : i < length line → f (get_or line i 0) ≡ false → i ≡ e
-    seek_stop h t = omega (arith, leading-none line i h t)
-
-    pub seek-end : length line ≤ i → i ≡ e
-    seek-end h = omega (arith, leading_end line i h)
+  -- They are as many as `take_while` takes.
+  pub leading-taken : (s : List ℕ) → length (take (prefix_len f s) s) ≡ leading f s
+  leading-taken s = length-prefix_len f s ∙ leading-prefix s
 
   pub leading-within : (s : List ℕ) → leading f s ≤ length s
   unfolding leading

@@ -4,28 +4,19 @@ ghost use Rattle.places.specs.Places.{blanks_end, past_blanks, line_after, next_
 
 use super::Place;
 
-// Where the blanks that begin at an offset end.
+// Where the blanks that begin at an offset end. Past the end of the line it is that offset.
 fn blanks_end(line: &[u8], start: usize) -> usize
     ensures { result ≡ blanks_end line.now start }
 {
-    let mut i = start;
-    while i < line.len() {
-        if line[i] != b' ' {
-            return i;
-        }
-        i += 1;
-    }
-    i
+    let rest = &line[start.min(line.len())..];
+    start + rest.iter().take_while(|&&b| b == b' ').count()
 }
 
 // The number of the next line. The count stops at the greatest u32: no sheet has as many lines.
 fn line_after(line: u32) -> u32
     ensures { result ≡ line_after line }
 {
-    if line == 0xffff_ffff {
-        return line;
-    }
-    line + 1
+    line.saturating_add(1)
 }
 
 // Moves the place past the blanks that begin at it.

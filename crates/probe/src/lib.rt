@@ -1,4 +1,5 @@
-// The engine's phases, exported for comparison runs and benchmarks. Not part of the library's interface.
+// The engine's phases, exported for comparison runs and benchmarks. Not part of the library's interface. A refusal is a
+// number here, since the structs cross to C.
 #![tactic(auto)]
 
 ghost use Rattle.std.specs.Prelude.{◌≡◌, true, ◌↔◌};
@@ -95,17 +96,12 @@ pub extern "C" fn probe_rounds(table: Table) -> RoundsCounted
     if !fit(&table.words) {
         return no_rounds(15);
     }
-    let s = strata(&table.words);
-    let of = s.of;
-    if !s.acyclic {
+    let Some(of) = strata(&table.words) else {
         return no_rounds(7);
-    }
+    };
     let search = in_atoms(&table.words, &of);
     let rounds = search.rounds;
-    RoundsCounted {
-        refused: 0,
-        rounds: rounds,
-    }
+    RoundsCounted { refused: 0, rounds }
 }
 
 // The calls of a list of numbers, made one after another from the empty table: how many there were, the table after

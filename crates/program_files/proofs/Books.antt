@@ -16,7 +16,7 @@ use Rattle.table.specs.declared.Table.{Table}
 use Rattle.table.specs.Sound.{Sound}
 use Rattle.file_blocks.specs.Files.{file_of}
 use Rattle.file_blocks.proofs.RoundTrips.{file-accepted, file-pages}
-use Rattle.calls.specs.declared.ListAnswer.{ListAnswer}
+use Rattle.calls.specs.Answers.{ListAnswer}
 use Rattle.refusals.specs.Refusals.{number_of}
 use Rattle.calls.specs.Ends as contract
 use Rattle.calls.specs.Ends.{held, SaveEnds}

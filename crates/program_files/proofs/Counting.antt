@@ -5,7 +5,7 @@ use mathlib.Core.Path.{◌≡◌, sym, subst}
 use mathlib.Core.List.{List}
 use lib.ListN.{length, take, drop, length-append}
 use Rattle.table.specs.declared.Table.{Table}
-use Rattle.calls.specs.declared.ListAnswer.{ListAnswer}
+use Rattle.calls.specs.Answers.{ListAnswer}
 use Rattle.calls.specs.Ends as contract
 use Rattle.calls.specs.Ends.{SaveEnds}
 use Rattle.fields.proofs.Wrote.{wrote-start, wrote-length}

@@ -1,7 +1,6 @@
 -- What can be said of the program that saves the table that a sheet leaves. Assumes nothing.
-use Rattle.std.specs.Prelude.{ℕ, ◌≡◌, false, List, length, take}
-use Rattle.calls.specs.declared.ListAnswer.{ListAnswer}
-use Rattle.calls.specs.declared.ListAnswer.TheVariants as listed
+use Rattle.std.specs.Prelude.{ℕ, ◌≡◌, false, List, length, take, Ok, Err}
+use Rattle.calls.specs.Answers.{ListAnswer}
 use Rattle.calls.specs.Ends.{SaveEnds}
 use Rattle.file_lines.specs.Loads.{LONGEST}
 use Rattle.program_io.specs.Told.{Writes}
@@ -10,8 +9,8 @@ use Rattle.program_files.specs.declared.Saved.{Saved}
 
 -- How many bytes were written into a buffer: none where that was refused.
 abbrev pub count_of : ListAnswer → ℕ
-count_of (listed.Count n) = n
-count_of (listed.Refused f) = 0
+count_of (Ok n) = n
+count_of (Err f) = 0
 
 -- A sheet was read up to its last line, and no reply was shown; the table after that line was saved in a buffer with
 -- room for every file. The file's bytes were handed to standard output, and nothing else was.

@@ -9,13 +9,13 @@ ghost use Rattle.program_loop.specs.Takes.{SPACE};
 ghost use Rattle.program_files.specs.Saves.{count_of, SavesInput, SavesSheet};
 ghost use Rattle.program_files.specs.Loads.{LoadsInput, LoadsFile};
 
-use calls::ListAnswer;
 use file_blocks::LONGEST;
 use file_calls::save;
 use file_lines::load_lines;
 use program_io::show;
 use program_loop::{Task, output_buffer, take_input};
 use program_sheet::{Last, input_buffer, leave_input};
+use refusals::Refusal;
 use sheet_feed::Sheet;
 
 // What a sheet left and what was saved of it: the reply to its last line, with the table after it; how many bytes that
@@ -40,13 +40,10 @@ pub struct Listed {
 }
 
 // How many bytes were written into a buffer: none where that was refused.
-fn count_of(answer: ListAnswer) -> usize
+fn count_of(answer: Result<usize, Refusal>) -> usize
     ensures { result ≡ count_of answer }
 {
-    match answer {
-        ListAnswer::Count(n) => n,
-        ListAnswer::Refused(f) => 0,
-    }
+    answer.unwrap_or(0)
 }
 
 // Reads a sheet to its end, showing no reply, saves the table after its last line and writes the file on standard
@@ -65,10 +62,10 @@ pub fn save_input(rt: &HostRuntime, input: &mut [u8], file: &mut [u8]) -> Saved
     let mut lost = last.lost;
     show(rt, true, file, count, &mut shown, &mut lost);
     Saved {
-        last: last,
-        count: count,
-        shown: shown,
-        lost: lost,
+        last,
+        count,
+        shown,
+        lost,
     }
 }
 
@@ -108,11 +105,11 @@ pub fn load_input(rt: &HostRuntime, file: &mut [u8], out: &mut [u8]) -> Listed
     let printed = count_of(answer);
     show(rt, true, out, printed, &mut shown, &mut lost);
     Listed {
-        read: read,
-        got: got,
-        printed: printed,
-        shown: shown,
-        lost: lost,
+        read,
+        got,
+        printed,
+        shown,
+        lost,
     }
 }
 

@@ -75,11 +75,11 @@ fn answer_from(rt: &HostRuntime, sheet: Sheet, showing: bool, input: &mut [u8]) 
     );
     let reply = reply_last(rt, at_last, showing, &mut out, &mut shown, &mut lost);
     Last {
-        reply: reply,
-        read: read,
-        got: got,
-        shown: shown,
-        lost: lost,
+        reply,
+        read,
+        got,
+        shown,
+        lost,
     }
 }
 

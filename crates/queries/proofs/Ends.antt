@@ -1,5 +1,8 @@
 -- How the calls end: what a sound table keeps is what is defined, and what the leaves answer is what the contracts ask.
 -- Assumes nothing.
+use Rattle.std.specs.Prelude.{Ok, Err}
+use Rattle.calls.specs.declared.RuleStatus.{RuleStatus}
+use Rattle.calls.specs.declared.RuleStatus.TheVariants as spoilt
 use Prim.Native.Nat.{ℕ, ◌≤◌}
 use native.Mathlib.Omega.{arith}
 use mathlib.Core.Path.{◌≡◌, refl, sym, ◌∙◌, ap, subst}
@@ -35,15 +38,9 @@ use Rattle.table.proofs.Entries.{there}
 use Rattle.table.proofs.Programs.{page-free, page-there}
 use Rattle.table.proofs.Words.{rules-length}
 use Rattle.refusals.specs.declared.Refusal.{Refusal}
-use Rattle.calls.specs.declared.AskedAtom.{AskedAtom}
-use Rattle.calls.specs.declared.AskedAtom.TheVariants.{Passed, Refused}
-use Rattle.calls.specs.declared.ListAnswer.{ListAnswer}
-use Rattle.calls.specs.declared.ListAnswer.TheVariants as listed
-use Rattle.calls.specs.declared.LabelAnswer.{LabelAnswer}
-use Rattle.calls.specs.declared.SpoilerAnswer.{SpoilerAnswer}
-use Rattle.calls.specs.declared.SpoilerAnswer.TheVariants as spoilt
-use Rattle.calls.specs.declared.AskedSlot.{AskedSlot}
-use Rattle.calls.specs.declared.AskedSlot.TheVariants as asked-slot
+use Rattle.calls.specs.Answers.{AskedAtom}
+use Rattle.calls.specs.Answers.{ListAnswer}
+use Rattle.calls.specs.Answers.{AskedSlot}
 use Rattle.calls.specs.Asking.{AskAtomEnds, AskSlotEnds}
 use Rattle.calls.specs.Asking as asking
 use Rattle.calls.specs.Answers.{tell_label, tell_page, tell_spoiler}
@@ -55,10 +52,9 @@ use Rattle.written_lists.specs.Lists.{below}
 use Rattle.written_lists.specs.Written.{Written, short, fits}
 use Rattle.written_lists.proofs.Lists.{flags-list}
 use Rattle.queries.specs.declared.RuleNumbers.{RuleNumbers}
-use Rattle.queries.specs.declared.RuleAnswer.TheVariants as told
-use Rattle.queries.specs.RuleTold.{no_numbers, plain_numbers, RuleEnds}
+use Rattle.queries.specs.RuleTold.{plain_numbers, RuleEnds}
 use Rattle.queries.specs.RuleTold as told-rule
-use Rattle.queries.proofs.Told.{plain-told}
+use Rattle.queries.proofs.Told.{label-told, plain-told}
 
 -- Every atom of a sound table's unmuted rules is below the number of atoms.
 pub active-low : (t : Table) → Sound t → Bounded (active (held t)) document.atoms
@@ -76,11 +72,12 @@ module _ (t : Table) (S : Sound t) (k : LabelArrays) (K : ArraysOf t.words k) wh
 
 -- How a call on an atom ends that tells its label.
 pub label-ends :
-    (t : Table) (a : ℕ) (x : Atom) (l : Label) (r : LabelAnswer) → Passes t a x
-    → label_of l ≡ label_at t.words x.0 → r ≡ tell_label (label_of l) → LabelEnds t a r
-label-ends t a x l r Q e u =
+    (t : Table) (a : ℕ) (x : Atom) (l : Label) → Passes t a x → label_of l ≡ label_at t.words x.0
+    → LabelEnds t a (Ok l)
+label-ends t a x l Q e =
     let S = Q.sound in
-    let is : r ≡ tell_label (label_at t.words a) = u ∙ ap tell_label (e ∙ ap (label_at t.words) Q.atom) in
+    let is : Ok l ≡ tell_label (label_at t.words a) =
+    label-told l ∙ ap tell_label (e ∙ ap (label_at t.words) Q.atom) in
     rw is
     (contract.accepted S.kept.model (label_at t.words a) S Q.yes S.kept.admissible (sound-label t S a))
 
@@ -103,11 +100,11 @@ module _ (B : Pages) (M : AtomSet) (s place : ℕ) (kept : place ≡ slot_spoile
       go false e = omega (arith, of (spoiler M p.rule) refl)
 
   pub place-told :
-      cond p.muted spoilt.Muted (tell_spoiler (spoiler_at_place p.rule place)) ≡ tell_page M p
+      cond p.muted (Ok spoilt.Muted) (tell_spoiler (spoiler_at_place p.rule place)) ≡ tell_page M p
   place-told = go p.muted read
     where
       go : (m : Bool) → place ≡ place_kept M (active_on (some (record { rule = p.rule; muted = m })))
-          → cond m spoilt.Muted (tell_spoiler (spoiler_at_place p.rule place))
+          → cond m (Ok spoilt.Muted) (tell_spoiler (spoiler_at_place p.rule place))
           ≡ tell_page M (record { rule = p.rule; muted = m })
       go true e = refl
       go false e = ap tell_spoiler (ap (spoiler_at_place p.rule) e ∙ spoiler-read M p.rule)
@@ -139,15 +136,15 @@ module _ (t : Table) (s : ℕ) (x : Slot) (Q : PassesSlot t s x) (q : Rule)
     spoiler-low = place-low (held t) Q.sound.kept.model s place kept_here page holds
 
     pub spoiler-ends :
-        (r : SpoilerAnswer) → r ≡ cond (leb 2 q.state) spoilt.Muted (tell_spoiler (spoiler_at_place (rule_of q) place))
-        → SpoilerEnds t s r
+        (r : RuleStatus) → Ok r ≡ cond (leb 2 q.state) (Ok spoilt.Muted) (tell_spoiler (spoiler_at_place (rule_of q) place))
+        → SpoilerEnds t s (Ok r)
     spoiler-ends r u =
         let M = Q.sound.kept.model in
-        let told : r ≡ tell_page M page = u ∙ place-told (held t) M s place kept_here page holds in
+        let told : Ok r ≡ tell_page M page = u ∙ place-told (held t) M s place kept_here page holds in
         rw told (contract.accepted M page Q.sound Q.yes holds Q.sound.kept.admissible)
 
   pub rule-ends :
-      (k : RuleNumbers) → k ≡ plain_numbers q → length q.entries ≡ document.entries → RuleEnds t s told.Held k
+      (k : RuleNumbers) → k ≡ plain_numbers q → length q.entries ≡ document.entries → RuleEnds t s (Ok k)
   rule-ends k u long =
       let low = slot-low t s x Q in
       let clean : CleanRule q = rw (is ∙ there (rules_of t.words) s free_rule past_rule
@@ -156,11 +153,11 @@ module _ (t : Table) (s : ℕ) (x : Slot) (Q : PassesSlot t s x) (q : Rule)
 
 -- One of 15, 8 and 9 was answered no: so ends the call that tells a rule.
 pub rule-refused :
-    (t : Table) (s : ℕ) (r : AskedSlot) → AskSlotEnds t s r → (f : Refusal) → r ≡ asked-slot.Refused f
-    → (k : RuleNumbers) → k ≡ no_numbers → RuleEnds t s (told.Refused f) k
-rule-refused t s r E f e k z = rw z (go f (subst (AskSlotEnds t s) e E))
+    (t : Table) (s : ℕ) (r : AskedSlot) → AskSlotEnds t s r → (f : Refusal) → r ≡ Err f
+    → RuleEnds t s (Err f)
+rule-refused t s r E f e = go f (subst (AskSlotEnds t s) e E)
   where
-    go : (f : Refusal) → AskSlotEnds t s (asked-slot.Refused f) → RuleEnds t s (told.Refused f) no_numbers
+    go : (f : Refusal) → AskSlotEnds t s (Err f) → RuleEnds t s (Err f)
     go f (asking.unsound n) = told-rule.unsound n
     go f (asking.refused g S q) = told-rule.refused g S q
 
@@ -168,12 +165,12 @@ rule-refused t s r E f e k z = rw z (go f (subst (AskSlotEnds t s) e E))
 -- is the set, in the model M.
 module _ (t : Table) (a : ℕ) (r : AskedAtom) (E : AskAtomEnds t a r) (Is : AtomSet → ℕ → ℕ → Type 0) where
   pub set-refused :
-      (f : Refusal) → r ≡ Refused f → (before : List ℕ)
-      → ListEnds (atom_questions document a) (λ N xs. Lists xs (Is N a)) t before (listed.Refused f) before
+      (f : Refusal) → r ≡ Err f → (before : List ℕ)
+      → ListEnds (atom_questions document a) (λ N xs. Lists xs (Is N a)) t before (Err f) before
   set-refused f e before = list-refused t a r E f e _ _ before (λ k q. q)
 
   pub set-ends :
-      (x : Atom) → r ≡ Passed x → (M : AtomSet) → Admissible (active (held t)) M → (flags : List Bool)
+      (x : Atom) → r ≡ Ok x → (M : AtomSet) → Admissible (active (held t)) M → (flags : List Bool)
       → Flags flags (Is M x.0) → (before : List ℕ) (answer : ListAnswer) (after : List ℕ)
       → Written (below (member flags) (length flags)) before answer after
       → ListEnds (atom_questions document a) (λ N xs. Lists xs (Is N a)) t before answer after

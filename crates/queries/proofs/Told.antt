@@ -1,4 +1,7 @@
 -- A label, a spoiler and a rule told as an answer. Assumes nothing.
+use Rattle.std.specs.Prelude.{Ok}
+use Rattle.table.specs.declared.Label.TheVariants.{Absent, Out, In}
+use Rattle.calls.specs.declared.RuleStatus.TheVariants as spoilt
 use Prim.Native.Nat.{ℕ, suc, ◌+◌, ◌-◌, ◌≤◌, ◌<◌, min}
 use native.Mathlib.Omega.{arith}
 use mathlib.Core.Path.{◌≡◌, refl, sym, ◌∙◌, ap}
@@ -22,21 +25,18 @@ use Rattle.table.specs.Rules.{no_atom, numbers, rule_of}
 use Rattle.table.specs.Clean.{CleanRule}
 use Rattle.table.specs.Labels.{label_of}
 use Rattle.table.proofs.Entries.{entries-are}
-use Rattle.table.proofs.Programs.{label-is_in}
-use Rattle.calls.specs.declared.LabelAnswer.TheVariants as label
-use Rattle.calls.specs.declared.SpoilerAnswer.{SpoilerAnswer}
-use Rattle.calls.specs.declared.SpoilerAnswer.TheVariants as spoilt
+use Rattle.calls.specs.Answers.{SpoilerAnswer}
 use Rattle.calls.specs.Answers.{tell_label, tell_spoiler}
 use Rattle.queries.specs.RuleTold.{plain_numbers, tell_numbers}
 
-pub told_in :
-    (l : Label) → (l.state ≡ 0 → ⊥) → (l.state ≡ 1 → ⊥) → label.In l.depth l.slot ≡ tell_label (label_of l)
-told_in l m n =
-    let more : 1 < l.state = omega arith in
-    sym (ap tell_label (label-is_in l more))
+-- What is answered of a label is the label.
+pub label-told : (l : Label) → Ok l ≡ tell_label (label_of l)
+label-told Absent = refl
+label-told Out = refl
+label-told (In d s) = refl
 
 -- At place 0 of a rule there is no spoiler.
-pub told-valid : (q : theory.Rule) (place : ℕ) → place ≡ 0 → spoilt.Valid ≡ tell_spoiler (spoiler_at_place q place)
+pub told-valid : (q : theory.Rule) (place : ℕ) → place ≡ 0 → Ok spoilt.Valid ≡ tell_spoiler (spoiler_at_place q place)
 unfolding spoiler_at_place
 told-valid q place z = sym (ap (λ k. tell_spoiler (spoiler_at_place q k)) z)
 
@@ -74,23 +74,23 @@ module _ (r : Rule) (long : length r.entries ≡ document.entries) (place k : �
         length-map (take r.positives r.entries) (λ (a : Atom). a.0)
         ∙ length-take r.positives r.entries ∙ ap (min r.positives) long ∙ sym end
 
-    pub told-positive : k < n → spoilt.Positive k (get_or r.entries k no_atom) ≡ tell_spoiler (spoiler_at_place q place)
+    pub told-positive : k < n → Ok (spoilt.Positive k (get_or r.entries k no_atom)) ≡ tell_spoiler (spoiler_at_place q place)
     told-positive l =
         let here : k < length q.positives = omega (arith, positive-count) in
         let x : get_or q.positives k 0 ≡ (get_or r.entries k no_atom).0 =
         sym (get_or-append q.positives q.negatives 0 k here) ∙ at_entry in
         sym (ap (λ i. tell_spoiler (spoiler_at_place q i)) after ∙ ap tell_spoiler (at-positive q k here)
-        ∙ ap (λ y. spoilt.Positive k (record { 0 = y })) x)
+        ∙ ap (λ y. Ok (spoilt.Positive k (record { 0 = y }))) x)
 
     pub told-negative :
-        n ≤ k → spoilt.Negative (k - n) (get_or r.entries k no_atom) ≡ tell_spoiler (spoiler_at_place q place)
+        n ≤ k → Ok (spoilt.Negative (k - n) (get_or r.entries k no_atom)) ≡ tell_spoiler (spoiler_at_place q place)
     told-negative l =
         let i = k - n in
         let there : length q.positives + i ≡ k = omega (arith, positive-count) in
         let x : get_or q.negatives i 0 ≡ (get_or r.entries k no_atom).0 =
         sym (get_or-append-add q.positives q.negatives i 0) ∙ ap (λ j. get_or (entries q) j 0) there ∙ at_entry in
         sym (ap (λ j. tell_spoiler (spoiler_at_place q j)) (after ∙ ap suc (sym there)) ∙ ap tell_spoiler (at-negative q i)
-        ∙ ap (λ y. spoilt.Negative i (record { 0 = y })) x)
+        ∙ ap (λ y. Ok (spoilt.Negative i (record { 0 = y }))) x)
 
 -- A clean rule's numbers are those that tell it.
 module _ (r : Rule) (clean : CleanRule r) (long : length r.entries ≡ document.entries) where
@@ -133,9 +133,9 @@ module _ (r : Rule) (clean : CleanRule r) (long : length r.entries ≡ document.
 
 -- A slot's rule told by its state.
 module _ (n : ℕ) (x : SpoilerAnswer) where
-  pub told-muted : 1 < n → spoilt.Muted ≡ cond (leb 2 n) spoilt.Muted x
-  told-muted l = sym (ap (λ b. cond b spoilt.Muted x) (le-leb 2 n (omega arith)))
+  pub told-muted : 1 < n → Ok spoilt.Muted ≡ cond (leb 2 n) (Ok spoilt.Muted) x
+  told-muted l = sym (ap (λ b. cond b (Ok spoilt.Muted) x) (le-leb 2 n (omega arith)))
 
-  pub told-unmuted : n ≤ 1 → x ≡ cond (leb 2 n) spoilt.Muted x
+  pub told-unmuted : n ≤ 1 → x ≡ cond (leb 2 n) (Ok spoilt.Muted) x
   told-unmuted l =
-      sym (ap (λ b. cond b spoilt.Muted x) (unless (leb 2 n) (λ t. omega (arith, leb-le 2 n t))))
+      sym (ap (λ b. cond b (Ok spoilt.Muted) x) (unless (leb 2 n) (λ t. omega (arith, leb-le 2 n t))))

@@ -1,5 +1,5 @@
 -- The rule in a slot told as numbers, and how the call ends that tells it. Assumes nothing.
-use Rattle.std.specs.Prelude.{ℕ, ◌≡◌, false, List, [], ◌∷◌, leb, length, get_or, replicate}
+use Rattle.std.specs.Prelude.{ℕ, ◌≡◌, false, List, [], ◌∷◌, leb, length, get_or, replicate, Result, Ok, Err}
 use Rattle.std.proofs.Math.Option.{none, some}
 use Rattle.theory.specs.Rules.{Page, all, entries}
 use Rattle.theory.specs.Questions.{first_no, slot_questions}
@@ -12,8 +12,6 @@ use Rattle.refusals.specs.declared.Refusal.{Refusal}
 use Rattle.refusals.specs.declared.Refusal.TheVariants.{TableUnsound}
 use Rattle.refusals.specs.Refusals.{number_of}
 use Rattle.calls.specs.Ends.{held}
-use Rattle.queries.specs.declared.RuleAnswer.{RuleAnswer}
-use Rattle.queries.specs.declared.RuleAnswer.TheVariants.{Held, Refused}
 use Rattle.queries.specs.declared.RuleNumbers.{RuleNumbers}
 
 -- The first eight numbers of a list: 0 past its end.
@@ -44,15 +42,19 @@ tell_numbers p =
 abbrev pub no_numbers : RuleNumbers
 no_numbers = record { head = 0; muted = false; positives = 0; negatives = 0; entries = replicate document.entries 0 }
 
+-- What the call on the rule in a slot answers.
+abbrev pub RuleAnswer : Type 0
+RuleAnswer = Result RuleNumbers Refusal
+
 -- Rule: 15, 8, 9. A refusal tells no rule.
-pub data RuleEnds (t : Table) (s : ℕ) : RuleAnswer → RuleNumbers → Type 0 where
-  unsound : (Sound t → ⊥) → RuleEnds t s (Refused TableUnsound) no_numbers
+pub data RuleEnds (t : Table) (s : ℕ) : RuleAnswer → Type 0 where
+  unsound : (Sound t → ⊥) → RuleEnds t s (Err TableUnsound)
   refused :
       (f : Refusal) → Sound t → first_no (slot_questions document (all (held t)) s) ≡ some (number_of f)
-      → RuleEnds t s (Refused f) no_numbers
+      → RuleEnds t s (Err f)
   accepted :
       (p : Page) → Sound t → first_no (slot_questions document (all (held t)) s) ≡ none
-      → get_or (held t) s none ≡ some p → RuleEnds t s Held (tell_numbers p)
+      → get_or (held t) s none ≡ some p → RuleEnds t s (Ok (tell_numbers p))
 
 -- Private: the numbers that stand in a slot for its rule.
 abbrev pub plain_numbers : Rule → RuleNumbers

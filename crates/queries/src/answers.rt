@@ -1,57 +1,42 @@
-// One label, one spoiler, one rule, told as an answer.
-ghost use Rattle.std.specs.Prelude.{◌≡◌, cond, ◌≤◌, leb, length};
+// One spoiler, one rule, told as an answer.
+ghost use Rattle.std.specs.Prelude.{◌≡◌, cond, ◌≤◌, leb, length, Ok};
 ghost use Rattle.theory.specs.Rules.{entries};
 ghost use Rattle.theory.specs.Slots.{spoiler_at_place};
 ghost use Rattle.table.specs.Rules.{rule_of};
-ghost use Rattle.table.specs.Labels.{label_of};
-ghost use Rattle.calls.specs.declared.SpoilerAnswer.TheVariants.{Muted};
 ghost use Rattle.theory.specs.Limits.{document};
-ghost use Rattle.calls.specs.Answers.{tell_label, tell_spoiler};
-ghost use Rattle.queries.specs.RuleTold.{no_numbers, plain_numbers};
+ghost use Rattle.calls.specs.Answers.{tell_spoiler};
+ghost use Rattle.calls.specs.declared.RuleStatus.TheVariants.{Muted};
+ghost use Rattle.queries.specs.RuleTold.{plain_numbers};
 
 use super::RuleNumbers;
-use calls::{LabelAnswer, SpoilerAnswer};
+use calls::RuleStatus;
 use rule::positive_end;
-use table::{Label, Rule, Table};
-
-// The answer that tells a label.
-pub fn tell_label(label: Label) -> LabelAnswer
-    ensures { result ≡ tell_label (label_of label) }
-{
-    if label.state == 0 {
-        return LabelAnswer::Absent;
-    }
-    if label.state == 1 {
-        return LabelAnswer::Out;
-    }
-    let slot = label.slot;
-    LabelAnswer::In(label.depth, slot)
-}
+use table::Rule;
 
 // The answer that tells the spoiler at a place of a rule's lists, counted from 1 over both; at 0 there is none.
-fn tell_spoiler(rule: Rule, place: u16) -> SpoilerAnswer
+fn tell_spoiler(rule: Rule, place: u16) -> RuleStatus
     requires { place ≤ length (entries (rule_of rule)) }
-    ensures { result ≡ tell_spoiler (spoiler_at_place (rule_of rule) place) }
+    ensures { Ok result ≡ tell_spoiler (spoiler_at_place (rule_of rule) place) }
 {
     if place == 0 {
-        return SpoilerAnswer::Valid;
+        return RuleStatus::Valid;
     }
     let k = place as usize - 1;
     let a = rule.entries[k];
     let n = positive_end(rule);
     if k < n {
-        return SpoilerAnswer::Positive(k as u8, a);
+        return RuleStatus::Positive(k as u8, a);
     }
-    SpoilerAnswer::Negative((k - n) as u8, a)
+    RuleStatus::Negative((k - n) as u8, a)
 }
 
 // The answer that tells of the rule in a slot that keeps this place: that it is muted, or its spoiler.
-pub fn tell_rule(rule: Rule, place: u16) -> SpoilerAnswer
+pub fn tell_rule(rule: Rule, place: u16) -> RuleStatus
     requires { place ≤ length (entries (rule_of rule)) }
-    ensures { result ≡ cond (leb 2 rule.state) Muted (tell_spoiler (spoiler_at_place (rule_of rule) place)) }
+    ensures { Ok result ≡ cond (leb 2 rule.state) (Ok Muted) (tell_spoiler (spoiler_at_place (rule_of rule) place)) }
 {
     if rule.state > 1 {
-        return SpoilerAnswer::Muted;
+        return RuleStatus::Muted;
     }
     tell_spoiler(rule, place)
 }
@@ -74,18 +59,5 @@ pub fn tell_numbers(rule: Rule) -> RuleNumbers
         positives: rule.positives,
         negatives: rule.negatives,
         entries: [e0.0, e1.0, e2.0, e3.0, e4.0, e5.0, e6.0, e7.0],
-    }
-}
-
-// The numbers of no rule.
-pub fn no_numbers() -> RuleNumbers
-    ensures { result ≡ no_numbers }
-{
-    RuleNumbers {
-        head: 0,
-        muted: false,
-        positives: 0,
-        negatives: 0,
-        entries: [0; Table::ENTRIES],
     }
 }

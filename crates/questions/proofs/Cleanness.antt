@@ -2,15 +2,15 @@
 use Prim.Native.Nat.{ℕ, zero, suc, ◌+◌, ◌≤◌, ◌<◌}
 use native.Mathlib.Numerals.{add-one}
 use native.Mathlib.Omega.{arith}
-use mathlib.Core.Path.{◌≡◌, refl, sym, ◌∙◌, ap}
+use mathlib.Core.Path.{◌≡◌, sym, ◌∙◌, ap}
 use mathlib.Core.Logic.{◌↔◌, ⊎_elim}
 use mathlib.Core.Bool.{Bool, true, false, not}
 use mathlib.Core.List.{List}
-use lib.Dec.{eqb, leb}
+use lib.Dec.{eqb}
 use lib.ListN.{length, get_or, length-replicate, get_or-replicate}
 use lib.Seq.{ext_get_or}
 use Rattle.theory.specs.Limits.{document}
-use Rattle.theory.proofs.Lists.{le-or-lt, not-true, not-false, clash, eqb-eq, eqb_of, le-leb, leb-le}
+use Rattle.theory.proofs.Lists.{le-or-lt, not-false, eqb-eq, eqb_of}
 pub use Rattle.theory.proofs.Lists.{is_not}
 use Rattle.table.specs.declared.Atom.{Atom}
 use Rattle.table.specs.declared.Rule.{Rule}
@@ -60,9 +60,6 @@ module _ (xs : List Atom) (from : ℕ) where
       )))
       (le-or-lt (suc m) from)
 
-  pub none_after : length xs ≤ from → (true ≡ true) ↔ ((i : ℕ) → from ≤ i → get_or xs i no_atom ≡ no_atom)
-  none_after k = (λ t i l. sym (past xs i no_atom (omega arith)), λ h. refl)
-
   pub nothing-added :
       (m : ℕ) → from ≤ m → length xs ≤ m → (x y : ℕ) → x ≡ sum_to xs from → y ≡ sum_to xs m
       → (eqb x y ≡ true) ↔ ((i : ℕ) → from ≤ i → get_or xs i no_atom ≡ no_atom)
@@ -86,35 +83,10 @@ module _ (r : Rule) (long : length r.entries ≡ document.entries) where
   abbrev Filler : Type 0
   Filler = (i : ℕ) → r.positives + r.negatives ≤ i → get_or r.entries i no_atom ≡ no_atom
 
-  pub too_many : document.entries < r.positives + r.negatives → (false ≡ true) ↔ CleanRule r
-  too_many h = is_not (λ w. omega (arith, w.fits))
-
   module _ (fits : r.positives + r.negatives ≤ document.entries) (t : Bool) (told : (t ≡ true) ↔ Filler) where
-    pub not-empty : not t ≡ true → (false ≡ true) ↔ CleanRule r
-    not-empty u = is_not (λ w. clash (told.1 w.filler) (not-true t u))
-
     module _ (u : not t ≡ false) where
       filler : Filler
       filler = told.0 (not-false t u)
-
-      -- A slot that is not free holds a rule with one of the two marks.
-      pub held-clean : (r.state ≡ 0 → ⊥) → (leb r.state 2 ≡ true) ↔ CleanRule r
-      held-clean h = (
-        λ k. record {
-          known = leb-le r.state 2 k;
-          free = λ e. absurd (h e);
-          fits = fits;
-          filler = told.0 (not-false t u);
-        },
-        λ w. le-leb r.state 2 w.known,
-      )
-
-      pub free-counts : r.state ≡ 0 → (r.positives + r.negatives ≡ 0 → ⊥) → (false ≡ true) ↔ CleanRule r
-      free-counts e h = is_not (λ w.
-          let z = w.free e in
-          let p : r.positives ≡ 0 = ap (λ q. q.positives) z in
-          let n : r.negatives ≡ 0 = ap (λ q. q.negatives) z in
-          h (omega arith))
 
       pub free-head :
           r.state ≡ 0 → r.positives + r.negatives ≡ 0 → (eqb r.head.0 0 ≡ true) ↔ CleanRule r

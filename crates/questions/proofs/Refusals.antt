@@ -1,6 +1,5 @@
 -- The first of questions 1 to 4 answered no, from the answers one by one. Assumes nothing. The limits are a parameter.
-use Prim.Native.Nat.{ℕ, ◌+◌, ◌<◌}
-use native.Mathlib.Omega.{arith}
+use Prim.Native.Nat.{ℕ, ◌+◌}
 use mathlib.Core.Path.{◌≡◌, sym, ◌∙◌}
 use mathlib.Core.Bool.{Bool, true, false, not, ◌&&◌}
 use mathlib.Core.List.{List, [], ◌∷◌, ◌++◌}
@@ -10,17 +9,10 @@ use lib.ListN.{length}
 use Rattle.theory.specs.Lists.{every, distinct}
 use Rattle.theory.specs.Limits.{Limits}
 use Rattle.theory.specs.Questions.{Question, asks, first_no, rule_questions}
-use Rattle.theory.proofs.Lists.{not-true, not-false, unless, leb-le}
+use Rattle.theory.proofs.Lists.{not-true, not-false}
 use Rattle.theory.proofs.Questions.{first_no-here, first_no-yes}
 use Rattle.table.specs.Questions.{rule_from}
 use Rattle.table.proofs.Walks.{every_append}
-
--- Two lengths of which one is past the room are past it together.
-pub first_past : (m n room : ℕ) → room < m → false ≡ leb (m + n) room
-first_past m n room l = sym (unless _ (λ u. omega (arith, leb-le (m + n) room u)))
-
-pub second_past : (m n room : ℕ) → room < n → false ≡ leb (m + n) room
-second_past m n room l = sym (unless _ (λ u. omega (arith, leb-le (m + n) room u)))
 
 -- A negated test t of an answer q.
 pub no-by : (t q : Bool) → t ≡ q → not t ≡ true → q ≡ false

@@ -1,5 +1,5 @@
 -- Laws of slots that a sound table can have, by what is tested of them. Assumes nothing.
-use Prim.Native.Nat.{ℕ, ◌+◌, ◌-◌, ◌≤◌}
+use Prim.Native.Nat.{ℕ, ◌+◌, ◌≤◌}
 use native.Mathlib.Omega.{arith}
 use mathlib.Core.Path.{◌≡◌, refl, sym, ◌∙◌, ap, subst}
 use mathlib.Core.Logic.{◌↔◌}
@@ -22,24 +22,9 @@ use Rattle.table.specs.Rules.{numbers, rule_of}
 use Rattle.table.specs.Clean.{CleanRule, WellFormed}
 use Rattle.table.proofs.Entries.{positives-are, negatives-are}
 use Rattle.table.proofs.Walks.{every_append}
-use Rattle.table.proofs.Programs.{slot-state, slot_rule, slot_held}
+use Rattle.table.proofs.Programs.{slot_rule, slot_held}
 use Rattle.questions.proofs.Cleanness.{is_not}
 use Rattle.questions.proofs.Ascents.{Fits}
-
--- A slot that is not clean, or is free.
-module _ (r : Rule) (t : Bool) (told : (t ≡ true) ↔ CleanRule r) where
-  pub not-clean : not t ≡ true → (false ≡ true) ↔ WellFormed r
-  not-clean u = is_not (λ w. clash (told.1 w.clean) (not-true t u))
-
-  pub well-free : not t ≡ false → r.state ≡ 0 → (true ≡ true) ↔ WellFormed r
-  well-free u e = (
-    λ v. record {
-      clean = told.0 (not-false t u);
-      passes = λ q h. absurd (slot-state r q h e);
-      ascending = λ q h. absurd (slot-state r q h e);
-    },
-    λ w. refl,
-  )
 
 -- A part is not longer than was asked for.
 part-short : (n : ℕ) (xs : List Atom) → length (numbers (take n xs)) ≤ n

@@ -16,11 +16,8 @@ fn sum_to(rule: Rule, to: usize) -> u32
     ensures { result ≡ sum_to rule.entries to }
 {
     let mut sum: u32 = 0;
-    let mut j: usize = 0;
-    while j < to {
-        let a = rule.entries[j];
+    for a in &rule.entries[..to] {
         sum += a.0 as u32;
-        j += 1;
     }
     sum
 }
@@ -57,15 +54,14 @@ pub fn clean_rule(rule: Rule) -> bool
 }
 
 // Do the entries from `from` to below `to` ascend, and is each below the number of atoms? An entry is tested as a head
-// is.
+// is. (By place: `from` may be past `to`, where there is no such slice.)
 fn ascends(rule: Rule, from: usize, to: usize) -> bool
     requires { to ≤ document.entries }
     ensures { (result ≡ true) ↔ (Sorted (λ x y. x < y) (numbers (slice from to rule.entries))
         × (every (λ x. ltb x document.atoms) (numbers (slice from to rule.entries)) ≡ true)) }
 {
     let mut least: u32 = 0;
-    let mut j = from;
-    while j < to {
+    for j in from..to {
         let a = rule.entries[j];
         let x = a.0 as u32;
         if x < least {
@@ -75,7 +71,6 @@ fn ascends(rule: Rule, from: usize, to: usize) -> bool
             return false;
         }
         least = x + 1;
-        j += 1;
     }
     true
 }

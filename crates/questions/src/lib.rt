@@ -13,13 +13,6 @@ use table::Table;
 
 pub mod clean; // clean.rt: what holds nothing stands as in the empty table; well-formed slots
 
-// What questions 1 to 4 answer of a rule: that it passes, or the refusal.
-#[derive(Clone, Copy)]
-pub enum AskedRule {
-    Passed,
-    Refused(Refusal),
-}
-
 // 1: Is the head below the number of atoms?
 pub fn head_fits(head: u32) -> bool
     ensures { result ≡ ltb head document.atoms }
@@ -45,68 +38,43 @@ pub fn few_entries(positives: &[u32], negatives: &[u32]) -> bool
 pub fn entries_fit(list: &[u32]) -> bool
     ensures { result ≡ every (λ x. ltb x document.atoms) list.now }
 {
-    let mut i: usize = 0;
-    while i < list.len() {
-        let x = list[i];
-        if !head_fits(x) {
-            return false;
-        }
-        i += 1;
-    }
-    true
-}
-
-// Does a number stand in the list from a place on?
-fn stands_from(list: &[u32], from: usize, x: u32) -> bool
-    ensures { result ≡ any (eqb x) (drop from list.now) }
-{
-    let mut i = from;
-    while i < list.len() {
-        if x == list[i] {
-            return true;
-        }
-        i += 1;
-    }
-    false
+    list.iter().all(|&x| head_fits(x))
 }
 
 // 4, of one list: Is it without a repeated atom?
 pub fn no_repeat(list: &[u32]) -> bool
     ensures { result ≡ distinct list.now }
 {
-    let mut i: usize = 0;
-    while i < list.len() {
-        let x = list[i];
-        if stands_from(list, i + 1, x) {
+    for (i, x) in list.iter().enumerate() {
+        if list[i + 1..].contains(x) {
             return false;
         }
-        i += 1;
     }
     true
 }
 
-// Asks 1 to 4 of the rule that the arguments name.
-pub fn ask_rule(head: u32, positives: &[u32], negatives: &[u32]) -> AskedRule
+// Asks 1 to 4 of the rule that the arguments name: that it passes, or the refusal.
+pub fn ask_rule(head: u32, positives: &[u32], negatives: &[u32]) -> Result<(), Refusal>
     ensures { first_no_told result ≡ first_no
         (rule_questions document (rule_from head positives.now negatives.now)) }
 {
     if !head_fits(head) {
-        return AskedRule::Refused(Refusal::HeadTooLarge);
+        return Err(Refusal::HeadTooLarge);
     }
     if !few_entries(positives, negatives) {
-        return AskedRule::Refused(Refusal::TooManyEntries);
+        return Err(Refusal::TooManyEntries);
     }
     if !entries_fit(positives) {
-        return AskedRule::Refused(Refusal::EntryTooLarge);
+        return Err(Refusal::EntryTooLarge);
     }
     if !entries_fit(negatives) {
-        return AskedRule::Refused(Refusal::EntryTooLarge);
+        return Err(Refusal::EntryTooLarge);
     }
     if !no_repeat(positives) {
-        return AskedRule::Refused(Refusal::RepeatedEntry);
+        return Err(Refusal::RepeatedEntry);
     }
     if !no_repeat(negatives) {
-        return AskedRule::Refused(Refusal::RepeatedEntry);
+        return Err(Refusal::RepeatedEntry);
     }
-    AskedRule::Passed
+    Ok(())
 }

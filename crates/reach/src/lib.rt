@@ -9,18 +9,11 @@ ghost use Rattle.reach.specs.Rounds.{source, Followed, Round};
 use table::sets::has;
 use table::{Atom, Table};
 
-// The smaller of two numbers.
-fn least(a: usize, b: usize) -> usize
-    ensures { result ≡ min a b }
-{
-    if a < b { a } else { b }
-}
-
 // How many indices hold an edge: those below `count` and in both slices.
 fn edge_count(from: &[u16], to: &[u16], count: usize) -> usize
     ensures { result ≡ min count (min (length from.now) (length to.now)) }
 {
-    least(count, least(from.len(), to.len()))
+    count.min(from.len().min(to.len()))
 }
 
 // Are the edges that leave `a` followed: is it the start, or in the set?
@@ -69,13 +62,11 @@ fn round(
 {
     let n = edge_count(from, to, count);
     let mut marked = false;
-    let mut i: usize = 0;
-    while i < n {
+    for i in 0..n {
         let a = from[i];
         let c = to[i];
         let more = follow_edge(flags, start, Atom(a), Atom(c));
         marked = marked | more;
-        i += 1;
     }
     marked
 }

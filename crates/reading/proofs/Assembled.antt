@@ -16,6 +16,7 @@ use Rattle.theory.specs.Limits.{document}
 use Rattle.theory.proofs.Lists.{le-or-lt, same_test}
 use Rattle.theory.proofs.Rules.{occurs-at, occurs-of}
 use Rattle.table.specs.declared.Label.{Label}
+use Rattle.table.specs.declared.Label.TheVariants.{Out, In}
 use Rattle.table.specs.declared.arrays.LabelArrays.{LabelArrays}
 use Rattle.table.specs.Sets.{member, number}
 use Rattle.table.specs.Rules.{program_of}
@@ -27,10 +28,10 @@ use Rattle.reading.specs.Assembling.{label_for, Assembled}
 
 -- The label of one atom, by whether it is in and whether it occurs.
 module _ (i o : Bool) (d s : ℕ) where
-  pub label-for-in : i ≡ true → record { state = 2; depth = d; slot = record { 0 = s } } ≡ label_for i o d s
+  pub label-for-in : i ≡ true → In d (record { 0 = s }) ≡ label_for i o d s
   label-for-in t = cc
 
-  pub label-for-out : i ≡ false → o ≡ true → record { state = 1; depth = 0; slot = record { 0 = 0 } } ≡ label_for i o d s
+  pub label-for-out : i ≡ false → o ≡ true → Out ≡ label_for i o d s
   label-for-out t u = cc
 
   pub label-for-absent : i ≡ false → o ≡ false → absent_label ≡ label_for i o d s

@@ -4,12 +4,13 @@ use Rattle.std.specs.Prelude.{ℕ, ◌<◌, ◌≡◌, Bool, true, false, List, 
 use Rattle.theory.specs.Models.{AtomSet}
 use Rattle.theory.specs.Limits.{document}
 use Rattle.table.specs.declared.Label.{Label}
+use Rattle.table.specs.declared.Label.TheVariants.{Out, In}
 use Rattle.table.specs.Labels.{absent_label}
 
 -- The kept label of an atom that is in, or occurs, or neither.
 abbrev pub label_for : Bool → Bool → ℕ → ℕ → Label
-label_for true occurs depth slot = record { state = 2; depth = depth; slot = record { 0 = slot } }
-label_for false true depth slot = record { state = 1; depth = 0; slot = record { 0 = 0 } }
+label_for true occurs depth slot = In depth (record { 0 = slot })
+label_for false true depth slot = Out
 label_for false false depth slot = absent_label
 
 -- Each atom's label from what was found of it.

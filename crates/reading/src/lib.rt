@@ -46,13 +46,11 @@ fn occurs_in(rule: Rule, a: Atom) -> bool
 fn occurs(table: &[u16; Table::WORDS], a: Atom) -> bool
     ensures { result ≡ occurs? (program_of (rules_of table.now)) a.0 }
 {
-    let mut i: usize = 0;
-    while i < Table::SLOTS {
+    for i in 0..Table::SLOTS {
         let rule = rule_at(table, i);
         if occurs_in(rule, a) {
             return true;
         }
-        i += 1;
     }
     false
 }
@@ -62,18 +60,10 @@ fn label_for(is_in: bool, occurs: bool, depth: u16, slot: Slot) -> Label
     ensures { result ≡ label_for is_in occurs depth slot.0 }
 {
     if is_in {
-        return Label {
-            state: 2,
-            depth: depth,
-            slot: slot,
-        };
+        return Label::In(depth, slot);
     }
     if occurs {
-        return Label {
-            state: 1,
-            depth: 0,
-            slot: Slot(0),
-        };
+        return Label::Out;
     }
     Label::absent()
 }
@@ -82,15 +72,13 @@ fn label_for(is_in: bool, occurs: bool, depth: u16, slot: Slot) -> Label
 pub fn label_of(table: &[u16; Table::WORDS], a: Atom) -> Label
     ensures { label_of result ≡ label_at table.now a.0 }
 {
-    let mut i: usize = 0;
-    while i < Table::SLOTS {
+    for i in 0..Table::SLOTS {
         let n = i as u16;
         let rule = rule_at(table, i);
         let depth = depth_at(table, i);
         if keeps(rule, depth, a) {
             return label_for(true, true, depth, Slot(n));
         }
-        i += 1;
     }
     let there = occurs(table, a);
     label_for(false, there, 0, Slot(0))
@@ -107,8 +95,7 @@ fn assemble(
         (number depths.now) (number slots.now) result }
 {
     let mut labels: [Label; Table::ATOMS] = [Label::absent(); Table::ATOMS];
-    let mut i: usize = 0;
-    while i < Table::ATOMS {
+    for i in 0..Table::ATOMS {
         let n = i as u16;
         let a = Atom(n);
         let is_in = has(model, a);
@@ -116,7 +103,6 @@ fn assemble(
         let depth = number_of(depths, a);
         let slot = slot_of(slots, a);
         labels[i] = label_for(is_in, there, depth, slot);
-        i += 1;
     }
     labels
 }

@@ -39,11 +39,9 @@ fn copy_entries(rule: Rule, n: usize, from: usize, entries: &mut [u16; ALL_ENTRI
     requires { Fits n from entries.old }
     ensures { CopiedTo rule.entries n from entries.old entries.new }
 {
-    let mut j: usize = 0;
-    while j < n {
+    for j in 0..n {
         let x = rule.entries[j];
         entries[from + j] = x.0;
-        j += 1;
     }
 }
 
@@ -59,8 +57,7 @@ pub fn support_entries(
 {
     let mut counts: [u16; Table::ATOMS] = [0; Table::ATOMS];
     let mut entries: [u16; ALL_ENTRIES] = [0; ALL_ENTRIES];
-    let mut i: usize = 0;
-    while i < Table::ATOMS {
+    for i in 0..Table::ATOMS {
         let k = i as u16;
         let is_in = has(flags, Atom(k));
         let s = slot_of(slots, Atom(k));
@@ -68,7 +65,6 @@ pub fn support_entries(
         let n = entry_count(is_in, rule);
         copy_entries(rule, n, i * Table::ENTRIES, &mut entries);
         counts[i] = n as u16;
-        i += 1;
     }
     Entries { counts, entries }
 }
@@ -96,16 +92,15 @@ pub fn gather(
         seen.old seen.new }
 {
     mark(seen, a);
-    let n = number_of(counts, a);
-    let mut j: u16 = 0;
-    while j < n {
+    for j in 0..number_of(counts, a) {
         let x = support_entry(entries, a, j);
-        j += 1;
         let d = number_of(depths, x);
-        if d < depth {
-            if !has(seen, x) {
-                gather(x, d, counts, entries, depths, seen);
-            }
+        if d >= depth {
+            continue;
         }
+        if has(seen, x) {
+            continue;
+        }
+        gather(x, d, counts, entries, depths, seen);
     }
 }

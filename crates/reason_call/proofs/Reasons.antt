@@ -1,5 +1,6 @@
 -- On a sound table the kept entries are the positive entries of the supporting rules, so that what is gathered from an
 -- atom and written by depth is its reason. Assumes nothing.
+use Rattle.std.specs.Prelude.{Ok, Err}
 use Prim.Native.Nat.{ℕ, ◌≤◌, ◌<◌}
 use native.Mathlib.Omega.{arith}
 use mathlib.Core.Path.{◌≡◌, refl, sym, ◌∙◌, ap, ap₂, subst}
@@ -38,8 +39,7 @@ use Rattle.table.specs.Arrays.{ArraysOf}
 use Rattle.table.proofs.Entries.{there}
 use Rattle.table.proofs.Members.{all_alike}
 use Rattle.table.proofs.Programs.{active-length, unmuted-rule}
-use Rattle.calls.specs.declared.ListAnswer.{ListAnswer}
-use Rattle.calls.specs.declared.ListAnswer.TheVariants as listed
+use Rattle.calls.specs.Answers.{ListAnswer}
 use Rattle.refusals.specs.declared.Refusal.TheVariants.{AtomNotIn, BufferTooShort}
 use Rattle.calls.specs.Ends.{ReasonEnds, refused, short, accepted}
 use Rattle.calls.proofs.Asking.{Passes}
@@ -92,7 +92,7 @@ ends_asked t a x Q before r after E = subst (λ (k : ℕ). ReasonEnds t k before
 -- An atom that is not in is refused by 12.
 pub ends-12 :
     (t : Table) (sound : Sound t) (k : LabelArrays) → ArraysOf t.words k → (a : ℕ) → a < document.atoms
-    → member k.flags a ≡ false → (buffer : List ℕ) → ReasonEnds t a buffer (listed.Refused AtomNotIn) buffer
+    → member k.flags a ≡ false → (buffer : List ℕ) → ReasonEnds t a buffer (Err AtomNotIn) buffer
 ends-12 t sound k K a l n buffer =
     refused AtomNotIn sound (no-12 t.words a l (sym (K.flags a l) ∙ n))
 
@@ -293,7 +293,7 @@ module _ (t : Table) (sound : Sound t) where
                 ∙ sym (length-map atoms (number slots)
                 ∙ by_depth-count (member seen) (number depths) document.atoms depth (λ x l. seen-depth x))
 
-            pub ends-short : length buffer < n → ReasonEnds t a buffer (listed.Refused (BufferTooShort n)) buffer
+            pub ends-short : length buffer < n → ReasonEnds t a buffer (Err (BufferTooShort n)) buffer
             ends-short l =
                 rw count-is
                 (short M written sound yes sound.kept.admissible is-reason
@@ -301,7 +301,7 @@ module _ (t : Table) (sound : Sound t) where
 
             pub ends-written :
                 n ≤ length buffer → (r : ℕ) (after : List ℕ) → Appends written 0 r buffer after
-                → ReasonEnds t a buffer (listed.Count n) after
+                → ReasonEnds t a buffer (Ok n) after
             ends-written l r after A =
                 let fits : length written ≤ length buffer = omega (arith, count-is) in
                 rw (count-is, appends-all written r buffer after A ∙ overwrite-all written buffer fits)

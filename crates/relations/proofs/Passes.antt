@@ -5,11 +5,11 @@ use mathlib.Core.Path.{◌≡◌, refl, sym, ◌∙◌, ap}
 use mathlib.Core.Logic.{⊎_elim, ◌↔◌}
 use mathlib.Core.Bool.{Bool, true, false, ◌||◌}
 use mathlib.Core.List.Memᴰ
-use mathlib.Core.List.{List, map}
+use mathlib.Core.List.{List, [], ◌∷◌, map}
 use mathlib.Core.Option.{Option, none, some}
 use lib.Dec.{eqb}
 use lib.ListN.{length, get_or, set, replicate, length-replicate, length-set, get_or-map}
-use lib.Seq.{slice}
+use Rattle.std.specs.List.{list_any}
 use Rattle.theory.specs.Lists.{◌∈◌, any}
 use Rattle.theory.specs.Rules.{Rule, Program, Held, entries, passes, Bounded}
 use Rattle.theory.specs.Explanations.{Justification, Consequence}
@@ -18,11 +18,10 @@ use Rattle.theory.proofs.Rules.{held-unique, passes_at}
 use Rattle.theory.proofs.Questions.{held_below}
 use Rattle.table.specs.declared.Atom.{Atom}
 use Rattle.table.specs.declared.Rule as table
-use Rattle.table.specs.Rules.{numbers, rule_of, slot_of, program_of, no_atom, past_rule}
+use Rattle.table.specs.Rules.{numbers, rule_of, slot_of, program_of, past_rule}
 use Rattle.table.specs.Sets.{member, Flags}
 use Rattle.table.proofs.Programs.{program-at, slot_rule, slot-free, slot_held}
 use Rattle.table.proofs.Members.{all_alike, mark-is, mark-keeps}
-use Rattle.table.proofs.Entries.{part-over, part-next}
 use Rattle.relations.specs.Marks.{mark_if}
 
 -- A slot that holds a rule which passes a test passes it.
@@ -56,27 +55,11 @@ justified rules a flags e s = (
         ∙ get_or-map (λ r. passes f (slot_of r)) rules s past_rule
         ∙ ap (passes f) (sym (program-at rules s))
 
--- Does an atom stand among the entries from j to below n?
-module _ (a : ℕ) (xs : List Atom) (j n : ℕ) where
-  pub any-over : n ≤ j → any (eqb a) (numbers (slice j n xs)) ≡ false
-  unfolding any
-  any-over l = rw (part-over xs j n l)
-
-  any_step :
-      j < n → n ≤ length xs
-      → any (eqb a) (numbers (slice j n xs))
-      ≡ (eqb a (get_or xs j no_atom).0 || any (eqb a) (numbers (slice (j + 1) n xs)))
-  unfolding any
-  any_step l k = rw (part-next xs j n l k)
-
-  pub any_next :
-      j < n → n ≤ length xs → eqb a (get_or xs j no_atom).0 ≡ false
-      → any (eqb a) (numbers (slice j n xs)) ≡ any (eqb a) (numbers (slice (j + 1) n xs))
-  any_next l k t = any_step l k ∙ ap (λ b. b || any (eqb a) (numbers (slice (j + 1) n xs))) t
-
-  pub any-stop :
-      j < n → n ≤ length xs → eqb a (get_or xs j no_atom).0 ≡ true → any (eqb a) (numbers (slice j n xs)) ≡ true
-  any-stop l k t = any_step l k ∙ ap (λ b. b || any (eqb a) (numbers (slice (j + 1) n xs))) t
+-- Does an atom stand among some entries?
+pub any-entries : (a : ℕ) (xs : List Atom) → list_any (λ x. eqb a x.0) xs ≡ any (eqb a) (numbers xs)
+unfolding any
+any-entries a [] = refl
+any-entries a (x ∷ xs) = ap (λ b. eqb a x.0 || b) (any-entries a xs)
 
 -- The consequences that the slots below i give.
 pub record Below (P : Program) (a i h : ℕ) : Type 0 where

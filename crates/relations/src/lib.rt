@@ -31,11 +31,9 @@ pub fn justifying(table: &[u16; Table::WORDS], a: Atom) -> [bool; Table::SLOTS]
     ensures { Flags result (Justification (program_of (rules_of table.now)) a.0) }
 {
     let mut flags: [bool; Table::SLOTS] = [false; Table::SLOTS];
-    let mut i: usize = 0;
-    while i < Table::SLOTS {
+    for i in 0..Table::SLOTS {
         let rule = rule_at(table, i);
         flags[i] = has_head(rule, a);
-        i += 1;
     }
     flags
 }
@@ -48,15 +46,7 @@ pub fn has_entry(rule: Rule, a: Atom) -> bool
         return false;
     }
     let n = negative_end(rule);
-    let mut j: usize = 0;
-    while j < n {
-        let x = rule.entries[j];
-        if a.0 == x.0 {
-            return true;
-        }
-        j += 1;
-    }
-    false
+    rule.entries[..n].iter().any(|x| a.0 == x.0)
 }
 
 // If the slot holds a rule with this entry, its head comes into the set.
@@ -77,11 +67,9 @@ pub fn following(table: &[u16; Table::WORDS], a: Atom) -> [bool; Table::ATOMS]
     ensures { Flags result (Consequence (program_of (rules_of table.now)) a.0) }
 {
     let mut flags: [bool; Table::ATOMS] = [false; Table::ATOMS];
-    let mut i: usize = 0;
-    while i < Table::SLOTS {
+    for i in 0..Table::SLOTS {
         let rule = rule_at(table, i);
         mark_head(rule, a, &mut flags);
-        i += 1;
     }
     flags
 }

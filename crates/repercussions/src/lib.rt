@@ -42,11 +42,9 @@ fn add_entries(rule: Rule, from: &mut [u16; EDGES], to: &mut [u16; EDGES], count
     let head = rule.head;
     let n = negative_end(rule);
     let mut at = count;
-    let mut j: usize = 0;
-    while j < n {
+    for j in 0..n {
         let a = rule.entries[j];
         at = add_edge(from, to, at, a, head);
-        j += 1;
     }
     at
 }
@@ -85,8 +83,10 @@ fn add_slot(
         return add_entries(rule, from, to, count);
     }
     let found = spoiler(rule, flags);
-    match found {
-        Spoiler::Nothing => count,
+    let Some(spoils) = found else {
+        return count;
+    };
+    match spoils {
         Spoiler::Positive(_, a) => add_edge(from, to, count, a, head),
         Spoiler::Negative(_, a) => add_edge(from, to, count, a, head),
     }
@@ -107,12 +107,10 @@ pub fn reached(
     let mut from: [u16; EDGES] = [0; EDGES];
     let mut to: [u16; EDGES] = [0; EDGES];
     let mut count: usize = 0;
-    let mut i: usize = 0;
-    while i < Table::SLOTS {
+    for i in 0..Table::SLOTS {
         let rule = rule_at(table, i);
         let s = i as u16;
         count = add_slot(rule, Slot(s), flags, slots, &mut from, &mut to, count);
-        i += 1;
     }
     reach(&from, &to, count, a)
 }

@@ -1,4 +1,5 @@
 -- How the replacement of a rule of a sound table ends, from the answers of its questions. Assumes nothing.
+use Rattle.std.specs.Prelude.{Ok, Err}
 use Prim.Native.Nat.{ℕ, ◌<◌}
 use mathlib.Core.Path.{◌≡◌, refl, sym, ◌∙◌, ap, subst}
 use mathlib.Core.Logic.{◌↔◌}
@@ -27,8 +28,6 @@ use Rattle.table.specs.Sound.{Sound}
 use Rattle.table.proofs.Programs.{program-set}
 use Rattle.refusals.specs.declared.Refusal.{Refusal}
 use Rattle.refusals.specs.declared.Refusal.TheVariants as refusal
-use Rattle.calls.specs.declared.ChangeAnswer.TheVariants as changed
-use Rattle.calls.specs.declared.Changed.{Changed}
 use Rattle.refusals.specs.Refusals.{number_of}
 use Rattle.calls.specs.Ends as contract
 use Rattle.calls.specs.Ends.{held, ReplaceEnds}
@@ -37,13 +36,6 @@ use Rattle.labels.specs.Labelling.{Relabelled}
 use Rattle.new_rule.specs.Parts.{SlotWith}
 use Rattle.add_remove.proofs.Putting.{same-told, bounded-put, put-cyclic, put-stratified, put-held}
 use Rattle.add_remove.proofs.Putting.{put-sized, put-sound}
-
--- A refusal that hands the table back as it came.
-pub handed-back :
-    (t : Table) (s : ℕ) (q : theory.Rule) (f : Refusal) (r : Changed)
-    → r ≡ record { answer = changed.Refused f; table = t } → ReplaceEnds t s q (changed.Refused f) t
-    → ReplaceEnds t s q r.answer r.table
-handed-back t s q f r e E = subst (λ (x : Changed). ReplaceEnds t s q x.answer x.table) (sym e) E
 
 -- The rule q is to replace the one in slot s of the table t, which passed questions 8 and 9.
 module _
@@ -55,7 +47,7 @@ module _
 
     pub refused-early :
         (f : Refusal) → some (number_of f) ≡ first_no (rule_questions document q)
-        → ReplaceEnds t s q (changed.Refused f) t
+        → ReplaceEnds t s q (Err f) t
     refused-early f e =
         contract.refused f S (first_no-past (slot_questions document (all (held t)) s) _ asked
         ∙ first_no-before (rule_questions document q) _ _ (sym e))
@@ -100,7 +92,7 @@ module _
               put ∙ ap (λ (rs : List Rule). set rs s r) left ∙ set-set (rules_of t.words) s f r
 
       pub refused-same :
-          any_rule (same q) (set (all (held t)) s none) ≡ true → ReplaceEnds t s q (changed.Refused refusal.SameRule) t
+          any_rule (same q) (set (all (held t)) s none) ≡ true → ReplaceEnds t s q (Err refusal.SameRule) t
       refused-same u = contract.refused refusal.SameRule S (four ∙ first_no-here _ _ (ap not u))
 
       -- the rule is put into the slot
@@ -121,12 +113,12 @@ module _
           bounded-changed = bounded-put t S q pass s inside alone r R w put
 
           module _ (v : List ℕ) (b : Bool) (L : Relabelled w v b) where
-            pub refused-cycle : b ≡ false → ReplaceEnds t s q (changed.Refused refusal.NegativeCycle) t
+            pub refused-cycle : b ≡ false → ReplaceEnds t s q (Err refusal.NegativeCycle) t
             refused-cycle e =
                 contract.refused refusal.NegativeCycle S
                 (five ∙ first_no-here _ _ (put-cyclic t S q pass s inside alone r R w put v b L e))
 
-            pub replace-ends : b ≡ true → ReplaceEnds t s q changed.Accepted (table_of v)
+            pub replace-ends : b ≡ true → ReplaceEnds t s q (Ok tt) (table_of v)
             replace-ends e =
                 contract.accepted _ S
                 (five ∙ first_no-yes _ _ (put-stratified t S q pass s inside alone r R w put v b L e)

@@ -8,24 +8,24 @@ ghost use Rattle.sheet_meaning.specs.Lines.{tell_add, tell_change, tell_reason};
 ghost use Rattle.fields.specs.Written.{Wrote};
 ghost use Rattle.sheet_answers.specs.Answers.{Counts};
 
-use calls::{AddAnswer, ChangeAnswer, ListAnswer};
-use refusals::refusal_number;
+use refusals::{Refusal, refusal_number};
 use sheet_printing::{write_named, write_refusal, write_why};
+use table::Slot;
 
 // Of an addition on this line: `slot` and the slot that it took, or its refusal.
-pub fn tell_add(answer: AddAnswer, line: u32, out: &mut [u8], at: usize) -> usize
+pub fn tell_add(answer: Result<Slot, Refusal>, line: u32, out: &mut [u8], at: usize) -> usize
     requires { at + LABELS_ROOM ≤ length out.old }
     ensures { Wrote (tell_add line answer) out.old at out.new result }
 {
     match answer {
-        AddAnswer::Taken(slot) => write_named(out, at, b"slot", slot.0 as u32),
-        AddAnswer::Refused(f) => write_refusal(out, at, line, refusal_number(f)),
+        Ok(slot) => write_named(out, at, b"slot", slot.0 as u32),
+        Err(f) => write_refusal(out, at, line, refusal_number(f)),
     }
 }
 
 // Of a removal or a replacement: its word and the slot, or its refusal.
 pub fn tell_change(
-    answer: ChangeAnswer,
+    answer: Result<(), Refusal>,
     line: u32,
     word: &[u8],
     slot: u32,
@@ -33,22 +33,27 @@ pub fn tell_change(
     at: usize,
 ) -> usize
     requires { (length word.now ≤ 8) × (at + LABELS_ROOM ≤ length out.old) }
-    ensures { Wrote (tell_change word.now line slot answer)
-        out.old at out.new result }
+    ensures { Wrote (tell_change word.now line slot answer) out.old at out.new result }
 {
     match answer {
-        ChangeAnswer::Accepted => write_named(out, at, word, slot),
-        ChangeAnswer::Refused(f) => write_refusal(out, at, line, refusal_number(f)),
+        Ok(()) => write_named(out, at, word, slot),
+        Err(f) => write_refusal(out, at, line, refusal_number(f)), // names the line, not the slot
     }
 }
 
 // Of a reason: `why` and its slots, of which so many stand in the list that was lent; or its refusal.
-pub fn tell_reason(answer: ListAnswer, line: u32, slots: &[u32], out: &mut [u8], at: usize) -> usize
+pub fn tell_reason(
+    answer: Result<usize, Refusal>,
+    line: u32,
+    slots: &[u32],
+    out: &mut [u8],
+    at: usize,
+) -> usize
     requires { Counts answer slots.now × (at + LABELS_ROOM ≤ length out.old) }
     ensures { Wrote (tell_reason line answer slots.now) out.old at out.new result }
 {
     match answer {
-        ListAnswer::Count(n) => write_why(out, at, &slots[..n]),
-        ListAnswer::Refused(f) => write_refusal(out, at, line, refusal_number(f)),
+        Ok(n) => write_why(out, at, &slots[..n]),
+        Err(f) => write_refusal(out, at, line, refusal_number(f)),
     }
 }

@@ -1,13 +1,12 @@
 -- The bytes that are held of a line tell what it is. Assumes nothing.
-use Prim.Native.Nat.{ℕ, suc, ◌+◌, ◌^◌, ◌≤◌, ◌<◌, min}
+use Prim.Native.Nat.{ℕ, suc, ◌+◌, ◌-◌, ◌^◌, ◌≤◌, ◌<◌, min}
 use native.Mathlib.Omega.{arith}
 use native.Mathlib.Decide.{dec_le}
-use native.Mathlib.Numerals.{add-one}
 use mathlib.Core.Path.{◌≡◌, refl, sym, ◌∙◌, ap, subst}
-use mathlib.Core.Logic.{◌⊎◌, inl, inr, ⊎_elim}
-use mathlib.Core.List.{List, [], ◌∷◌, ◌++◌, append-nil, append_assoc}
-use lib.ListN.{length, take, get_or, set, length-append}
-use lib.Seq.{take_all, take-append-le, take-append-add, length-take-le, take-suc, take-suc-set}
+use mathlib.Core.Logic.{◌⊎◌, inl, inr}
+use mathlib.Core.List.{List, [], ◌∷◌, ◌++◌, append-nil}
+use lib.ListN.{length, take, length-append}
+use lib.Seq.{take_all, take-append-le, take-append-add, length-take-le}
 use mir.Val.{Val}
 use denote.Struct.Declared.{row}
 use denote.Laws.{Is}
@@ -40,14 +39,13 @@ take-longer k xs bytes i l m over = go (dec_le (length xs) k) over
         let none : i ≡ 0 = omega (arith, length-take-le k xs (omega arith)) in
         rw (none, append-nil) (sym (take-append-le k xs bytes (omega arith)))
 
--- One byte more is held.
-pub held_next :
-    (held line : List ℕ) (end : ℕ) (bytes : List ℕ) (i : ℕ) → end < length line → i < length bytes
-    → take end line ≡ held ++ take i bytes
-    → take (end + 1) (set line end (get_or bytes i 0)) ≡ held ++ take (i + 1) bytes
-held_next held line end bytes i l m e =
-    rw (add-one end, add-one i, take-suc-set line end (get_or bytes i 0) l, e, take-suc bytes i 0 m)
-    (append_assoc held (take i bytes) (get_or bytes i 0 ∷ []))
+-- As many bytes as there is room for are all, or fill the array.
+all-or-full : (held i n : ℕ) → held ≤ ENOUGH → i ≡ min n (ENOUGH - held) → (i ≡ n) ⊎ (held + i ≡ ENOUGH)
+all-or-full held i n l e = go (dec_le n (ENOUGH - held))
+  where
+    go : Dec (n ≤ ENOUGH - held) → (i ≡ n) ⊎ (held + i ≡ ENOUGH)
+    go (yes m) = inl (omega arith)
+    go (no m) = inr (omega arith)
 
 -- A length counts as far as the array goes.
 pub take_within : (n : ℕ) (xs : List ℕ) → length xs ≡ ENOUGH → take (min n ENOUGH) xs ≡ take n xs
@@ -90,21 +88,21 @@ begun-next {n} k e f small =
 -- A line that got longer, by as many bytes as there is room for.
 pub longer-held :
     (k : Begun) {r : Begun} {held : ℕ} (bytes : List ℕ) (i : ℕ) → length k.bytes ≡ ENOUGH
-    → held ≡ min k.length ENOUGH → r.number ≡ k.number → r.length ≡ held + i
-    → take r.length r.bytes ≡ take held k.bytes ++ take i bytes → i ≤ length bytes → r.length ≤ ENOUGH
-    → (i ≡ length bytes) ⊎ (r.length ≡ ENOUGH) → Longer k bytes r
-longer-held k {r} {held} bytes i long same number size line l m over n xs f =
+    → held ≡ min k.length ENOUGH → i ≡ min (length bytes) (ENOUGH - held) → r.number ≡ k.number
+    → take r.length r.bytes ≡ take held k.bytes ++ take i bytes → Longer k bytes r
+longer-held k {r} {held} bytes i long same many number line n xs f =
     let cut =
     ap (λ (j : ℕ). take j k.bytes) same ∙ take_within k.length k.bytes long ∙ f.bytes in
     let held : length (take ENOUGH xs) ≡ held =
     sym (ap length cut) ∙ length-take-le held k.bytes (omega (arith, same)) in
     let full : (i ≡ length bytes) ⊎ (length (take ENOUGH xs) + i ≡ ENOUGH) =
-    ⊎_elim (λ e. inl e) (λ e. inr (omega (arith, held))) over in
+    all-or-full (length (take ENOUGH xs)) i (length bytes) (omega (arith, held, same))
+    (many ∙ ap (λ (j : ℕ). min (length bytes) (ENOUGH - j)) (sym held)) in
     record {
       number = number ∙ f.number;
       bytes =
           line ∙ ap (λ (ys : List ℕ). ys ++ take i bytes) cut
-          ∙ take-longer ENOUGH xs bytes i l (omega (arith, held)) full;
+          ∙ take-longer ENOUGH xs bytes i (omega arith) (omega (arith, held, same)) full;
     }
 
 as_line : {x y : Line} {p : Parsed} → x ≡ y → Answers x p → Answers y p

@@ -2,9 +2,9 @@
 // is.
 #![tactic(auto)]
 
-ghost use Rattle.std.specs.Prelude.{◌≡◌, [], min};
+ghost use Rattle.std.specs.Prelude.{◌≡◌, []};
 ghost use Rattle.places.specs.Places.{line_after};
-ghost use Rattle.sheet_begun.specs.Begun.{ENOUGH, BegunOf, Longer, ReadsAs};
+ghost use Rattle.sheet_begun.specs.Begun.{BegunOf, Longer, ReadsAs};
 
 use places::Place;
 use sheet_lines::Parsed;
@@ -45,19 +45,9 @@ pub fn next_line(begun: Begun, place: Place) -> Begun
     let next = place.next_line();
     Begun {
         number: next.line,
-        bytes: bytes,
+        bytes,
         length: 0,
     }
-}
-
-// How many bytes are held: a length counts as far as the array goes.
-fn within(length: usize) -> usize
-    ensures { result ≡ min length ENOUGH }
-{
-    if length < Begun::ENOUGH {
-        return length;
-    }
-    Begun::ENOUGH
 }
 
 // The line at hand with bytes behind it, as many as are enough.
@@ -65,17 +55,13 @@ pub fn lengthen(begun: Begun, bytes: &[u8]) -> Begun
     ensures { Longer begun bytes.now result }
 {
     let mut line = begun.bytes;
-    let mut end = within(begun.length);
-    let mut i: usize = 0;
-    while i < bytes.len() && end < Begun::ENOUGH {
-        line[end] = bytes[i];
-        end += 1;
-        i += 1;
-    }
+    let end = begun.length.min(Begun::ENOUGH);
+    let n = bytes.len().min(Begun::ENOUGH - end);
+    line[end..end + n].copy_from_slice(&bytes[..n]);
     Begun {
         number: begun.number,
         bytes: line,
-        length: end,
+        length: end + n,
     }
 }
 
@@ -88,7 +74,8 @@ pub fn read_begun(begun: Begun) -> Parsed
         offset: 0,
         line: begun.number,
     };
-    let n = within(begun.length);
+    // A length counts as far as the array goes.
+    let n = begun.length.min(Begun::ENOUGH);
     read(&line[..n], place)
 }
 

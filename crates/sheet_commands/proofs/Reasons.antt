@@ -8,7 +8,7 @@ use Rattle.theory.specs.Models.{AtomSet}
 use Rattle.theory.specs.Questions.{Question}
 use Rattle.theory.specs.Limits.{document}
 use Rattle.table.specs.declared.Table.{Table}
-use Rattle.calls.specs.declared.ListAnswer.{ListAnswer}
+use Rattle.calls.specs.Answers.{ListAnswer}
 use Rattle.calls.specs.Ends as contract
 use Rattle.calls.specs.Ends.{ListEnds}
 use Rattle.sheet_answers.specs.Answers.{Counts}

@@ -5,8 +5,7 @@ use Rattle.theory.specs.Rules as theory
 use Rattle.theory.specs.Questions.{Question}
 use Rattle.table.specs.declared.Table.{Table}
 use Rattle.table.specs.Sound.{Sound}
-use Rattle.calls.specs.declared.AddAnswer.{AddAnswer}
-use Rattle.calls.specs.declared.ChangeAnswer.{ChangeAnswer}
+use Rattle.calls.specs.Answers.{AddAnswer, ChangeAnswer}
 use Rattle.calls.specs.Ends.{AddEnds, ChangeEnds}
 use Rattle.calls.specs.Ends as contract
 

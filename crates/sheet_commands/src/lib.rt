@@ -38,14 +38,10 @@ fn add_rule(table: Table, head: u32, parsed: Parsed, out: &mut [u8], at: usize) 
     let both = &entries[..];
     let middle = parsed.positives;
     let end = middle + parsed.negatives;
-    let done = add_to_sound(table, head, &both[..middle], &both[middle..end]);
-    let answer = done.answer;
-    let added = done.table;
+    let mut added = table;
+    let answer = add_to_sound(&mut added, head, &both[..middle], &both[middle..end]);
     let next = tell_add(answer, place.line, out, at);
-    Obeyed {
-        table: added,
-        next: next,
-    }
+    Obeyed { table: added, next }
 }
 
 // `R`: the removal.
@@ -54,14 +50,10 @@ fn remove_slot(table: Table, slot: u32, line: u32, out: &mut [u8], at: usize) ->
     ensures obeys { Obeys table line (sheet.remove slot) out.old at out.new result }
     ensures sound { Sound result.table }
 {
-    let done = remove_from_sound(table, slot);
-    let answer = done.answer;
-    let rest = done.table;
+    let mut rest = table;
+    let answer = remove_from_sound(&mut rest, slot);
     let next = tell_change(answer, line, b"removed", slot, out, at);
-    Obeyed {
-        table: rest,
-        next: next,
-    }
+    Obeyed { table: rest, next }
 }
 
 // `P`: the replacement. Its lists stand as those of an addition do.
@@ -85,13 +77,12 @@ fn replace_rule(
     let both = &entries[..];
     let cut = parsed.positives;
     let end = cut + parsed.negatives;
-    let done = replace_in_sound(table, slot, head, &both[..cut], &both[cut..end]);
-    let answer = done.answer;
-    let replaced = done.table;
+    let mut replaced = table;
+    let answer = replace_in_sound(&mut replaced, slot, head, &both[..cut], &both[cut..end]);
     let next = tell_change(answer, place.line, b"replaced", slot, out, at);
     Obeyed {
         table: replaced,
-        next: next,
+        next,
     }
 }
 
@@ -129,17 +120,11 @@ pub fn obey(table: Table, command: Command, parsed: Parsed, out: &mut [u8], at: 
         Command::Replace(slot, head) => replace_rule(table, slot, head, parsed, out, at),
         Command::Why(atom) => {
             let next = explain(table, atom, place.line, out, at);
-            Obeyed {
-                table: table,
-                next: next,
-            }
+            Obeyed { table, next }
         }
         Command::Labels => {
             let next = list_labels(table, place.line, out, at);
-            Obeyed {
-                table: table,
-                next: next,
-            }
+            Obeyed { table, next }
         }
     }
 }

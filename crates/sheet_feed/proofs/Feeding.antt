@@ -1,4 +1,5 @@
 -- Laws of `Feeds` and `RepliesAt`: nothing fed, one part behind another, a scan, a command, a reply. Assumes nothing.
+use Rattle.std.specs.Prelude.{Option, Some, None, Ok, Err}
 use Prim.Native.Nat.{ℕ, zero, suc, ◌+◌, ◌-◌, ◌≤◌, ◌<◌}
 use native.Mathlib.Omega.{arith}
 use mathlib.Core.Path.{◌≡◌, refl, sym, ◌∙◌, ap, subst}
@@ -12,8 +13,7 @@ use mir.Val.{Val}
 use denote.Struct.Declared.{row}
 use denote.Laws.{Is}
 use Rattle.table.specs.declared.Table.{Table}
-use Rattle.calls.specs.declared.ChangeAnswer.{ChangeAnswer}
-use Rattle.calls.specs.declared.ChangeAnswer.TheVariants.{Accepted, Refused}
+use Rattle.calls.specs.Answers.{ChangeAnswer}
 use Rattle.refusals.specs.declared.Refusal.TheVariants.{BufferTooShort}
 use Rattle.places.specs.Places.{line_after}
 use Rattle.fields.specs.Texts.{NEWLINE}
@@ -30,8 +30,6 @@ use Rattle.sheet_begun.specs.Begun.{ENOUGH, BegunOf, ReadsAs}
 use Rattle.sheet_begun.proofs.Lengthening.{begun-next}
 use Rattle.sheet_scanner.specs.declared.Judged.{Judged}
 use Rattle.sheet_scanner.specs.declared.Judged.TheVariants as judged
-use Rattle.sheet_scanner.specs.declared.Found.{Found}
-use Rattle.sheet_scanner.specs.declared.Found.TheVariants as found
 use Rattle.sheet_scanner.specs.declared.Scanned.{Scanned}
 use Rattle.sheet_scanner.specs.Judging.{Judges}
 use Rattle.sheet_scanner.specs.Scans.{IsCommand, AtCommand, WhereFound, IfNothing, Scans}
@@ -45,13 +43,13 @@ use Rattle.sheet_feed.specs.Sheets.{answer_in, Feeds, FeedsAll, RepliesAt}
 use Rattle.sheet_feed.specs.contracts.Sheet as sheet-type
 
 -- The answer of question 11, by its sides.
-pub answer-room : {left : ℕ} → LABELS_ROOM ≤ left → Accepted ≡ answer_in left
+pub answer-room : {left : ℕ} → LABELS_ROOM ≤ left → Ok tt ≡ answer_in left
 answer-room {left} l =
-    sym (ap (λ b. cond b Accepted (Refused (BufferTooShort LABELS_ROOM))) (le-leb LABELS_ROOM left l))
+    sym (ap (λ b. cond b (Ok tt) (Err (BufferTooShort LABELS_ROOM))) (le-leb LABELS_ROOM left l))
 
-pub answer-short : {left : ℕ} → left < LABELS_ROOM → Refused (BufferTooShort LABELS_ROOM) ≡ answer_in left
+pub answer-short : {left : ℕ} → left < LABELS_ROOM → Err (BufferTooShort LABELS_ROOM) ≡ answer_in left
 answer-short {left} l =
-    sym (ap (λ b. cond b Accepted (Refused (BufferTooShort LABELS_ROOM))) (lt-leb LABELS_ROOM left l))
+    sym (ap (λ b. cond b (Ok tt) (Err (BufferTooShort LABELS_ROOM))) (lt-leb LABELS_ROOM left l))
 
 -- The test for room, by its sides.
 pub has : (at length : ℕ) {b : Bool} → b ≡ leb LABELS_ROOM (length - at) → b ≡ true → at + LABELS_ROOM ≤ length
@@ -133,13 +131,13 @@ feeds-scanned r a h =
           };
     }
 
-pub at-command : (input before : List ℕ) (r : Scanned) {c : Command} (x : Found) → x ≡ found.Command c
+pub at-command : (input before : List ℕ) (r : Scanned) {c : Command} (x : Option Command) → x ≡ Some c
     → WhereFound x input before r → AtCommand c input before r
-at-command input before r x e w = subst (λ (y : Found). WhereFound y input before r) e w
+at-command input before r x e w = subst (λ (y : Option Command). WhereFound y input before r) e w
 
-is-command : (p : Parsed) (line : List ℕ) {c : Command} (x : Found) → x ≡ found.Command c → IsCommand x p line
+is-command : (p : Parsed) (line : List ℕ) {c : Command} (x : Option Command) → x ≡ Some c → IsCommand x p line
     → reading line ≡ is (command_of c (positives_in p) (negatives_in p))
-is-command p line x e w = subst (λ (y : Found). IsCommand y p line) e w
+is-command p line x e w = subst (λ (y : Option Command). IsCommand y p line) e w
 
 kept_table : {t z : Table} {n : ℕ} {line bs : List ℕ} → t ≡ z → Prints z n line bs z → Prints z n line bs t
 kept_table {z = z} {n} {line} {bs} e p = subst (λ (x : Table). Prints z n line bs x) (sym e) p
@@ -155,14 +153,15 @@ one-newline input from l e =
     let here = get_or-drop from input 0 0 ∙ ap (λ (i : ℕ). get_or input i 0) (omega arith) ∙ e in
     rw (one, take-suc (drop from input) zero 0 (omega (arith, length-drop from input)), here)
 
-pub nothing-found : {P : Type 0} (x : Found) → x ≡ found.Nothing → IfNothing x P → P
-nothing-found {P} x e w = subst (λ (y : Found). IfNothing y P) e w
+pub nothing-found : {P : Type 0} (x : Option Command) → ((c : Command) → x ≡ Some c → ⊥) → IfNothing x P → P
+nothing-found None n p = p
+nothing-found (Some c) n p = absurd (n c refl)
 
 -- A scan up to a command, and the command obeyed.
 pub feeds-obeyed :
     {c : Sheet} {input : List ℕ} {from : ℕ} {before : List ℕ} {at : ℕ} {middle after : List ℕ} (r : Scanned)
     {command : Command} {o : Obeyed} {next : Begun} (a : ChangeAnswer) → Scans c.begun input from before at middle r
-    → r.found ≡ found.Command command
+    → r.found ≡ Some command
     → Obeys c.table r.parsed.place.line
     (command_of command (positives_in r.parsed) (negatives_in r.parsed)) middle r.printed after o
     → next ≡ record { number = line_after r.parsed.place.line; bytes = r.begun.bytes; length = 0 }
@@ -211,7 +210,7 @@ module _ (c : Sheet) {before : List ℕ} {at : ℕ} {p : Parsed} {some : List �
     (f : BegunOf c.begun.number some c.begun) (reads : ReadsAs c.begun [] p) where
   pub replies-told :
       (after : List ℕ) (j : Judged) {next : ℕ} → Judges p before at after j → j ≡ judged.Told next
-      → RepliesAt c before at after (record { table = c.table; next = next; answer = Accepted })
+      → RepliesAt c before at after (record { table = c.table; next = next; answer = Ok tt })
   replies-told after j judges e =
       let any = (judged-told some before at after j (read_here some reads f) judges e).wrote in
       record {
@@ -232,7 +231,7 @@ module _ (c : Sheet) {before : List ℕ} {at : ℕ} {p : Parsed} {some : List �
       (middle after : List ℕ) (j : Judged) {command : Command} {o : Obeyed} → Judges p before at middle j
       → j ≡ judged.Command command
       → Obeys c.table p.place.line (command_of command (positives_in p) (negatives_in p)) middle at after o
-      → RepliesAt c before at after (record { table = o.table; next = o.next; answer = Accepted })
+      → RepliesAt c before at after (record { table = o.table; next = o.next; answer = Ok tt })
   replies-obeyed middle after j {o = o} judges e obeys =
       let known = judged-command some before at middle j (read_here some reads f) judges e in
       let any = (obeys some known.0).wrote in
@@ -255,7 +254,7 @@ module _ (c : Sheet) {before : List ℕ} {at : ℕ} {p : Parsed} {some : List �
 pub replies-short :
     {c : Sheet} {before : List ℕ} {at : ℕ} → (at + LABELS_ROOM ≤ length before → ⊥)
     → RepliesAt c before at before
-    (record { table = c.table; next = at; answer = Refused (BufferTooShort LABELS_ROOM) })
+    (record { table = c.table; next = at; answer = Err (BufferTooShort LABELS_ROOM) })
 replies-short {before = before} {at} none =
     record {
       inside = λ l. l;
@@ -285,7 +284,7 @@ fed-start c input before {a} e =
 
 pub fed-next :
     {c : Sheet} {input before middle after : List ℕ} (f : Fed) {r : Fed} → FedSoFar c input before f middle
-    → Feeds f.sheet input f.read middle f.printed r after → f.read < r.read → r.answer ≡ Accepted
+    → Feeds f.sheet input f.read middle f.printed r after → f.read < r.read → r.answer ≡ Ok tt
     → f.printed + LABELS_ROOM ≤ length middle → FedSoFar c input before r after
 fed-next {before = before} f so_far more some accepted room =
     let fits : LABELS_ROOM ≤ length before = omega (arith, room, so_far.feeds.same_length) in

@@ -1,7 +1,6 @@
 -- The code's sheet that comes in pieces, and the reply to its line at hand. Assumes nothing.
-use Rattle.std.specs.Prelude.{ℕ, ◌+◌, ◌-◌, ◌^◌, ◌≤◌, ◌<◌, ◌≡◌, cond, List, [], ◌++◌, leb, length, take, drop}
-use Rattle.calls.specs.declared.ChangeAnswer.{ChangeAnswer}
-use Rattle.calls.specs.declared.ChangeAnswer.TheVariants.{Accepted, Refused}
+use Rattle.std.specs.Prelude.{ℕ, ◌+◌, ◌-◌, ◌^◌, ◌≤◌, ◌<◌, ◌≡◌, cond, List, [], ◌++◌, leb, length, take, drop, Ok, Err}
+use Rattle.calls.specs.Answers.{ChangeAnswer}
 use Rattle.refusals.specs.declared.Refusal.TheVariants.{BufferTooShort}
 use Rattle.fields.specs.Written.{Wrote}
 use Rattle.sheet_label_lines.specs.LabelLines.{LABELS_ROOM}
@@ -20,7 +19,7 @@ pub record StandsFor (s : State) (c : Sheet) : Type 0 where
 -- Question 11 of a buffer with so many bytes left: no reply is longer than the lines of all labels. The refusal says
 -- how many are needed.
 abbrev pub answer_in : ℕ → ChangeAnswer
-answer_in left = cond (leb LABELS_ROOM left) Accepted (Refused (BufferTooShort LABELS_ROOM))
+answer_in left = cond (leb LABELS_ROOM left) (Ok tt) (Err (BufferTooShort LABELS_ROOM))
 
 -- From a state, the input's bytes from an offset on were read up to r.read; what they print stands in the buffer from
 -- place `at` on.

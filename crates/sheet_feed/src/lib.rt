@@ -1,19 +1,17 @@
 // A sheet that comes in pieces of any length, and the replies to its lines.
 #![tactic(auto)]
 
-ghost use Rattle.std.specs.Prelude.{◌≡◌, ◌+◌, ◌≤◌, ◌<◌, length};
+ghost use Rattle.std.specs.Prelude.{◌≡◌, ◌+◌, ◌≤◌, ◌<◌, length, Ok};
 ghost use Rattle.table.specs.Sound.{Sound};
-ghost use Rattle.calls.specs.declared.ChangeAnswer.TheVariants.{Accepted};
 ghost use Rattle.sheet_label_lines.specs.LabelLines.{LABELS_ROOM};
 ghost use Rattle.sheet_meaning.specs.Sheets.{start};
 ghost use Rattle.sheet_feed.specs.Sheets.{answer_in, StandsFor, Feeds, FeedsAll, RepliesAt};
 
-use calls::ChangeAnswer;
 use refusals::Refusal;
 use sheet_begun::{Begun, next_line, read_begun};
 use sheet_commands::obey;
 use sheet_label_lines::LABELS_ROOM;
-use sheet_scanner::{Found, Judged, has_room, judge, scan};
+use sheet_scanner::{Judged, has_room, judge, scan};
 use table::Table;
 
 // A sheet as far as it was read: the table after its whole lines, and the line at hand.
@@ -42,7 +40,7 @@ pub struct Fed {
     pub sheet: Sheet,
     pub read: usize,
     pub printed: usize,
-    pub answer: ChangeAnswer,
+    pub answer: Result<(), Refusal>,
 }
 
 // The table after a line, and the place in the buffer behind what it prints; or the same refusal.
@@ -50,17 +48,17 @@ pub struct Fed {
 pub struct Reply {
     pub table: Table,
     pub next: usize,
-    pub answer: ChangeAnswer,
+    pub answer: Result<(), Refusal>,
 }
 
 // Question 11 of a buffer with so many bytes left: is there room for every reply? The refusal says how many are needed.
-fn ask_room(left: usize) -> ChangeAnswer
+fn ask_room(left: usize) -> Result<(), Refusal>
     ensures { result ≡ answer_in left }
 {
     if left < LABELS_ROOM {
-        return ChangeAnswer::Refused(Refusal::BufferTooShort(LABELS_ROOM));
+        return Err(Refusal::BufferTooShort(LABELS_ROOM));
     }
-    ChangeAnswer::Accepted
+    Ok(())
 }
 
 // The reply to the line at hand, with room for every reply.
@@ -76,9 +74,9 @@ fn reply_line(sheet: Sheet, out: &mut [u8], at: usize) -> Reply
     let judged = judge(parsed, out, at);
     match judged {
         Judged::Told(next) => Reply {
-            table: table,
-            next: next,
-            answer: ChangeAnswer::Accepted,
+            table,
+            next,
+            answer: Ok(()),
         },
         Judged::Command(command) => {
             let obeyed = obey(table, command, parsed, out, at);
@@ -86,7 +84,7 @@ fn reply_line(sheet: Sheet, out: &mut [u8], at: usize) -> Reply
             Reply {
                 table: last,
                 next: obeyed.next,
-                answer: ChangeAnswer::Accepted,
+                answer: Ok(()),
             }
         }
     }
@@ -101,9 +99,9 @@ pub fn reply_at(sheet: Sheet, out: &mut [u8], at: usize) -> Reply
     if !has_room(out.len(), at) {
         let table = sheet.table;
         return Reply {
-            table: table,
+            table,
             next: at,
-            answer: ChangeAnswer::Refused(Refusal::BufferTooShort(LABELS_ROOM)),
+            answer: Err(Refusal::BufferTooShort(LABELS_ROOM)),
         };
     }
     reply_line(sheet, out, at)
@@ -115,7 +113,7 @@ fn feed_command(sheet: Sheet, input: &[u8], from: usize, out: &mut [u8], at: usi
     requires sound { Sound sheet.table }
     requires from_in_bounds { (from ≤ length input.now) × (at + LABELS_ROOM ≤ length out.old) }
     ensures feeds { Feeds sheet input.now from out.old at result out.new }
-    ensures from_lt_read { (from < length input.now → from < result.read) × (result.answer ≡ Accepted) }
+    ensures from_lt_read { (from < length input.now → from < result.read) × (result.answer ≡ Ok tt) }
     ensures sound_2 { Sound result.sheet.table }
 {
     let table = sheet.table;
@@ -123,15 +121,12 @@ fn feed_command(sheet: Sheet, input: &[u8], from: usize, out: &mut [u8], at: usi
     let done = scan(begun, input, from, out, at);
     let line = done.begun;
     let found = done.found;
-    let Found::Command(command) = found else {
+    let Some(command) = found else {
         return Fed {
-            sheet: Sheet {
-                table: table,
-                begun: line,
-            },
+            sheet: Sheet { table, begun: line },
             read: done.read,
             printed: done.printed,
-            answer: ChangeAnswer::Accepted,
+            answer: Ok(()),
         };
     };
     let parsed = done.parsed;
@@ -146,7 +141,7 @@ fn feed_command(sheet: Sheet, input: &[u8], from: usize, out: &mut [u8], at: usi
         },
         read: past,
         printed: obeyed.next,
-        answer: ChangeAnswer::Accepted,
+        answer: Ok(()),
     }
 }
 
@@ -159,7 +154,7 @@ pub fn feed(sheet: Sheet, input: &[u8], out: &mut [u8]) -> Fed
     ensures sound { Sound result.sheet.table }
 {
     let mut fed = Fed {
-        sheet: sheet,
+        sheet,
         read: 0,
         printed: 0,
         answer: ask_room(out.len()),

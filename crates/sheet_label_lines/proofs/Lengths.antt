@@ -6,17 +6,14 @@ use mathlib.Core.List.{List, ◌++◌}
 use lib.ListN.{length, length-append}
 use Rattle.theory.specs.Limits.{document}
 use Rattle.theory.specs.Labels as theory
-use Rattle.table.specs.declared.Label.{Label}
-use Rattle.table.specs.Labels.{label_in, label_of}
 use Rattle.fields.specs.Texts.{bytes, newline}
 use Rattle.fields.specs.Fields.{decimal, field}
 use Rattle.fields.specs.Written.{Wrote, WroteIn}
 use Rattle.fields.proofs.Decimals.{decimal-length}
 use Rattle.fields.proofs.Wrote.{field-length, wrote_then}
 use Rattle.sheet_label_lines.specs.LabelLines.{in_line, label_line, label_lines}
-use Rattle.sheet_label_lines.proofs.Sizes.{Small}
 
-in-length : (depth slot : ℕ) → depth < 4294967296 → slot < 4294967296 → length (in_line depth slot) ≤ 26
+pub in-length : (depth slot : ℕ) → depth < 4294967296 → slot < 4294967296 → length (in_line depth slot) ≤ 26
 unfolding in_line bytes
 in-length depth slot d s =
     omega (
@@ -26,21 +23,6 @@ in-length depth slot d s =
       field-length depth d,
       field-length slot s,
     )
-
-pub label-length : (a : ℕ) (l : Label) → a < document.atoms → Small l → length (label_line a (label_of l)) ≤ 32
-unfolding label_line bytes
-label-length a l b s = go l.state
-  where
-    go : (state : ℕ) → length (label_line a (label_in state l.depth l.slot.0)) ≤ 32
-    go zero = omega arith
-    go (suc zero) = omega (arith, length-append (decimal a) (bytes " out\n"), decimal-length 2 a (omega arith))
-    go (suc (suc n)) =
-        omega (
-          arith,
-          length-append (decimal a) (in_line l.depth l.slot.0),
-          decimal-length 2 a (omega arith),
-          in-length l.depth l.slot.0 (omega arith) (omega arith),
-        )
 
 -- An atom has at most 3 digits.
 pub wrote-atom :

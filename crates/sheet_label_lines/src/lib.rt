@@ -29,16 +29,20 @@ fn write_in(out: &mut [u8], at: usize, depth: u32, slot: u32) -> usize
 fn write_label(out: &mut [u8], at: usize, atom: u32, label: Label) -> usize
     requires atom_lt_atoms { atom < document.atoms }
     requires at_in_bounds { at + 32 ≤ length out.old }
-    ensures { Wrote (label_line atom (label_of label)) out.old at out.new result }
+    ensures wrote { Wrote (label_line atom (label_of label)) out.old at out.new result }
+    ensures short { result ≤ at + 32 }
 {
-    if label.state == 0 {
-        return at;
+    match label {
+        Label::Absent => at,
+        Label::Out => {
+            let a = write_number(out, at, atom);
+            write_bytes(out, a, b" out\n")
+        }
+        Label::In(depth, slot) => {
+            let b = write_number(out, at, atom);
+            write_in(out, b, depth as u32, slot.0 as u32)
+        }
     }
-    let a = write_number(out, at, atom);
-    if label.state == 1 {
-        return write_bytes(out, a, b" out\n");
-    }
-    write_in(out, a, label.depth as u32, label.slot.0 as u32)
 }
 
 // The lines of all atoms that occur, ascending.
@@ -50,11 +54,9 @@ pub fn write_labels(out: &mut [u8], at: usize, labels: [Label; Table::ATOMS]) ->
         return at;
     }
     let mut next = at;
-    let mut atom: usize = 0;
-    while atom < Table::ATOMS {
+    for atom in 0..Table::ATOMS {
         let label = labels[atom];
         next = write_label(out, next, atom as u32, label);
-        atom += 1;
     }
     next
 }

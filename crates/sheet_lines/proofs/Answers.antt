@@ -6,7 +6,8 @@ use native.Mathlib.Nat.{zero-add, sub-zero, zero-sub, suc-sub-suc}
 use mathlib.Core.Path.{◌≡◌, refl, sym, ◌∙◌, ap}
 use mathlib.Core.Bool.{Bool, true, false}
 use mathlib.Core.List.{List, [], ◌∷◌, ◌++◌, append_assoc}
-use mathlib.Core.Option.{Option}
+use mathlib.Core.Option as math
+use Rattle.std.specs.Prelude.{Option}
 use lib.ListN.{length, take, drop, replicate, length-replicate, length-append, drop_of_length-le}
 use lib.Seq.{sets, sets-eq, take-append_seam, drop-append_seam, drop-append-add}
 use borrow.Author.Tests.{le-leb, lt-leb, lt-ltb, le-ltb}
@@ -26,7 +27,6 @@ use Rattle.sheet_lines.specs.declared.Command.{Command}
 use Rattle.sheet_lines.specs.declared.Command.TheVariants.{Add, Remove, Replace, Why, Labels}
 use Rattle.sheet_lines.specs.declared.Reading.{Reading}
 use Rattle.sheet_lines.specs.declared.Reading.TheVariants as of
-use Rattle.tokens.specs.declared.Number.{Number}
 use Rattle.sheet_lines.specs.declared.Parsed.{Parsed}
 use Rattle.tokens.proofs.Tokens.{empty-onto}
 use Rattle.sheet_lines.proofs.Commands.{numerals-all, numerals-none, over, parted, spoiled}
@@ -64,10 +64,10 @@ none-negative (of.Command (Why atom)) = refl
 none-negative (of.Command Labels) = refl
 
 -- A number that was found, or none, is what a form has after its sign.
-pub made-read : (f : ℕ → spec.Command) {o p : Number} {n : Option ℕ} {r : Parsed} → as_option o ≡ n → o ≡ p
+pub made-read : (f : ℕ → spec.Command) {o p : Option ℕ} {n : math.Option ℕ} {r : Parsed} → as_option o ≡ n → o ≡ p
     → Answers (whether (made f (as_option p))) r → Answers (whether (made f n)) r
 made-read f e g a =
-    as_read a (sym (ap (λ (q : Number). whether (made f (as_option q))) g) ∙ ap (λ (m : Option ℕ). whether (made f m)) e)
+    as_read a (sym (ap (λ (q : Option ℕ). whether (made f (as_option q))) g) ∙ ap (λ (m : math.Option ℕ). whether (made f m)) e)
 
 -- What the lists of a rule are, by where the numbers end.
 module _ (c : Purpose) (h : ℕ) (ts : List (List ℕ)) where

@@ -11,7 +11,7 @@ ghost use Rattle.sheet_lines.specs.Parts.{command_for, IsCommandFor, rule_comman
 use super::{Command, Parsed, Reading};
 use fields::bytes_left;
 use places::Place;
-use tokens::{Number, ended, is, next_token, numeral};
+use tokens::{ended, is, next_token, numeral};
 
 // What the rule of a line is stated for: it is added, or it replaces the rule in a slot.
 #[derive(Clone, Copy)]
@@ -42,11 +42,11 @@ fn collect(line: &[u8], known: [u32; Parsed::TOKENS], size: usize, place: Place)
         let start = t.start;
         let after = t.next;
         let end = after.offset;
-        let Number::Is(n) = numeral(&line[start..end]) else {
+        let Some(n) = numeral(&line[start..end]) else {
             return Numbers {
-                entries: entries,
-                count: count,
-                next: next,
+                entries,
+                count,
+                next,
             };
         };
         entries[count] = n;
@@ -61,8 +61,8 @@ pub fn plain(reading: Reading, place: Place) -> Parsed
     ensures place_value { result.place ≡ place }
 {
     Parsed {
-        place: place,
-        reading: reading,
+        place,
+        reading,
         positives: 0,
         negatives: 0,
         entries: [0; Parsed::TOKENS],
@@ -95,7 +95,7 @@ fn lists(line: &[u8], purpose: Purpose, head: u32, place: Place) -> Parsed
     if ended(line, rest) {
         return Parsed {
             place: rest,
-            reading: reading,
+            reading,
             positives: positives,
             negatives: 0,
             entries: found,
@@ -116,10 +116,10 @@ fn lists(line: &[u8], purpose: Purpose, head: u32, place: Place) -> Parsed
     let entries = n.entries;
     Parsed {
         place: last,
-        reading: reading,
+        reading,
         positives: positives,
         negatives: n.count - positives,
-        entries: entries,
+        entries,
     }
 }
 
@@ -135,7 +135,7 @@ fn rule(line: &[u8], place: Place, purpose: Purpose) -> Parsed
     let start = h.start;
     let after = h.next;
     let end = after.offset;
-    let Number::Is(head) = numeral(&line[start..end]) else {
+    let Some(head) = numeral(&line[start..end]) else {
         return plain(Reading::NotACommand, after);
     };
     let c = next_token(line, after);
@@ -159,7 +159,7 @@ fn replacement(line: &[u8], place: Place) -> Parsed
     let start = t.start;
     let next = t.next;
     let end = next.offset;
-    let Number::Is(slot) = numeral(&line[start..end]) else {
+    let Some(slot) = numeral(&line[start..end]) else {
         return plain(Reading::NotACommand, next);
     };
     rule(line, next, Purpose::Replaces(slot))
@@ -179,7 +179,7 @@ fn numbered(line: &[u8], place: Place, removes: bool) -> Parsed
     if !ended(line, next) {
         return plain(Reading::NotACommand, next);
     }
-    let Number::Is(n) = numeral(&line[start..end]) else {
+    let Some(n) = numeral(&line[start..end]) else {
         return plain(Reading::NotACommand, next);
     };
     if removes {

@@ -1,4 +1,5 @@
 -- A line that meets a sound table makes the calls that it is, and prints what the plain book prints. Assumes nothing.
+use Rattle.std.specs.Prelude.{Ok, Err}
 use Prim.Native.Nat.{ℕ, ◌≤◌, ◌<◌}
 use native.Mathlib.Omega.{arith}
 use mathlib.Core.Path.{◌≡◌, refl, sym, ◌∙◌, ap, subst}
@@ -24,13 +25,8 @@ use Rattle.theory.proofs.Slots.{labelled}
 use Rattle.table.specs.declared.Table.{Table}
 use Rattle.table.specs.Labels.{label_at}
 use Rattle.table.specs.Sound.{Sound}
-use Rattle.calls.specs.declared.AddAnswer.{AddAnswer}
-use Rattle.calls.specs.declared.AddAnswer.TheVariants as added
-use Rattle.calls.specs.declared.ChangeAnswer.{ChangeAnswer}
-use Rattle.calls.specs.declared.ChangeAnswer.TheVariants as changed
-use Rattle.calls.specs.declared.ListAnswer.{ListAnswer}
+use Rattle.calls.specs.Answers.{AddAnswer, ChangeAnswer, ListAnswer, book_add, book_change}
 use Rattle.refusals.specs.Refusals.{number_of}
-use Rattle.calls.specs.Answers.{book_add, book_change}
 use Rattle.calls.specs.Ends as contract
 use Rattle.calls.specs.Ends.{held, ReasonEnds}
 use Rattle.calls.proofs.Determined.{same-model}
@@ -55,12 +51,12 @@ only_of {t} {M} S A =
 -- What the calls' answers print is what the book's answers print.
 
 add-told : (n : ℕ) (x : AddAnswer) → tell_add n x ≡ add_line n (book_add x)
-add-told n (added.Taken s) = refl
-add-told n (added.Refused f) = refl
+add-told n (Ok s) = refl
+add-told n (Err f) = refl
 
 change-told : (word : List ℕ) (n s : ℕ) (x : ChangeAnswer) → tell_change word n s x ≡ change_line word n s (book_change x)
-change-told word n s changed.Accepted = refl
-change-told word n s (changed.Refused f) = refl
+change-told word n s (Ok done) = refl
+change-told word n s (Err f) = refl
 
 -- A reason. Question 10 is answered by the number alone, so a number past the limit needs no label.
 module _ (t : Table) (S : Sound t) (n a : ℕ) where

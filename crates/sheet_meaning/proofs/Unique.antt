@@ -12,9 +12,7 @@ use Rattle.theory.specs.Limits.{document}
 use Rattle.table.specs.declared.Table.{Table}
 use Rattle.table.specs.Questions.{rule_from}
 use Rattle.table.specs.Sound.{Sound}
-use Rattle.calls.specs.declared.AddAnswer.{AddAnswer}
-use Rattle.calls.specs.declared.ChangeAnswer.{ChangeAnswer}
-use Rattle.calls.specs.declared.ListAnswer.{ListAnswer}
+use Rattle.calls.specs.Answers.{AddAnswer, ChangeAnswer, ListAnswer}
 use Rattle.refusals.specs.declared.Refusal.TheVariants.{TableUnsound}
 use Rattle.refusals.specs.Refusals.{number_of}
 use Rattle.calls.specs.Ends.{held, AddEnds, RemoveEnds, ReplaceEnds, ReasonEnds}

@@ -1,6 +1,6 @@
 -- What a line of a sheet does (specification 6.7 to 6.9): the bytes that it prints, and the table after it. Assumes
 -- nothing.
-use Rattle.std.specs.Prelude.{ℕ, ◌<◌, ◌≡◌, List, [], take, replicate}
+use Rattle.std.specs.Prelude.{ℕ, ◌<◌, ◌≡◌, List, [], take, replicate, Ok, Err}
 use Rattle.theory.specs.Rules.{active}
 use Rattle.theory.specs.Models.{AtomSet, Admissible}
 use Rattle.theory.specs.Labels.{Label, Labelled}
@@ -8,12 +8,7 @@ use Rattle.theory.specs.Limits.{document}
 use Rattle.table.specs.declared.Table.{Table}
 use Rattle.table.specs.Questions.{rule_from}
 use Rattle.table.specs.Sound.{Sound}
-use Rattle.calls.specs.declared.AddAnswer.{AddAnswer}
-use Rattle.calls.specs.declared.AddAnswer.TheVariants as added
-use Rattle.calls.specs.declared.ChangeAnswer.{ChangeAnswer}
-use Rattle.calls.specs.declared.ChangeAnswer.TheVariants as changed
-use Rattle.calls.specs.declared.ListAnswer.{ListAnswer}
-use Rattle.calls.specs.declared.ListAnswer.TheVariants as listed
+use Rattle.calls.specs.Answers.{AddAnswer, ChangeAnswer, ListAnswer}
 use Rattle.refusals.specs.declared.Refusal.TheVariants.{TableUnsound}
 use Rattle.refusals.specs.Refusals.{number_of}
 use Rattle.calls.specs.Ends.{held, AddEnds, RemoveEnds, ReplaceEnds, ReasonEnds}
@@ -26,16 +21,16 @@ use Rattle.sheet_label_lines.specs.LabelLines.{label_lines}
 -- The line that tells the answer of a call, on line n of the sheet: of an addition; of a removal or a replacement, by
 -- its word; of a reason.
 abbrev pub tell_add : ℕ → AddAnswer → List ℕ
-tell_add n (added.Taken s) = named (bytes "slot") s.0
-tell_add n (added.Refused f) = refusal_line n (number_of f)
+tell_add n (Ok s) = named (bytes "slot") s.0
+tell_add n (Err f) = refusal_line n (number_of f)
 
 abbrev pub tell_change : List ℕ → ℕ → ℕ → ChangeAnswer → List ℕ
-tell_change word n slot changed.Accepted = named word slot
-tell_change word n slot (changed.Refused f) = refusal_line n (number_of f)
+tell_change word n slot (Ok done) = named word slot
+tell_change word n slot (Err f) = refusal_line n (number_of f)
 
 abbrev pub tell_reason : ℕ → ListAnswer → List ℕ → List ℕ
-tell_reason n (listed.Count k) buffer = why_line (take k buffer)
-tell_reason n (listed.Refused f) buffer = refusal_line n (number_of f)
+tell_reason n (Ok k) buffer = why_line (take k buffer)
+tell_reason n (Err f) buffer = refusal_line n (number_of f)
 
 -- The buffer that is lent for a reason: room for a slot of each atom.
 abbrev pub lent : List ℕ

@@ -43,11 +43,8 @@ fn write_fields(out: &mut [u8], at: usize, numbers: &[u32]) -> usize
     ensures { Wrote (fields numbers.now) out.old at out.new result }
 {
     let mut next = at;
-    let mut i: usize = 0;
-    while i < numbers.len() {
-        let n = numbers[i];
+    for &n in numbers {
         next = write_field(out, next, n);
-        i += 1;
     }
     next
 }

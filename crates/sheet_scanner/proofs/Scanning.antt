@@ -5,6 +5,7 @@ use native.Mathlib.Omega.{arith}
 use mathlib.Core.Path.{◌≡◌, refl, sym, ◌∙◌, ap, subst}
 use mathlib.Core.Bool.{Bool, true, false, cond}
 use mathlib.Core.List.{List, [], ◌++◌}
+use Rattle.std.specs.Prelude.{Option, Some, None}
 use lib.ListN.{length, take, drop, get_or, length-drop, length-take}
 use lib.Seq.{take-add, drop-drop, get_or-drop}
 use Rattle.table.specs.declared.Table.{Table}
@@ -23,8 +24,6 @@ use Rattle.sheet_begun.specs.Begun.{BegunOf, Longer, ReadsAs}
 use Rattle.sheet_begun.proofs.Lengthening.{begun-next}
 use Rattle.sheet_scanner.specs.declared.Judged.{Judged}
 use Rattle.sheet_scanner.specs.declared.Judged.TheVariants as judged
-use Rattle.sheet_scanner.specs.declared.Found.{Found}
-use Rattle.sheet_scanner.specs.declared.Found.TheVariants as found
 use Rattle.sheet_scanner.specs.declared.Scanned.{Scanned}
 use Rattle.sheet_scanner.specs.Judging.{Judges}
 use Rattle.sheet_scanner.specs.Scans.{of_line, line_end, IsCommand, WhereFound, IfNothing}
@@ -67,7 +66,7 @@ module _ {k : Begun} {input : List ℕ} {from end : ℕ} {before : List ℕ} {at
     (at-line-end : end ≡ from + line_end (drop from input)) (room : at + LABELS_ROOM ≤ length before) where
   -- The bytes of a line up to its end, or up to the end of the piece.
   scans-into :
-      {held : Begun} {p : Parsed} (x : Found) → Longer k (take (end - from) (drop from input)) held
+      {held : Begun} {p : Parsed} (x : Option Command) → Longer k (take (end - from) (drop from input)) held
       → ((s : State) → BegunOf s.number s.line k → IsCommand x p (s.line ++ take (end - from) (drop from input)))
       → WhereFound x input before
       (record { begun = held; read = end; printed = at; more = false; found = x; parsed = p })
@@ -95,22 +94,22 @@ module _ {k : Begun} {input : List ℕ} {from end : ℕ} {before : List ℕ} {at
   pub scans-part :
       {held : Begun} (p : Parsed) → Longer k (take (end - from) (drop from input)) held
       → Scans k input from before at before
-      (record { begun = held; read = end; printed = at; more = false; found = found.Nothing; parsed = p })
-  scans-part p longer-line = scans-into {p = p} found.Nothing longer-line (λ s f. tt) tt
+      (record { begun = held; read = end; printed = at; more = false; found = None; parsed = p })
+  scans-part p longer-line = scans-into {p = p} None longer-line (λ s f. tt) tt
 
   pub scans-command :
       {held : Begun} {p : Parsed} {c : Command} {some : List ℕ} (after : List ℕ) (j : Judged) → end < length input
       → BegunOf k.number some k → Longer k (take (end - from) (drop from input)) held
       → ReadsAs k (take (end - from) (drop from input)) p → Judges p before at after j → j ≡ judged.Command c
       → Scans k input from before at after
-      (record { begun = held; read = end; printed = at; more = false; found = found.Command c; parsed = p })
+      (record { begun = held; read = end; printed = at; more = false; found = Some c; parsed = p })
   scans-command {p = p} {c} {some} after j inside f longer-line reads judges e =
       let here : get_or input end 0 ≡ NEWLINE =
       ap (λ (i : ℕ). get_or input i 0) at-line-end ∙ sym (get_or-drop from input (line_end (drop from input)) 0)
       ∙ at-end (drop from input) (omega (arith, length-drop from input)) in
       let any = judged-command _ before at after j (reads.answers _ some f) judges e in
       rw any.1
-      (scans-into (found.Command c) longer-line
+      (scans-into (Some c) longer-line
       (λ s g. (judged-command _ before at after j (reads.answers _ s.line g) judges e).0)
       (record {
         inside = inside;
@@ -130,7 +129,7 @@ module _ {k : Begun} {input : List ℕ} {from end : ℕ} {before : List ℕ} {at
       → Judges p before at after j → j ≡ judged.Told next
       → r ≡ record { number = line_after p.place.line; bytes = k.bytes; length = 0 }
       → Scans k input from before at after
-      (record { begun = r; read = end + 1; printed = next; more = true; found = found.Nothing; parsed = p })
+      (record { begun = r; read = end + 1; printed = next; more = true; found = None; parsed = p })
   scans-told {p} {next} after j {some = some} inside f reads judges e counted =
       let part = take (end - from) (drop from input) in
       let any = (judged-told (some ++ part) before at after j (reads.answers _ some f) judges e).wrote in
@@ -160,10 +159,10 @@ module _ {k : Begun} {input : List ℕ} {from end : ℕ} {before : List ℕ} {at
 
 -- One scan behind another.
 where-found-then :
-    (input middle before : List ℕ) (r : Scanned) (x : Found) → length middle ≡ length before
+    (input middle before : List ℕ) (r : Scanned) (x : Option Command) → length middle ≡ length before
     → WhereFound x input middle r → WhereFound x input before r
-where-found-then input middle before r found.Nothing e w = tt
-where-found-then input middle before r (found.Command c) e w =
+where-found-then input middle before r None e w = tt
+where-found-then input middle before r (Some c) e w =
     record {
       inside = w.inside;
       newline = w.newline;
@@ -203,13 +202,13 @@ scans-then {input = input} {from} q {r} first second =
     }
 
 -- What holds where nothing was found.
-pub if-nothing : {P : Type 0} (x : Found) → P → IfNothing x P
-if-nothing found.Nothing p = p
-if-nothing (found.Command c) p = tt
+pub if-nothing : {P : Type 0} (x : Option Command) → P → IfNothing x P
+if-nothing None p = p
+if-nothing (Some c) p = tt
 
-pub if-nothing-so : {P Q : Type 0} (x : Found) → (P → Q) → IfNothing x P → IfNothing x Q
-if-nothing-so found.Nothing f p = f p
-if-nothing-so (found.Command c) f p = tt
+pub if-nothing-so : {P Q : Type 0} (x : Option Command) → (P → Q) → IfNothing x P → IfNothing x Q
+if-nothing-so None f p = f p
+if-nothing-so (Some c) f p = tt
 
 pub scans-one-then :
     {input : List ℕ} {from : ℕ} (q r : Scanned) → q.more ≡ true → ScansOne input from q → q.read ≤ r.read

@@ -1,5 +1,5 @@
 -- A piece of a sheet scanned without the table. Assumes nothing.
-use Rattle.std.specs.Prelude.{ℕ, ◌+◌, ◌-◌, ◌^◌, ◌≤◌, ◌<◌, ◌≡◌, Bool, true, false, not, List, eqb, length, take, drop, get_or}
+use Rattle.std.specs.Prelude.{ℕ, ◌+◌, ◌-◌, ◌^◌, ◌≤◌, ◌<◌, ◌≡◌, Bool, true, false, not, Option, Some, None, List, eqb, length, take, drop, get_or}
 use Rattle.fields.specs.Texts.{NEWLINE}
 use Rattle.fields.specs.Written.{Wrote}
 use Rattle.places.specs.Places.{leading}
@@ -10,8 +10,6 @@ use Rattle.sheet_label_lines.specs.LabelLines.{LABELS_ROOM}
 use Rattle.sheet_meaning.specs.Sheets.{State, Reads}
 use Rattle.sheet_begun.specs.declared.Begun.{Begun}
 use Rattle.sheet_begun.specs.Begun.{BegunOf}
-use Rattle.sheet_scanner.specs.declared.Found.{Found}
-use Rattle.sheet_scanner.specs.declared.Found.TheVariants as found
 use Rattle.sheet_scanner.specs.declared.Scanned.{Scanned}
 
 -- A byte of a line: any but the newline.
@@ -23,9 +21,9 @@ abbrev pub line_end : List ℕ → ℕ
 line_end bs = leading of_line bs
 
 -- A command was found: the line at hand is that command.
-abbrev pub IsCommand : Found → Parsed → List ℕ → Type 0
-IsCommand found.Nothing p line = Unit {0}
-IsCommand (found.Command c) p line = reading line ≡ is (command_of c (positives_in p) (negatives_in p))
+abbrev pub IsCommand : Option Command → Parsed → List ℕ → Type 0
+IsCommand None p line = Unit {0}
+IsCommand (Some c) p line = reading line ≡ is (command_of c (positives_in p) (negatives_in p))
 
 -- From a state, the input's bytes from an offset on were read up to r.read, and the table stayed; what they print
 -- stands in the buffer from place `at` on.
@@ -51,9 +49,9 @@ pub record AtCommand (c : Command) (input before : List ℕ) (r : Scanned) : Typ
   pub line : List ℕ
   pub command : reading line ≡ is (command_of c (positives_in r.parsed) (negatives_in r.parsed))
 
-abbrev pub WhereFound : Found → List ℕ → List ℕ → Scanned → Type 0
-WhereFound found.Nothing input before r = Unit {0}
-WhereFound (found.Command c) input before r = AtCommand c input before r
+abbrev pub WhereFound : Option Command → List ℕ → List ℕ → Scanned → Type 0
+WhereFound None input before r = Unit {0}
+WhereFound (Some c) input before r = AtCommand c input before r
 
 -- The same from every state whose line this is at hand, as long as line numbers fit 32 bits: no line is without a byte,
 -- so none passes the number at hand and the bytes read.
@@ -69,9 +67,9 @@ pub record Scans (k : Begun) (input : List ℕ) (from : ℕ) (before : List ℕ)
       → ScansFrom s input from before at after r
 
 -- Where nothing was found.
-abbrev pub IfNothing : Found → Type 0 → Type 0
-IfNothing found.Nothing P = P
-IfNothing (found.Command c) P = Unit {0}
+abbrev pub IfNothing : Option Command → Type 0 → Type 0
+IfNothing None P = P
+IfNothing (Some c) P = Unit {0}
 
 -- One line was scanned: something was read of it, and where the next may not be scanned too, the piece has ended.
 pub record ScansOne (input : List ℕ) (from : ℕ) (r : Scanned) : Type 0 where

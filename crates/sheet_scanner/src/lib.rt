@@ -16,30 +16,23 @@ use sheet_lines::{Command, Parsed, Reading};
 use sheet_printing::write_refusal;
 
 // Questions 14 and 13 (specification 6.8) of a line: what it prints ends at this place of the buffer, or it is a
-// command.
+// command. Neither outcome is a failure, nor is either the lack of the other: so it is no Result and no Option.
 #[derive(Clone, Copy)]
 pub enum Judged {
     Told(usize),
     Command(Command),
 }
 
-// What a scan found in its way: a line that is a command, or none.
-#[derive(Clone, Copy)]
-pub enum Found {
-    Nothing,
-    Command(Command),
-}
-
 // What was made of a piece without the table: the line at hand, how many bytes of the piece were read and how many were
-// printed, whether the next line may be scanned too, and the command that was found. A command's line is at hand,
-// whole: it was read up to its newline, as `parsed` says.
+// printed, whether the next line may be scanned too, and the command that was found, if one was. A command's line is at
+// hand, whole: it was read up to its newline, as `parsed` says.
 #[derive(Clone, Copy)]
 pub struct Scanned {
     pub begun: Begun,
     pub read: usize,
     pub printed: usize,
     pub more: bool,
-    pub found: Found,
+    pub found: Option<Command>,
     pub parsed: Parsed,
 }
 
@@ -50,18 +43,13 @@ pub fn has_room(length: usize, at: usize) -> bool
     bytes_left(length, at) >= LABELS_ROOM
 }
 
-// Where the line that begins at an offset ends: at the first newline, or at the end of the piece.
+// Where the line that begins at an offset ends: at the first newline, or at the end of the piece. Past that end it is
+// the offset.
 fn line_end(input: &[u8], from: usize) -> usize
     ensures { result ≡ from + line_end (drop from input.now) }
 {
-    let mut i = from;
-    while i < input.len() {
-        if input[i] == b'\n' {
-            return i;
-        }
-        i += 1;
-    }
-    i
+    let rest = &input[from.min(input.len())..];
+    from + rest.iter().take_while(|&&b| b != b'\n').count()
 }
 
 // Question 13 of a line that is neither blank nor too long. A line without the form is refused before the table is
@@ -109,7 +97,7 @@ fn scan_line(begun: Begun, input: &[u8], from: usize, out: &mut [u8], at: usize)
             read: end,
             printed: at,
             more: false,
-            found: Found::Nothing,
+            found: None,
             parsed: plain(Reading::Blank, Place::start()),
         };
     }
@@ -123,16 +111,16 @@ fn scan_line(begun: Begun, input: &[u8], from: usize, out: &mut [u8], at: usize)
             read: past,
             printed: next,
             more: true,
-            found: Found::Nothing,
-            parsed: parsed,
+            found: None,
+            parsed,
         },
         Judged::Command(command) => Scanned {
             begun: lengthen(begun, part),
             read: end,
             printed: at,
             more: false,
-            found: Found::Command(command),
-            parsed: parsed,
+            found: Some(command),
+            parsed,
         },
     }
 }

@@ -8,6 +8,7 @@ use mathlib.Core.List.Memᴰ
 use mathlib.Core.List.{List, [], ◌∷◌}
 use mathlib.Core.Option.{none, some}
 use lib.ListN.{length, get_or, replicate, get_or-map}
+use Rattle.std.specs.Prelude.{Some, None}
 use Rattle.theory.specs.Rules.{Program, Bounded, rule_on}
 use Rattle.theory.specs.Rules as theory
 use Rattle.theory.specs.Questions.{rules}
@@ -22,7 +23,6 @@ use Rattle.table.proofs.SlotsInTurn.{slot-at-each}
 use Rattle.table.proofs.Programs.{program-at, program-length, held-rule, slot-free, slot_held, slot_rule}
 use Rattle.strata.specs.Answer.{StrataOf}
 use Rattle.strata.specs.Needed.{EntriesBelow, Guided, needed, Raised}
-use Rattle.strata.proofs.Answer.{told-strata, told-cycle}
 use Rattle.strata.proofs.Rounds.{ComesToAll, Rounds, Slots, rounds-start, slots-start, slot_next}
 use Rattle.strata.proofs.Rounds.{slots-over, slots-rest, slots-passed, guided-next, rounds-guided}
 
@@ -104,10 +104,9 @@ module _ (rows : List Rule) (S : ℕ) (long : length rows ≡ S) where
     -- A slot needs a number above S.
     pub passed :
         (s n : ℕ) (r : Rule) → s ≡ at i → r ≡ get_or rows s past_rule → n ≡ needed (number xs) (slot_of r) → S < n
-        → StrataOf (program_of rows) (record { acyclic = false; of = xs })
+        → StrataOf (program_of rows) None
     passed s n r q read e l =
-        told-cycle (program_of rows) xs
-        (slots-passed (program_of rows) S few at k (number xs) i raised T (omega (arith, needs s n r q read e)))
+        slots-passed (program_of rows) S few at k (number xs) i raised T (omega (arith, needs s n r q read e))
 
     -- One slot.
     pub next :
@@ -123,11 +122,10 @@ module _ (rows : List Rule) (S : ℕ) (long : length rows ≡ S) where
         (subst (λ (z : Rule). Raised xs z.head.0 n ys flag) (here s r q read) R)
 
     -- A round is over that raised none, or one.
-    pub rest : raised ≡ false → S ≤ i → StrataOf (program_of rows) (record { acyclic = true; of = xs })
+    pub rest : raised ≡ false → S ≤ i → StrataOf (program_of rows) (Some xs)
     rest t l =
-        told-strata (program_of rows) xs
-        (slots-rest (program_of rows) S few at k (number xs) i (comes down i l)
-        (subst (λ u. Slots (program_of rows) at S k i (number xs) u) t T))
+        slots-rest (program_of rows) S few at k (number xs) i (comes down i l)
+        (subst (λ u. Slots (program_of rows) at S k i (number xs) u) t T)
 
     pub more : raised ≡ true → S ≤ i → Rounds (program_of rows) S (k + 1) (number xs)
     more t l =
@@ -136,5 +134,5 @@ module _ (rows : List Rule) (S : ℕ) (long : length rows ≡ S) where
 
   -- S + 1 rounds each raised a number.
   pub over : (k : ℕ) (xs : List ℕ) → Rounds (program_of rows) S k (number xs) → S < k
-      → StrataOf (program_of rows) (record { acyclic = false; of = xs })
-  over k xs R l = told-cycle (program_of rows) xs (R.late l)
+      → StrataOf (program_of rows) None
+  over k xs R l = R.late l

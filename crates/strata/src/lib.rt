@@ -14,20 +14,13 @@ ghost use Rattle.strata.specs.Needed.{plus, needed, AllBelow, EntriesBelow, Rais
 
 use order::by_order::slots_in_order;
 use rule::{negative_end, positive_end};
-use table::sets::{larger, set_number};
+use table::sets::set_number;
 use table::slots::{rule_at, rule_in};
 use table::turns::slot_at;
 use table::{Atom, Rule, Slot, Table};
 
 // Rounds that are made before an order is guessed: in most tables they are more than enough.
 const GUESS: usize = 12;
-
-// Either each atom's stratum, or that there is a negative cycle; `of` says nothing then.
-#[derive(Clone, Copy)]
-pub struct Stratification {
-    pub acyclic: bool,
-    pub of: [u16; Table::ATOMS],
-}
 
 // The number kept for an atom of the table. Reading it takes most of the time of a round, so that it is not tested
 // once more whether the array has a place for the atom.
@@ -46,12 +39,10 @@ fn greatest(rule: Rule, from: usize, to: usize, kept: &[u16; Table::ATOMS], step
     ensures { result ≡ greatest (plus step (number kept.now)) (numbers (slice from to rule.entries)) }
 {
     let mut most: usize = 0;
-    let mut j = from;
-    while j < to {
+    for j in from..to {
         let a = rule.entries[j];
         let n = number_at(kept, a);
-        most = larger(most, step as usize + n as usize);
-        j += 1;
+        most = most.max(step as usize + n as usize);
     }
     most
 }
@@ -68,7 +59,7 @@ pub fn needed(rule: Rule, kept: &[u16; Table::ATOMS]) -> usize
     let n = negative_end(rule);
     let positive = greatest(rule, 0, p, kept, 0);
     let negative = greatest(rule, p, n, kept, 1);
-    larger(positive, negative)
+    positive.max(negative)
 }
 
 // The atom's number becomes `n` if it is lower: was it? None is lower than 0, which is all that a free slot needs of
@@ -97,16 +88,13 @@ fn raise_in_order(
         × Attained (program_of (rules_of table.now)) (number of.old) × (length of.old ≡ document.atoms) }
     ensures { Guided (program_of (rules_of table.now)) of.old of.new }
 {
-    let slots = &by[..];
-    let mut i: usize = 0;
-    while i < Table::SLOTS {
-        let rule = rule_in(table, Slot(slots[i]));
+    for &s in by {
+        let rule = rule_in(table, Slot(s));
         let n = needed(rule, of);
         if n > Table::SLOTS {
             return;
         }
         raise(of, rule.head, n as u16);
-        i += 1;
     }
 }
 
@@ -125,44 +113,32 @@ fn guide(table: &[u16; Table::WORDS], round: usize, of: &mut [u16; Table::ATOMS]
     raise_in_order(table, &by, of);
 }
 
-// Rounds over the slots, each of which raises heads to what their rules need, up to the first that raises none.
+// Each atom's stratum, or none where there is a negative cycle: rounds over the slots, each of which raises heads to
+// what their rules need, up to the first that raises none.
 // Only a negative cycle lets a number pass SLOTS, or a round that SLOTS others came before still raise one.
 // Every eighth round walks downwards: a chain against the order of the slots settles in it.
-pub fn strata(table: &[u16; Table::WORDS]) -> Stratification
+pub fn strata(table: &[u16; Table::WORDS]) -> Option<[u16; Table::ATOMS]>
     requires { Bounded (program_of (rules_of table.now)) document.atoms }
     ensures { StrataOf (program_of (rules_of table.now)) result }
 {
     let mut of: [u16; Table::ATOMS] = [0; Table::ATOMS];
-    let mut round: usize = 0;
-    while round <= Table::SLOTS {
+    for round in 0..=Table::SLOTS {
         guide(table, round, &mut of);
         let down = round % 8 == 7;
         let mut raised = false;
-        let mut i: usize = 0;
-        while i < Table::SLOTS {
+        for i in 0..Table::SLOTS {
             let s = slot_at(down, i);
             let rule = rule_at(table, s);
             let n = needed(rule, &of);
             if n > Table::SLOTS {
-                return Stratification {
-                    acyclic: false,
-                    of: of,
-                };
+                return None;
             }
             let higher = raise(&mut of, rule.head, n as u16);
             raised = higher | raised;
-            i += 1;
         }
         if !raised {
-            return Stratification {
-                acyclic: true,
-                of: of,
-            };
+            return Some(of);
         }
-        round += 1;
     }
-    Stratification {
-        acyclic: false,
-        of: of,
-    }
+    None
 }

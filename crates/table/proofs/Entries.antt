@@ -12,18 +12,20 @@ use lib.ListN.{length, get_or, take, drop, set, length-map, length-take, drop_of
 use lib.ListN.{get_or-map, get_or-eq_default}
 use lib.Seq.{slice, slice-cons, length-slice, get_or-drop, get_or-take}
 use lib.Seq.{take-add, take-suc, take-suc-set, take_all, take-nil}
+use Rattle.std.specs.Prelude.{Some, None, is_some}
+use Rattle.std.proofs.lemmas.Bool.{false≢true}
+use Rattle.std.specs.Prelude as rust
 use Rattle.theory.specs.Lists.{every, before, greatest}
 use Rattle.theory.specs.Rules as theory
 use Rattle.theory.specs.Models.{AtomSet, valid}
 use Rattle.theory.specs.Labels.{Side, positive, negative, first_on, spoiler}
-use Rattle.theory.specs.Labels as labels
 use Rattle.theory.proofs.Lists.{before-hit, before-miss, first_past, first-there, le-or-lt, unless}
 use Rattle.theory.proofs.Labels.{first-on-none, first-on-some, no_spoiler-valid, spoiler-negative, spoiler-positive}
 use Rattle.theory.proofs.Labels.{valid-no_spoiler}
 use Rattle.table.specs.declared.Atom.{Atom}
 use Rattle.table.specs.declared.Rule.{Rule}
 use Rattle.table.specs.declared.Spoiler.{Spoiler}
-use Rattle.table.specs.declared.Spoiler.TheVariants.{Nothing, Positive, Negative}
+use Rattle.table.specs.declared.Spoiler.TheVariants.{Positive, Negative}
 use Rattle.table.specs.Rules.{numbers, rule_of, spoiler_of, no_atom}
 
 -- Past its end an array reads as the default.
@@ -174,7 +176,7 @@ module _ (r : Rule) (b : ℕ) (long : length r.entries ≡ b) (n : ℕ) (here : 
     module _ (M : AtomSet) where
       -- the walk over the positive part stopped at i, the one over the negative part at k
       module _ (i : ℕ) (at_i : i ≡ 0 + before (λ x. not (M x)) (numbers (slice 0 n r.entries))) where
-        pub spoiler-needs : i < n → spoiler_of (Positive i (get_or r.entries i no_atom)) ≡ spoiler M (rule_of r)
+        pub spoiler-needs : i < n → spoiler_of (Some (Positive i (get_or r.entries i no_atom))) ≡ spoiler M (rule_of r)
         spoiler-needs l =
             let e : i - 0 ≡ i = omega arith in
             let out = part-found positive (λ x. not (M x)) r.entries 0 n (omega arith) i at_i l in
@@ -187,25 +189,25 @@ module _ (r : Rule) (b : ℕ) (long : length r.entries ≡ b) (n : ℕ) (here : 
 
         module _ (over : n ≤ i) (k : ℕ) (at-k : k ≡ n + before M (numbers (slice n m r.entries))) where
           pub spoiler-blocked :
-              k < m → spoiler_of (Negative (k - n) (get_or r.entries k no_atom)) ≡ spoiler M (rule_of r)
+              k < m → spoiler_of (Some (Negative (k - n) (get_or r.entries k no_atom))) ≡ spoiler M (rule_of r)
           spoiler-blocked l =
               sym (no-positive over ∙ part-found negative M r.entries n m (omega arith) k at-k l)
 
-          pub spoiler-nothing : m ≤ k → spoiler_of Nothing ≡ spoiler M (rule_of r)
+          pub spoiler-nothing : m ≤ k → spoiler_of None ≡ spoiler M (rule_of r)
           spoiler-nothing l =
               sym (no-positive over ∙ part_none negative M r.entries n m (omega arith) k at-k l)
 
 -- A rule is valid exactly if no entry spoils it.
-
-pub spoiled-not-valid :
-    (M : AtomSet) (r : theory.Rule) (f g : Spoiler) (s : labels.Spoiler) → f ≡ g → spoiler_of g ≡ some s
-    → spoiler_of f ≡ spoiler M r → false ≡ valid M r
-spoiled-not-valid M r f g s e q p =
-    sym (unless _ (λ v. none-ne-some s (sym (valid-no_spoiler M r v) ∙ sym p ∙ ap spoiler_of e ∙ q)))
-
 pub unspoiled-valid :
-    (M : AtomSet) (r : theory.Rule) (f : Spoiler) → f ≡ Nothing → spoiler_of f ≡ spoiler M r → true ≡ valid M r
-unspoiled-valid M r f e p = sym (no_spoiler-valid M r (sym p ∙ ap spoiler_of e))
+    (M : AtomSet) (r : theory.Rule) (f : rust.Option Spoiler) (b : Bool) → spoiler_of f ≡ spoiler M r
+    → is_some f ≡ not b → b ≡ valid M r
+unspoiled-valid M r None true p e = sym (no_spoiler-valid M r (sym p))
+unspoiled-valid M r None false p e = absurd (false≢true e)
+unspoiled-valid M r (Some f) true p e = absurd (false≢true (sym e))
+unspoiled-valid M r (Some (Positive i a)) false p e =
+    sym (unless _ (λ v. none-ne-some _ (sym (valid-no_spoiler M r v) ∙ sym p)))
+unspoiled-valid M r (Some (Negative i a)) false p e =
+    sym (unless _ (λ v. none-ne-some _ (sym (valid-no_spoiler M r v) ∙ sym p)))
 
 -- Numbers taken of a part, or a part taken of the numbers.
 pub numbers-take : (n : ℕ) (xs : List Atom) → take n (numbers xs) ≡ numbers (take n xs)

@@ -1,5 +1,5 @@
 -- Laws of the program that the slots hold, and of the labels kept. Assumes nothing.
-use Prim.Native.Nat.{ℕ, zero, suc, ◌<◌}
+use Prim.Native.Nat.{ℕ, zero, suc}
 use native.Mathlib.Omega.{arith}
 use mathlib.Core.Path.{◌≡◌, refl, sym, ◌∙◌, ap}
 use mathlib.Core.Bool.{Bool, true, false}
@@ -9,14 +9,11 @@ use lib.Dec.{leb}
 use lib.ListN.{length, get_or, set, length-map, get_or-map}
 use Rattle.theory.specs.Rules.{active_on, all, Held, rule_on}
 use Rattle.theory.specs.Rules as theory
-use Rattle.theory.specs.Labels.{absent, out, in_at}
 use Rattle.theory.proofs.Lists.{le-leb}
 use Rattle.theory.proofs.Pages.{active-at, all-at, all-length, all_set, map-set}
 use Rattle.table.specs.declared.Rule.{Rule}
-use Rattle.table.specs.declared.Label.{Label}
 use Rattle.table.specs.Rules.{active_in, active_of, book_of, page_in, page_of, past_rule, program_of, rule_of, slot_of}
 use Rattle.table.specs.Rules.{state_of}
-use Rattle.table.specs.Labels.{label_of, label_in}
 
 -- A slot by its state: what it holds, muted from state 2 on, and what it holds unmuted.
 pub page-free : (r : Rule) → r.state ≡ 0 → page_of r ≡ none
@@ -115,18 +112,3 @@ state-held rules s h = program-at rules s ∙ slot_held (get_or rules s past_rul
 pub unmuted-rule :
     (rules : List Rule) (s : ℕ) (q : theory.Rule) → Held (active_of rules) s q → rule_of (get_or rules s past_rule) ≡ q
 unmuted-rule rules s q h = active-rule (get_or rules s past_rule) q (sym (active-place rules s) ∙ h)
-
--- A label by its state.
-pub label-absent : (l : Label) → l.state ≡ 0 → label_of l ≡ absent
-label-absent l e = ap (λ n. label_in n l.depth l.slot.0) e
-
-pub label-out : (l : Label) → l.state ≡ 1 → label_of l ≡ out
-label-out l e = ap (λ n. label_in n l.depth l.slot.0) e
-
-pub label-is_in : (l : Label) → 1 < l.state → label_of l ≡ in_at l.depth l.slot.0
-label-is_in l h = more l.state h
-  where
-    more : (n : ℕ) → 1 < n → label_in n l.depth l.slot.0 ≡ in_at l.depth l.slot.0
-    more zero k = absurd (omega arith)
-    more (suc zero) k = absurd (omega arith)
-    more (suc (suc n)) k = refl

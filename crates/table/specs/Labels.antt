@@ -1,24 +1,21 @@
 -- Labels: as the code has them, and read off a table. Assumes nothing.
-use Rattle.std.specs.Prelude.{ℕ, zero, suc, List, get_or}
+use Rattle.std.specs.Prelude.{ℕ, List, get_or}
 use Rattle.theory.specs.Labels.{absent, out, in_at}
 use Rattle.theory.specs.Labels as theory
 use Rattle.theory.specs.Slots.{label_by}
 use Rattle.table.specs.declared.Label.{Label}
+use Rattle.table.specs.declared.Label.TheVariants.{Absent, Out, In}
 use Rattle.table.specs.Rules.{book_of}
 use Rattle.table.specs.Words.{rules_of, depth_at}
 
--- A label's state: 0 absent, 1 out, any other in, with depth and supporting slot.
-abbrev pub label_in : ℕ → ℕ → ℕ → theory.Label
-label_in zero depth slot = absent
-label_in (suc zero) depth slot = out
-label_in (suc (suc n)) depth slot = in_at depth slot
-
 abbrev pub label_of : Label → theory.Label
-label_of l = label_in l.state l.depth l.slot.0
+label_of Absent = absent
+label_of Out = out
+label_of (In depth slot) = in_at depth slot.0
 
 -- The label of an atom that does not occur, which is also what an array of labels reads as past its end.
 abbrev pub absent_label : Label
-absent_label = record { state = 0; depth = 0; slot = record { 0 = 0 } }
+absent_label = Absent
 
 -- The label of an atom in an array of labels: absent past the end.
 abbrev pub label_listed : List Label → ℕ → theory.Label

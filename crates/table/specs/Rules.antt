@@ -1,5 +1,6 @@
 -- A slot of the table as the theory's rule, and what the calls on one rule answer. Assumes nothing.
-use Rattle.std.specs.Prelude.{ℕ, zero, suc, Bool, true, false, cond, List, [], map, take, drop}
+use Rattle.std.specs.Prelude.{Some, None, ℕ, zero, suc, Bool, true, false, cond, List, [], map, take, drop}
+use Rattle.std.specs.Prelude as rust
 use Rattle.std.proofs.Math.Option.{Option, none, some}
 use Rattle.theory.specs.Rules.{Page, Pages, Program, rule_on, active_on, all, active}
 use Rattle.theory.specs.Rules as theory
@@ -8,7 +9,7 @@ use Rattle.theory.specs.Labels as labels
 use Rattle.table.specs.declared.Atom.{Atom}
 use Rattle.table.specs.declared.Rule.{Rule}
 use Rattle.table.specs.declared.Spoiler.{Spoiler}
-use Rattle.table.specs.declared.Spoiler.TheVariants.{Nothing, Positive, Negative}
+use Rattle.table.specs.declared.Spoiler.TheVariants.{Positive, Negative}
 
 -- Atoms by their numbers.
 abbrev pub numbers : List Atom → List ℕ
@@ -55,10 +56,10 @@ abbrev pub active_of : List Rule → Program
 active_of rules = active (book_of rules)
 
 -- The spoiler that an answer names, if it names one.
-abbrev pub spoiler_of : Spoiler → Option labels.Spoiler
-spoiler_of Nothing = none
-spoiler_of (Positive i a) = some (record { side = positive; place = i; atom = a.0 })
-spoiler_of (Negative i a) = some (record { side = negative; place = i; atom = a.0 })
+abbrev pub spoiler_of : rust.Option Spoiler → Option labels.Spoiler
+spoiler_of None = none
+spoiler_of (Some (Positive i a)) = some (record { side = positive; place = i; atom = a.0 })
+spoiler_of (Some (Negative i a)) = some (record { side = negative; place = i; atom = a.0 })
 
 -- What an array of entries reads as past its end: atom 0, which also stands where there is no entry.
 abbrev pub no_atom : Atom

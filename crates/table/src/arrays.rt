@@ -48,17 +48,15 @@ pub fn arrays_of(table: &[u16; Table::WORDS]) -> LabelArrays
     let mut flags: [bool; Table::ATOMS] = [false; Table::ATOMS];
     let mut depths: [u16; Table::ATOMS] = [0; Table::ATOMS];
     let mut slots: [u16; Table::ATOMS] = [0; Table::ATOMS];
-    let mut left = Table::SLOTS;
-    while left > 0 {
-        left -= 1;
+    for left in (0..Table::SLOTS).rev() {
         let rule = rule_at(table, left);
         let depth = depth_at(table, left);
         let n = left as u16;
         note(rule, depth, Slot(n), &mut flags, &mut depths, &mut slots);
     }
     LabelArrays {
-        flags: flags,
-        depths: depths,
-        slots: slots,
+        flags,
+        depths,
+        slots,
     }
 }

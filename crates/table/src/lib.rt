@@ -21,7 +21,7 @@ pub struct Atom(pub u16);
 pub struct Slot(pub u16);
 
 // The rule of a slot: free (state 0), or with one rule, unmuted (1) or muted (2). The entries are the positive list,
-// then the negative list.
+// then the negative list. The state is a number and no enum, since a table may hold any (`rule_at` of specs/Words).
 #[derive(Clone, Copy)]
 pub struct Rule {
     pub state: u16,
@@ -31,12 +31,12 @@ pub struct Rule {
     pub entries: [Atom; Table::ENTRIES],
 }
 
-// The label of an atom: absent (state 0), out (1), or in (2) with depth and supporting slot.
+// The label of an atom: absent, out, or in, with depth and supporting slot.
 #[derive(Clone, Copy)]
-pub struct Label {
-    pub state: u16,
-    pub depth: u16,
-    pub slot: Slot,
+pub enum Label {
+    Absent,
+    Out,
+    In(u16, Slot),
 }
 
 // A table is one array of numbers, WIDTH to a slot, so that whatever bytes come in are a table, which may be sound or
@@ -49,11 +49,10 @@ pub struct Table {
     pub words: [u16; Table::WORDS],
 }
 
-// The first entry that spoils a rule, if one does: its place in the positive or the negative list as the slot keeps it,
-// from 0, and its atom.
+// The first entry that spoils a rule: its place in the positive or the negative list as the slot keeps it, from 0, and
+// its atom.
 #[derive(Clone, Copy)]
 pub enum Spoiler {
-    Nothing,
     Positive(u8, Atom),
     Negative(u8, Atom),
 }
@@ -78,11 +77,7 @@ impl Label {
     pub fn absent() -> Label
         ensures { result ≡ absent_label }
     {
-        Label {
-            state: 0,
-            depth: 0,
-            slot: Slot(0),
-        }
+        Label::Absent
     }
 }
 

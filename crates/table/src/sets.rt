@@ -64,5 +64,5 @@ pub fn set_slot(slots: &mut [u16; Table::ATOMS], a: Atom, s: Slot)
 pub fn larger(x: usize, y: usize) -> usize
     ensures { result ≡ max x y }
 {
-    if x < y { y } else { x }
+    x.max(y)
 }

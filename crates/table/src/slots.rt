@@ -108,10 +108,8 @@ fn paste(table: &mut [u16; Table::WORDS], b: usize, part: &[u16; 12])
 {
     let w = &mut table[..];
     let from = &part[..];
-    let mut j: usize = 0;
-    while j < 12 {
+    for j in 0..12 {
         w[b + j] = from[j];
-        j += 1;
     }
 }
 

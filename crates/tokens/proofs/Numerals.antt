@@ -11,27 +11,22 @@ use lib.Seq.{drop-cons}
 use lib.Dec.{eqb, leb}
 use borrow.Author.Tests.{le-leb, lt-leb, lt-ltb, le-ltb, eq-eqb, ne_eqb}
 use mathlib.Core.Bool.{and-true, and-false}
-use native.Mathlib.Nat.{lt_of_lt_of_le, pow-suc, pow-le-pow_right}
+use native.Mathlib.Nat.{pow-suc}
 use Rattle.tokens.specs.Numerals.{is_digit, digits, value_from, needless, spelled_from, numeral}
 
 pub digit-true : (b : ℕ) → 48 ≤ b → b ≤ 57 → is_digit b ≡ true
 digit-true b l h = rw (le-leb 48 b l, le-leb b 57 h)
 
 -- After the byte at i, the rest spells the whole.
-pub spelled-more : (t : List ℕ) (i n : ℕ) → i < length t → 48 ≤ get_or t i 0 → get_or t i 0 ≤ 57
+pub spelled-more : (t : List ℕ) (i n : ℕ) → i < length t → is_digit (get_or t i 0) ≡ true
     → spelled_from (n * 10 + (get_or t i 0 - 48)) (drop (i + 1) t) ≡ spelled_from n (drop i t)
 unfolding spelled_from digits value_from
-spelled-more t i n h l u = rw (add-one i, drop-cons t i 0 h, digit-true (get_or t i 0) l u)
+spelled-more t i n h d = rw (add-one i, drop-cons t i 0 h, d)
 
-pub spelled-low : (t : List ℕ) (i n : ℕ) → i < length t → get_or t i 0 < 48 → none ≡ spelled_from n (drop i t)
+pub spelled-other : (t : List ℕ) (i n : ℕ) → i < length t → is_digit (get_or t i 0) ≡ false
+    → none ≡ spelled_from n (drop i t)
 unfolding spelled_from digits value_from
-spelled-low t i n h l = rw (drop-cons t i 0 h, lt-leb 48 (get_or t i 0) l)
-
-pub spelled-high : (t : List ℕ) (i n : ℕ) → i < length t → 57 < get_or t i 0 → none ≡ spelled_from n (drop i t)
-unfolding spelled_from digits value_from
-spelled-high t i n h l =
-    let k : 48 ≤ get_or t i 0 = omega arith in
-    rw (drop-cons t i 0 h, le-leb 48 (get_or t i 0) k, lt-leb (get_or t i 0) 57 l)
+spelled-other t i n h d = rw (drop-cons t i 0 h, d)
 
 pub spelled-end : (t : List ℕ) (i n : ℕ) → length t ≤ i → some n ≡ spelled_from n (drop i t)
 unfolding spelled_from digits value_from
@@ -78,9 +73,6 @@ numeral-digit t l h =
     let k : length t ≤ 5 = omega arith in
     numeral-spelled t l k (needless-short t h)
 
--- The digits passed spell less than a power of ten, so five of them fit.
-pub room-left : (n i : ℕ) → n < 10 ^ i → i < 5 → n < 10000
-room-left n i l h = let k : i ≤ 4 = omega arith in lt_of_lt_of_le l (pow-le-pow_right {n = 10} (omega arith) k)
-
+-- The digits passed spell less than a power of ten.
 pub room_next : (n i d : ℕ) → n < 10 ^ i → d ≤ 9 → n * 10 + d < 10 ^ (i + 1)
 room_next n i d l h = rw (add-one i, pow-suc) (omega arith)

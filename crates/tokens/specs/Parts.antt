@@ -1,13 +1,12 @@
 -- What the functions that read tokens tell their callers in the reader: private to the crates of the reader.
 -- Assumes nothing.
-use Rattle.std.specs.Prelude.{ℕ, ◌-◌, ◌≤◌, ◌≡◌, Bool, true, false, List, [], ◌∷◌, take, drop}
-use Rattle.std.proofs.Math.Option.{Option, none, some}
+use Rattle.std.specs.Prelude.{ℕ, ◌-◌, ◌≤◌, ◌≡◌, Bool, true, false, Option, Some, None, List, [], ◌∷◌, take, drop}
+use Rattle.std.proofs.Math.Option as math
+use Rattle.std.proofs.Math.Option.{none, some}
 use Rattle.places.specs.declared.Place.{Place}
 use Rattle.places.specs.Places.{Onward}
 use Rattle.tokens.specs.Tokens.{tokens}
 use Rattle.tokens.specs.declared.Token.{Token}
-use Rattle.tokens.specs.declared.Number.{Number}
-use Rattle.tokens.specs.declared.Number.TheVariants.{Missing, Is}
 
 -- The bytes of a line from start up to end.
 abbrev pub part : List ℕ → ℕ → ℕ → List ℕ
@@ -33,6 +32,7 @@ pub record First (line : List ℕ) (from : Place) (t : Token) : Type 0 where
   pub first : part line t.start t.next.offset ≡ first_of (tokens (drop from.offset line))
   pub rest : tokens (drop t.next.offset line) ≡ rest_of (tokens (drop from.offset line))
 
-abbrev pub as_option : Number → Option ℕ
-as_option Missing = none
-as_option (Is n) = some n
+-- The code's number, or none, as the theory has it.
+abbrev pub as_option : Option ℕ → math.Option ℕ
+as_option None = none
+as_option (Some n) = some n

@@ -17,25 +17,12 @@ pub struct Token {
     pub next: Place,
 }
 
-// The number that a token is, where it is one.
-#[derive(Clone, Copy)]
-pub enum Number {
-    Missing,
-    Is(u32),
-}
-
-// Where the token that begins at an offset ends.
+// Where the token that begins at an offset ends. Past the end of the line it is that offset.
 fn token_end(line: &[u8], start: usize) -> usize
     ensures { result ≡ start + leading in_token (drop start line.now) }
 {
-    let mut i = start;
-    while i < line.len() {
-        if line[i] == b' ' {
-            return i;
-        }
-        i += 1;
-    }
-    i
+    let rest = &line[start.min(line.len())..];
+    start + rest.iter().take_while(|&&b| b != b' ').count()
 }
 
 // The next token.
@@ -46,7 +33,7 @@ pub fn next_token(line: &[u8], place: Place) -> Token
     let start = begin.offset;
     let end = token_end(line, start);
     Token {
-        start: start,
+        start,
         next: Place {
             offset: end,
             line: begin.line,
@@ -73,40 +60,34 @@ pub fn is(token: &[u8], byte: u8) -> bool
 }
 
 // What a token spells, if it is of digits.
-fn value(token: &[u8]) -> Number
+fn value(token: &[u8]) -> Option<u32>
     requires { length token.now ≤ 5 }
     ensures { as_option result ≡ spelled_from 0 token.now }
 {
     let mut n: u32 = 0;
-    let mut i: usize = 0;
-    while i < token.len() {
-        let b = token[i];
-        if b < b'0' {
-            return Number::Missing;
-        }
-        if b > b'9' {
-            return Number::Missing;
+    for &b in token {
+        if !b.is_ascii_digit() {
+            return None;
         }
         n = n * 10 + (b - b'0') as u32;
-        i += 1;
     }
-    Number::Is(n)
+    Some(n)
 }
 
 // The number that a token is.
-pub fn numeral(token: &[u8]) -> Number
+pub fn numeral(token: &[u8]) -> Option<u32>
     ensures { as_option result ≡ numeral-of token.now }
 {
     let n = token.len();
     if n == 0 {
-        return Number::Missing;
+        return None;
     }
     if n > 5 {
-        return Number::Missing;
+        return None;
     }
     if n > 1 {
         if token[0] == b'0' {
-            return Number::Missing;
+            return None;
         }
     }
     value(token)

@@ -27,15 +27,7 @@ pub fn slots_well_formed(table: &[u16; Table::WORDS]) -> bool
     ensures { (result ≡ true)
         ↔ ((s : ℕ) → s < document.slots → WellFormed (get_or (rules_of table.now) s past_rule)) }
 {
-    let mut i: usize = 0;
-    while i < Table::SLOTS {
-        let rule = rule_at(table, i);
-        if !well_formed(rule) {
-            return false;
-        }
-        i += 1;
-    }
-    true
+    (0..Table::SLOTS).all(|i| well_formed(rule_at(table, i)))
 }
 
 // The number of an atom.
@@ -51,12 +43,10 @@ fn key(rule: Rule) -> usize
 {
     let n = negative_end(rule);
     let mut k = wide(rule.head);
-    let mut j: usize = 0;
-    while j < n {
+    for j in 0..n {
         let a = rule.entries[j];
         let x = wide(a);
         k = (FACTOR * k + x) % MODULUS;
-        j += 1;
     }
     FACTOR * k % MODULUS / KEYS
 }
@@ -96,8 +86,7 @@ pub fn no_two_equal(table: &[u16; Table::WORDS]) -> bool
 {
     let mut last: [u16; KEYS] = [0; KEYS];
     let mut before: [u16; Table::SLOTS] = [0; Table::SLOTS];
-    let mut i: usize = 0;
-    while i < Table::SLOTS {
+    for i in 0..Table::SLOTS {
         let rule = rule_at(table, i);
         let k = slot_key(rule);
         let start = last_of(k, &last);
@@ -111,7 +100,6 @@ pub fn no_two_equal(table: &[u16; Table::WORDS]) -> bool
         }
         before[i] = start;
         note(k, &mut last, (i + 1) as u16);
-        i += 1;
     }
     true
 }

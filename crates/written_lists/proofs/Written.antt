@@ -1,11 +1,11 @@
 -- Numbers written one after another into a buffer. Assumes nothing.
+use Rattle.std.specs.Prelude.{Ok, Err}
 use Prim.Native.Nat.{ℕ, ◌+◌, ◌≤◌, ◌<◌}
 use native.Mathlib.Omega.{arith}
 use mathlib.Core.Path.{◌≡◌, refl, sym, ◌∙◌, ap, ap₂, subst}
 use mathlib.Core.Bool.{Bool, true, false}
 use mathlib.Core.List.{List, [], ◌∷◌, ◌++◌, append_assoc, append-nil}
 use lib.ListN.{length, drop, set, length-append}
-use Rattle.calls.specs.declared.ListAnswer.TheVariants.{Count, Refused}
 use Rattle.refusals.specs.declared.Refusal.TheVariants.{BufferTooShort}
 use Rattle.written_lists.specs.Lists.{listed_if, below}
 use Rattle.written_lists.specs.Written.{overwrite, Appends, Written, short, fits}
@@ -83,11 +83,11 @@ module _ (n x : ℕ) (b : Bool) (before after : List ℕ) where
 
 -- All of a list was written, or it did not fit.
 module _ (xs before : List ℕ) (n : ℕ) (counted : n ≡ length xs) where
-  pub written-short : length before < n → Written xs before (Refused (BufferTooShort n)) before
+  pub written-short : length before < n → Written xs before (Err (BufferTooShort n)) before
   written-short l = rw counted (short (omega arith))
 
   pub written_all :
-      (r : ℕ) (after : List ℕ) → n ≤ length before → Appends xs 0 r before after → Written xs before (Count n) after
+      (r : ℕ) (after : List ℕ) → n ≤ length before → Appends xs 0 r before after → Written xs before (Ok n) after
   written_all r after l A =
       let room : length xs ≤ length before = omega arith in
       rw (counted, appends-all xs r before after A ∙ overwrite-all xs before room) (fits room)

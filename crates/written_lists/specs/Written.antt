@@ -1,8 +1,7 @@
 -- Private to the crates behind the calls: numbers written one after another into a buffer. Assumes nothing.
-use Rattle.std.specs.Prelude.{ℕ, ◌+◌, ◌≤◌, ◌<◌, ◌≡◌, List, [], ◌∷◌, ◌++◌, length, drop}
+use Rattle.std.specs.Prelude.{ℕ, ◌+◌, ◌≤◌, ◌<◌, ◌≡◌, List, [], ◌∷◌, ◌++◌, length, drop, Ok, Err}
 use Rattle.refusals.specs.declared.Refusal.TheVariants.{BufferTooShort}
-use Rattle.calls.specs.declared.ListAnswer.{ListAnswer}
-use Rattle.calls.specs.declared.ListAnswer.TheVariants.{Count, Refused}
+use Rattle.calls.specs.Answers.{ListAnswer}
 
 -- The list with the numbers of xs in its first places, as far as it has places.
 unfoldable pub overwrite : List ℕ → List ℕ → List ℕ
@@ -19,5 +18,5 @@ pub record Appends (xs : List ℕ) (n r : ℕ) (before after : List ℕ) : Type 
 -- A list is written from the start of a buffer, and later entries stay; where the buffer is too short nothing is
 -- written and the answer carries the length needed.
 pub data Written (xs before : List ℕ) : ListAnswer → List ℕ → Type 0 where
-  short : length before < length xs → Written xs before (Refused (BufferTooShort (length xs))) before
-  fits : length xs ≤ length before → Written xs before (Count (length xs)) (xs ++ drop (length xs) before)
+  short : length before < length xs → Written xs before (Err (BufferTooShort (length xs))) before
+  fits : length xs ≤ length before → Written xs before (Ok (length xs)) (xs ++ drop (length xs) before)

@@ -6,7 +6,6 @@ ghost use Rattle.table.specs.Sets.{member, one_if};
 ghost use Rattle.written_lists.specs.Lists.{listed_if, below, most_flags};
 ghost use Rattle.written_lists.specs.Written.{Appends, Written};
 
-use calls::ListAnswer;
 use refusals::Refusal;
 
 // How many a flag counts for.
@@ -21,11 +20,8 @@ pub fn count_marked(flags: &[bool]) -> usize
     ensures { result ≡ length (below (member flags.now) (length flags.now)) }
 {
     let mut n: usize = 0;
-    let mut i: usize = 0;
-    while i < flags.len() {
-        let flag = flags[i];
+    for &flag in flags {
         n += one_if(flag);
-        i += 1;
     }
     n
 }
@@ -53,21 +49,18 @@ fn write_if(buffer: &mut [u32], n: usize, place: u32, flag: bool) -> usize
 }
 
 // The places of the true flags, ascending, from the start of the buffer, if they fit.
-pub fn write_marked(flags: &[bool], buffer: &mut [u32]) -> ListAnswer
+pub fn write_marked(flags: &[bool], buffer: &mut [u32]) -> Result<usize, Refusal>
     requires { length flags.now ≤ most_flags }
     ensures { Written (below (member flags.now) (length flags.now))
         buffer.old result buffer.new }
 {
     let needed = count_marked(flags);
     if needed > buffer.len() {
-        return ListAnswer::Refused(Refusal::BufferTooShort(needed));
+        return Err(Refusal::BufferTooShort(needed));
     }
     let mut n: usize = 0;
-    let mut i: usize = 0;
-    while i < flags.len() {
-        let flag = flags[i];
+    for (i, &flag) in flags.iter().enumerate() {
         n = write_if(buffer, n, i as u32, flag);
-        i += 1;
     }
-    ListAnswer::Count(needed)
+    Ok(needed)
 }

@@ -2,16 +2,14 @@
 use Rattle.std.specs.Prelude.{ℕ, ◌≡◌, List}
 use Rattle.theory.specs.Rules as theory
 use Rattle.table.specs.declared.Table.{Table}
-use Rattle.calls.specs.declared.AddAnswer.{AddAnswer}
-use Rattle.calls.specs.declared.ChangeAnswer.{ChangeAnswer}
-use Rattle.calls.specs.declared.LabelAnswer.{LabelAnswer}
-use Rattle.calls.specs.declared.SpoilerAnswer.{SpoilerAnswer}
-use Rattle.calls.specs.declared.ListAnswer.{ListAnswer}
+use Rattle.calls.specs.Answers.{AddAnswer}
+use Rattle.calls.specs.Answers.{ChangeAnswer}
+use Rattle.calls.specs.Answers.{LabelAnswer}
+use Rattle.calls.specs.Answers.{SpoilerAnswer}
+use Rattle.calls.specs.Answers.{ListAnswer}
 use Rattle.calls.specs.Ends.{AddEnds, RemoveEnds, LabelEnds, SpoilerEnds}
-use Rattle.queries.specs.declared.RuleAnswer.{RuleAnswer}
-use Rattle.queries.specs.declared.RuleNumbers.{RuleNumbers}
-use Rattle.queries.specs.RuleTold.{RuleEnds}
-use Rattle.checklist_meaning.specs.declared.CompleteAnswer.{CompleteAnswer}
+use Rattle.queries.specs.RuleTold.{RuleAnswer, RuleEnds}
+use Rattle.checklist_meaning.specs.Ends.{CompleteAnswer}
 use Rattle.checklist_meaning.specs.Ends.{CompleteEnds}
 use Rattle.c_answers.specs.declared.Change.{Change}
 use Rattle.c_answers.specs.declared.AtomLabel.{AtomLabel}
@@ -44,9 +42,8 @@ pub record LabelCrosses (t : Table) (a : ℕ) (c : AtomLabel) : Type 0 where
 
 pub record RuleCrosses (t : Table) (s : ℕ) (c : SlotRule) : Type 0 where
   pub answer : RuleAnswer
-  pub rule : RuleNumbers
-  pub ends : RuleEnds t s answer rule
-  pub crosses : c ≡ crossed_rule answer rule
+  pub ends : RuleEnds t s answer
+  pub crosses : c ≡ crossed_rule answer
 
 pub record SpoilerCrosses (t : Table) (s : ℕ) (c : RuleSpoiler) : Type 0 where
   pub answer : SpoilerAnswer

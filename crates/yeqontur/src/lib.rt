@@ -68,9 +68,8 @@ pub extern "C" fn yeqontur_add(
 ) -> Change
     ensures { AddCrosses table (rule_from head positives.now negatives.now) result }
 {
-    let done = add(table, head, positives, negatives);
-    let answer = done.answer;
-    let after = done.table;
+    let mut after = table;
+    let answer = add(&mut after, head, positives, negatives);
     crossed_add(answer, after)
 }
 
@@ -78,9 +77,8 @@ pub extern "C" fn yeqontur_add(
 pub extern "C" fn yeqontur_remove(table: Table, slot: u32) -> Change
     ensures { RemoveCrosses table slot result }
 {
-    let done = remove(table, slot);
-    let answer = done.answer;
-    let after = done.table;
+    let mut after = table;
+    let answer = remove(&mut after, slot);
     crossed_remove(slot, answer, after)
 }
 
@@ -95,9 +93,8 @@ pub extern "C" fn yeqontur_replace(
     ensures { ChangeCrosses
         (ReplaceEnds table slot (rule_from head positives.now negatives.now)) result }
 {
-    let done = replace(table, slot, head, positives, negatives);
-    let answer = done.answer;
-    let replaced = done.table;
+    let mut replaced = table;
+    let answer = replace(&mut replaced, slot, head, positives, negatives);
     crossed_change(answer, replaced)
 }
 
@@ -106,9 +103,8 @@ pub extern "C" fn yeqontur_replace(
 pub extern "C" fn yeqontur_mute(table: Table, slot: u32, muted: u32) -> Accepted
     ensures { ChangeCrosses (MuteEnds table slot (not (eqb muted 0))) result }
 {
-    let done = mute(table, slot, muted != 0);
-    let answer = done.answer;
-    let marked = done.table;
+    let mut marked = table;
+    let answer = mute(&mut marked, slot, muted != 0);
     crossed_change(answer, marked)
 }
 
@@ -132,10 +128,8 @@ pub extern "C" fn yeqontur_labels(table: Table, buffer: &mut [u32]) -> Written
 pub extern "C" fn yeqontur_rule(table: Table, slot: u32) -> SlotRule
     ensures { RuleCrosses table slot result }
 {
-    let told = rule(&table.words, slot);
-    let answer = told.answer;
-    let numbers = told.rule;
-    crossed_rule(answer, numbers)
+    let answer = rule(&table.words, slot);
+    crossed_rule(answer)
 }
 
 #[unsafe(no_mangle)]
@@ -190,9 +184,8 @@ pub extern "C" fn yeqontur_save(table: Table, bytes: &mut [u8]) -> Written
 pub extern "C" fn yeqontur_load(bytes: &[u8]) -> Accepted
     ensures { ChangeCrosses (LoadEnds bytes.now) result }
 {
-    let done = load(bytes);
-    let answer = done.answer;
-    let loaded = done.table;
+    let mut loaded = Table::empty();
+    let answer = load(&mut loaded, bytes);
     crossed_change(answer, loaded)
 }
 
@@ -200,9 +193,8 @@ pub extern "C" fn yeqontur_load(bytes: &[u8]) -> Accepted
 pub extern "C" fn yeqontur_checklist_open(files: u32) -> Accepted
     ensures { ChangeCrosses (OpenEnds files) result }
 {
-    let done = open(files);
-    let answer = done.answer;
-    let opened = done.table;
+    let mut opened = Table::empty();
+    let answer = open(&mut opened, files);
     crossed_change(answer, opened)
 }
 
@@ -210,9 +202,8 @@ pub extern "C" fn yeqontur_checklist_open(files: u32) -> Accepted
 pub extern "C" fn yeqontur_checklist_sent(table: Table, file: u32) -> Accepted
     ensures { ChangeCrosses (FileEnds table (file_sent file)) result }
 {
-    let done = file_sent(table, file);
-    let answer = done.answer;
-    let sent = done.table;
+    let mut sent = table;
+    let answer = file_sent(&mut sent, file);
     crossed_change(answer, sent)
 }
 
@@ -220,9 +211,8 @@ pub extern "C" fn yeqontur_checklist_sent(table: Table, file: u32) -> Accepted
 pub extern "C" fn yeqontur_checklist_skipped(table: Table, file: u32) -> Accepted
     ensures { ChangeCrosses (FileEnds table (file_skipped file)) result }
 {
-    let done = file_skipped(table, file);
-    let answer = done.answer;
-    let skipped = done.table;
+    let mut skipped = table;
+    let answer = file_skipped(&mut skipped, file);
     crossed_change(answer, skipped)
 }
 
@@ -230,9 +220,8 @@ pub extern "C" fn yeqontur_checklist_skipped(table: Table, file: u32) -> Accepte
 pub extern "C" fn yeqontur_checklist_withdraw(table: Table, file: u32) -> Accepted
     ensures { ChangeCrosses (FileEnds table (skip_withdrawn file)) result }
 {
-    let done = skip_withdrawn(table, file);
-    let answer = done.answer;
-    let withdrawn = done.table;
+    let mut withdrawn = table;
+    let answer = skip_withdrawn(&mut withdrawn, file);
     crossed_change(answer, withdrawn)
 }
 

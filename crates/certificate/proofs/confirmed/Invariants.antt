@@ -10,6 +10,3 @@ abbrev pub invariant-loop-i : goal.invariant-loop-i
 invariant-loop-i l =
     Walked (book_of (rules_of l.table)) (member l.flags) (number l.depths) (depth_at l.table) (spoiler_at l.table)
     document.atoms l.given l.i
-
-abbrev pub decreases-loop-i : goal.decreases-loop-i
-decreases-loop-i l = document.slots - l.i

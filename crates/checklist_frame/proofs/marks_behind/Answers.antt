@@ -1,5 +1,5 @@
 -- `checklist_frame::marks_behind` tells whether every slot behind the frame is free or holds a mark. Assumes nothing.
-use Prim.Native.Nat.{ℕ, ◌-◌}
+use Prim.Native.Nat.{ℕ}
 use native.Mathlib.Omega.{arith}
 use Rattle.theory.proofs.Lists.{clash}
 use Rattle.table.specs.declared.Rule.{Rule}
@@ -15,24 +15,21 @@ abbrev Marks : ℕ → Rule → Type 0
 Marks n r = FreeOrMark n (page_of r)
 
 pub loop-s-init : goal.loop-s-init
-loop-s-init c = (omega arith, omega (arith, c.requires), λ k q l m h. absurd (omega arith))
+loop-s-init c = λ k q l m h. absurd (omega arith)
 
 pub returns-then-not-free_or_mark : goal.returns-then-not-free_or_mark
 returns-then-not-free_or_mark c =
     let told = told_of (Marks c.args.n) c.rule_at-rule.ensures c.free_or_mark.ensures in
-    marks-stop (rules_of c.args.table.now) c.args.n c.loop-s.s c.loop-s.invariant.2 c.loop-s.invariant.0
+    marks-stop (rules_of c.args.table.now) c.args.n c.loop-s.s c.loop-s.invariant (omega (arith, c.loop-s.auto.s))
     (λ w. clash (told.1 w) c.if-not-free_or_mark.true)
 
 pub loop-s-preserved : goal.loop-s-preserved
 loop-s-preserved c =
-    let told = told_of (Marks c.args.n) c.rule_at-rule.ensures c.free_or_mark.ensures in (
-      omega (arith, c.loop-s.invariant.0),
-      omega (arith, c.loop-s-test.true),
-      marks-more (rules_of c.args.table.now) c.args.n c.loop-s.s c.loop-s.invariant.2
-          (told.0 c.if-not-free_or_mark.false),
-    )
+    let told = told_of (Marks c.args.n) c.rule_at-rule.ensures c.free_or_mark.ensures in
+    marks-more (rules_of c.args.table.now) c.args.n c.loop-s.s c.loop-s.invariant
+    (told.0 c.if-not-free_or_mark.false)
 
 pub returns : goal.returns
 returns c =
     let table = c.args.table.now in
-    marks-all (rules_of table) c.args.n c.loop-s.s c.loop-s.invariant.2 (omega (arith, rules-length table))
+    marks-all (rules_of table) c.args.n c.loop-s.s c.loop-s.invariant (omega (arith, rules-length table))

@@ -1,44 +1,30 @@
--- `checklist_marks::remove_mark` removes the fact of the mark that passed. Assumes nothing.
-use Rattle.checklist.proofs.Labels.{told_in}
-use Rattle.checklist_marks.specs.Parts.{FactRemoved, MarkRemoved}
-use Rattle.checklist_marks.proofs.Ends.{handed, hands_on, does}
-use Rattle.checklist_marks.proofs.Ends.{mark-freed, mark-out, mark-absent, mark-unsound}
+-- `checklist_marks::remove_mark` removes the fact of a mark. Assumes nothing.
+use mathlib.Core.Path.{subst}
+use Rattle.std.specs.Prelude.{Ok}
+use Rattle.std.proofs.lemmas.Result.{err_from_is_err_and}
+use Rattle.table.specs.declared.Label.{Label}
+use Rattle.calls.specs.Ends.{LabelEnds}
+use Rattle.checklist.proofs.Labels.{told-label}
+use Rattle.checklist_marks.specs.Parts.{removed, out, absent, refused}
 use Rattle.checklist_marks.proofs.remove_mark.Goals as goal
 
-pub remove_from_sound-requires : goal.remove_from_sound-requires
-remove_from_sound-requires c =
-    let a = c.args in
-    (told_in a.table _ c.label-told.ensures c.in-In.is).sound
+pub returns-in_err-told : goal.returns-in_err-told
+returns-in_err-told c =
+    let p = err_from_is_err_and c.from_residual.result c.from_residual.ensures.1 in
+    rw (p.1, p.2) (refused c.in_err-told.ensures)
 
-pub returns-in-Refused : goal.returns-in-Refused
-returns-in-Refused c =
-    let a = c.args in
-    handed (MarkRemoved a.table a.asked) _ c.refuse.ensures
-    (hands_on (FactRemoved a.table) a.table c.in-Refused.is)
+pub remove_from_sound-requires : goal.remove_from_sound-requires
+remove_from_sound-requires c = (told-label c.args.table.now _ c.in_ok-told.ensures).sound
 
 pub returns-in-In : goal.returns-in-In
 returns-in-In c =
-    let a = c.args in
-    does (FactRemoved a.table) a.table c.in-Passed.is
-    (mark-freed a.table _ c.label-told.ensures c.in-In.is c.remove_from_sound.ensures)
-
-pub returns-in-Refused-told : goal.returns-in-Refused-told
-returns-in-Refused-told c =
-    let a = c.args in
-    let done = does (FactRemoved a.table) a.table c.in-Passed.is
-    (mark-unsound a.table _ c.label-told.ensures c.in-Refused-told.is) in
-    handed (MarkRemoved a.table a.asked) _ c.refuse-in-Refused-told.ensures done
+    removed (subst (λ (l : Label). LabelEnds c.args.table.now c.args.atom.0 (Ok l)) c.in-In.is c.in_ok-told.ensures)
+    c.remove_from_sound.ensures
 
 pub returns-in-Absent : goal.returns-in-Absent
 returns-in-Absent c =
-    let a = c.args in
-    let done = does (FactRemoved a.table) a.table c.in-Passed.is
-    (mark-absent a.table _ c.label-told.ensures c.in-Absent.is) in
-    handed (MarkRemoved a.table a.asked) _ c.refuse-in-Absent.ensures done
+    absent (subst (λ (l : Label). LabelEnds c.args.table.now c.args.atom.0 (Ok l)) c.in-Absent.is c.in_ok-told.ensures)
 
 pub returns-in-Out : goal.returns-in-Out
 returns-in-Out c =
-    let a = c.args in
-    let done = does (FactRemoved a.table) a.table c.in-Passed.is
-    (mark-out a.table _ c.label-told.ensures c.in-Out.is) in
-    handed (MarkRemoved a.table a.asked) _ c.refuse-in-Out.ensures done
+    out (subst (λ (l : Label). LabelEnds c.args.table.now c.args.atom.0 (Ok l)) c.in-Out.is c.in_ok-told.ensures)

@@ -13,9 +13,6 @@ invariant-loop-i l =
     × Pass (active_of (rules_of l.table)) (member l.model) (slot_at document.slots l.down) document.atoms l.round l.i l.found
     l.lowered
 
-abbrev pub decreases-loop-i : goal.decreases-loop-i
-decreases-loop-i l = document.slots - l.i
-
 abbrev pub invariant-loop-lowered : goal.invariant-loop-lowered
 invariant-loop-lowered l = Outer (active_of (rules_of l.table)) (member l.model) document.atoms l.round l.found l.lowered
 

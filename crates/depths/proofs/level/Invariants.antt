@@ -1,12 +1,8 @@
-use Prim.Native.Nat.{◌-◌}
 use Rattle.theory.specs.Lists.{greatest}
 use Rattle.table.specs.Sets.{number}
 use Rattle.table.specs.Rules.{rule_of}
 use Rattle.depths.proofs.Greatest.{Walked}
 use Rattle.depths.proofs.level.Given as goal
 
-abbrev pub invariant-loop-j : goal.invariant-loop-j
-invariant-loop-j l = Walked (number l.depths) l.rule.entries l.n (greatest (number l.depths) (rule_of l.rule).positives) l.most l.j
-
-abbrev pub decreases-loop-j : goal.decreases-loop-j
-decreases-loop-j l = l.n - l.j
+abbrev pub invariant-loop-a : goal.invariant-loop-a
+invariant-loop-a l = Walked (number l.depths) l.a-items l.a-index-end (greatest (number l.depths) (rule_of l.fn.rule).positives) l.most l.a-index

@@ -1,4 +1,3 @@
-use Prim.Native.Nat.{◌-◌, ◌≤◌}
 use Rattle.theory.specs.Limits.{document}
 use Rattle.table.specs.Rules.{active_of}
 use Rattle.table.specs.Sets.{member}
@@ -6,8 +5,5 @@ use Rattle.table.specs.Words.{rules_of}
 use Rattle.depths.specs.Passes.{Found}
 use Rattle.depths.proofs.lower_first.Given as goal
 
-abbrev pub invariant-loop-i : goal.invariant-loop-i
-invariant-loop-i l = (l.i ≤ document.slots) × Found (active_of (rules_of l.table)) (member l.model) document.atoms 0 l.found
-
-abbrev pub decreases-loop-i : goal.decreases-loop-i
-decreases-loop-i l = document.slots - l.i
+abbrev pub invariant-loop-s : goal.invariant-loop-s
+invariant-loop-s l = Found (active_of (rules_of l.table)) (member l.model) document.atoms 0 l.found

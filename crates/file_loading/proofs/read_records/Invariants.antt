@@ -1,4 +1,3 @@
-use Prim.Native.Nat.{◌-◌}
 use mathlib.Core.Path.{◌≡◌}
 use lib.ListN.{length}
 use Rattle.table.specs.Words.{rules_of}
@@ -8,6 +7,3 @@ use Rattle.file_loading.proofs.read_records.Given as goal
 
 abbrev pub invariant-loop-k : goal.invariant-loop-k
 invariant-loop-k l = (l.count ≡ length (places_of (blocks l.bytes))) × Going (places_of (blocks l.bytes)) (rules_of l.words) l.least l.k
-
-abbrev pub decreases-loop-k : goal.decreases-loop-k
-decreases-loop-k l = l.count - l.k

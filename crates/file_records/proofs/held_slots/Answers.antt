@@ -1,5 +1,5 @@
 -- `file_records::held_slots` meets its contract. The loop keeps: the slots passed that hold rules are noted. Assumes nothing.
-use Prim.Native.Nat.{min, ◌-◌}
+use Prim.Native.Nat.{min}
 use native.Mathlib.Omega.{arith}
 use mathlib.Core.Path.{◌∙◌, ap}
 use Rattle.table.specs.declared.Rule.{Rule}
@@ -12,25 +12,7 @@ use borrow.Author.Rules.{rules}
 use Rattle.file_records.proofs.held_slots.Goals as goal
 
 pub loop-i-init : goal.loop-i-init
-loop-i-init c = (omega arith, note-start _ _ (search rules))
-
-pub rule_at-rule-requires : goal.rule_at-rule-requires
-rule_at-rule-requires c = omega arith
-
-pub overflow_cast-number : goal.overflow_cast-number
-overflow_cast-number c = omega arith
-
-pub bounds-slots-count : goal.bounds-slots-count
-bounds-slots-count c = omega arith
-
-pub overflow_add-count : goal.overflow_add-count
-overflow_add-count c = omega arith
-
-pub overflow_add-i : goal.overflow_add-i
-overflow_add-i c = omega arith
-
-pub loop-i-smaller : goal.loop-i-smaller
-loop-i-smaller c = omega arith
+loop-i-init c = note-start _ _ (search rules)
 
 pub loop-i-preserved : goal.loop-i-preserved
 loop-i-preserved c =
@@ -38,11 +20,11 @@ loop-i-preserved c =
     let l = c.loop-i in
     let table = c.args.table.now in
     let told = c.one_if_held-count.ensures ∙ ap (λ (r : Rule). min r.state 1) read in
-    (omega arith, note-next (rules_of table) l.i _ _ _ (omega (arith, rules-length table)) (omega arith) told l.invariant.1)
+    note-next (rules_of table) l.i _ _ _ (omega (arith, rules-length table)) (omega arith) told l.invariant
 
 pub returns : goal.returns
 returns c =
     let l = c.loop-i in
     let table = c.args.table.now in
     let long = book-length (rules_of table) ∙ rules-length table in
-    note-over (book_of (rules_of table)) l.i _ _ (omega arith) l.invariant.0 l.invariant.1
+    note-over (book_of (rules_of table)) l.i _ _ (omega arith) (omega arith) l.invariant

@@ -1,4 +1,4 @@
-use Prim.Native.Nat.{◌+◌, ◌-◌, ◌*◌, ◌≤◌}
+use Prim.Native.Nat.{◌+◌, ◌*◌}
 use Rattle.table.specs.Words.{rules_of}
 use Rattle.fields.specs.Written.{Wrote}
 use Rattle.file_blocks.specs.Files.{PLACE}
@@ -6,7 +6,4 @@ use Rattle.file_records.specs.Bytes.{records_bytes}
 use Rattle.file_records.proofs.write_records.Given as goal
 
 abbrev pub invariant-loop-k : goal.invariant-loop-k
-invariant-loop-k l = (l.k ≤ l.count) × Wrote (records_bytes (rules_of l.table) l.from l.k) l.initial.out l.at l.out (l.at + PLACE * l.k)
-
-abbrev pub decreases-loop-k : goal.decreases-loop-k
-decreases-loop-k l = l.count - l.k
+invariant-loop-k l = Wrote (records_bytes (rules_of l.table) l.from l.k) l.initial.out l.at l.out (l.at + PLACE * l.k)

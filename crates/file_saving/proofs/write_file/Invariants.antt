@@ -1,4 +1,4 @@
-use Prim.Native.Nat.{◌-◌, ◌*◌, ◌≤◌}
+use Prim.Native.Nat.{◌*◌}
 use Rattle.table.specs.Words.{rules_of}
 use Rattle.fields.specs.Written.{Wrote}
 use Rattle.file_blocks.specs.Files.{BLOCK}
@@ -6,7 +6,4 @@ use Rattle.file_saving.proofs.Blocks.{first_blocks}
 use Rattle.file_saving.proofs.write_file.Given as goal
 
 abbrev pub invariant-loop-i : goal.invariant-loop-i
-invariant-loop-i l = (l.i ≤ l.blocks) × Wrote (first_blocks (rules_of l.table) l.blocks l.i) l.initial.out 0 l.out (BLOCK * l.i)
-
-abbrev pub decreases-loop-i : goal.decreases-loop-i
-decreases-loop-i l = l.blocks - l.i
+invariant-loop-i l = Wrote (first_blocks (rules_of l.table) l.blocks l.i) l.initial.out 0 l.out (BLOCK * l.i)

@@ -4,18 +4,6 @@ use Rattle.fields.proofs.Wrote.{wrote_then, wrote-to}
 use Rattle.file_saving.specs.Bytes.{header_bytes}
 use Rattle.file_saving.proofs.write_header.Goals as goal
 
-pub write_word-requires : goal.write_word-requires
-write_word-requires c = omega arith
-
-pub write_word-requires-2 : goal.write_word-requires-2
-write_word-requires-2 c = omega arith
-
-pub write_word-requires-3 : goal.write_word-requires-3
-write_word-requires-3 c = omega arith
-
-pub shape_of-out : goal.shape_of-out
-shape_of-out c = omega arith
-
 pub returns : goal.returns
 unfolding header_bytes
 returns c =

@@ -1,25 +1,6 @@
 -- `file_saving::write_sums` meets its contract. Assumes nothing.
-use native.Mathlib.Omega.{arith}
 use Rattle.file_saving.proofs.Blocks.{wrote-sums}
 use Rattle.file_saving.proofs.write_sums.Goals as goal
-
-pub overflow_add-end : goal.overflow_add-end
-overflow_add-end c = omega arith
-
-pub slice_bounds-sums-start : goal.slice_bounds-sums-start
-slice_bounds-sums-start c = omega arith
-
-pub slice_bounds-sums-end : goal.slice_bounds-sums-end
-slice_bounds-sums-end c = omega arith
-
-pub write_word-requires : goal.write_word-requires
-write_word-requires c = omega arith
-
-pub write_word-requires-2 : goal.write_word-requires-2
-write_word-requires-2 c = omega arith
-
-pub shape_of-out : goal.shape_of-out
-shape_of-out c = omega arith
 
 pub returns : goal.returns
 returns c =

@@ -4,7 +4,7 @@ use Rattle.history_replay.proofs.Stepping.{small, accepted-refused}
 use Rattle.history_replay.proofs.accepted.Goals as goal
 
 pub overflow_add-result : goal.overflow_add-result
-overflow_add-result c = omega (arith, small c.in-Refused.f _ c.refusal_number.ensures)
+overflow_add-result c = omega (arith, small c.in-Err.f _ c.refusal_number.ensures)
 
-pub returns-in-Refused : goal.returns-in-Refused
-returns-in-Refused c = accepted-refused _ _ _ c.in-Refused.is c.refusal_number.ensures
+pub returns-in-Err : goal.returns-in-Err
+returns-in-Err c = accepted-refused _ _ _ c.in-Err.is c.refusal_number.ensures

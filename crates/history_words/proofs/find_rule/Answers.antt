@@ -1,5 +1,4 @@
 -- `history_words::find_rule` meets its contract. Assumes nothing.
-use Prim.Native.Nat.{◌+◌}
 use native.Mathlib.Omega.{arith}
 use Rattle.history_words.specs.Reading.{cut, whole}
 use Rattle.history_words.proofs.find_rule.Goals as goal
@@ -10,15 +9,8 @@ returns-then-at-n c = cut (omega arith)
 pub returns-then-n-at-lt3 : goal.returns-then-n-at-lt3
 returns-then-n-at-lt3 c = cut (omega arith)
 
-pub overflow_cast-positives : goal.overflow_cast-positives
-overflow_cast-positives c = omega (arith, c.shared_slice_known-1.given (c.args.at + 1))
-
 pub returns-then-n-from : goal.returns-then-n-from
 returns-then-n-from c = cut (omega arith)
-
-pub overflow_cast-negatives : goal.overflow_cast-negatives
-overflow_cast-negatives c =
-    omega (arith, c.shared_slice_known-2-1.given (c.args.at + 2))
 
 pub returns-then-n-middle : goal.returns-then-n-middle
 returns-then-n-middle c = cut (omega arith)

@@ -1,4 +1,4 @@
-use Prim.Native.Nat.{◌-◌, ◌≤◌}
+use Prim.Native.Nat.{◌≤◌}
 use mathlib.Core.Path.{◌≡◌}
 use lib.ListN.{length}
 use Rattle.theory.specs.Limits.{document}
@@ -12,6 +12,3 @@ abbrev pub invariant-loop-i : goal.invariant-loop-i
 invariant-loop-i l =
     (l.i ≤ document.atoms) × (length l.buffer ≡ length l.initial.buffer)
     × Appends (up_to (found_numbers (member l.there) (member l.flags) (number l.depths) (number l.slots)) l.i) 0 l.next l.initial.buffer l.buffer
-
-abbrev pub decreases-loop-i : goal.decreases-loop-i
-decreases-loop-i l = document.atoms - l.i

@@ -1,5 +1,4 @@
 -- `labels::keep_dues` writes what is due into each slot, from the lowest on. Assumes nothing.
-use Prim.Native.Nat.{◌-◌}
 use native.Mathlib.Omega.{arith}
 use mathlib.Core.Path.{◌≡◌, subst}
 use Rattle.theory.specs.Limits.{document}

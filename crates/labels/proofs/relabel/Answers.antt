@@ -1,5 +1,4 @@
 -- `labels::relabel` finds what the slots have to keep, and they keep it; or it tells a negative cycle. Assumes nothing.
-use Rattle.theory.proofs.Lists.{not-true, not-false}
 use Rattle.theory.proofs.Pages.{active-bounded}
 use Rattle.table.specs.Rules.{book_of}
 use Rattle.table.specs.Words.{rules_of}
@@ -8,15 +7,14 @@ use Rattle.labels.proofs.Keeping.{told-kept, told-cycle}
 use borrow.Author.Rules.{rules}
 use Rattle.labels.proofs.relabel.Goals as goal
 
-pub returns-then-not-s : goal.returns-then-not-s
-returns-then-not-s c =
-    told-cycle _ (search rules) (c.strata-s.ensures.cyclic (not-true _ c.if-not-s.true))
+pub returns-in_default : goal.returns-in_default
+returns-in_default c = told-cycle _ (search rules) c.in_default.ensures
 
 pub in_atoms-search-requires : goal.in_atoms-search-requires
 in_atoms-search-requires c =
     record {
       bounded = c.before.requires;
-      exact = c.strata-s.ensures.acyclic (not-false _ c.if-not-s.false);
+      exact = c.in-Some.ensures;
     }
 
 pub depths-deep-requires : goal.depths-deep-requires
@@ -27,5 +25,5 @@ depths-deep-requires c =
 pub returns : goal.returns
 returns c =
     told-kept _ (search rules) _ _
-    (answer-acyclic _ _ c.strata-s.ensures (not-false _ c.if-not-s.false))
+    (answer-acyclic _ _ c.in-Some.ensures)
     c.in_atoms-search.ensures.model c.depths-deep.ensures _ c.keep_dues.ensures

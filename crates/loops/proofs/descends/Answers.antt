@@ -1,37 +1,34 @@
 -- `loops::descends` meets its contract. Assumes nothing.
-use mathlib.Core.Path.{ap}
-use mathlib.Core.Bool.{not}
-use Prim.Native.Nat.{◌-◌}
 use native.Mathlib.Omega.{arith}
-use borrow.Author.Count.{below_more}
+use mathlib.Core.Path.{refl}
+use lib.ListN.{get_or}
+use borrow.Author.Rules.{rules}
+use borrow.Author.Tests.{tests}
+use Rattle.std.proofs.lemmas.Iterator.{cases_from_all, YieldsList-from_range, serves_from_Range}
+use Rattle.theory.specs.Limits.{document}
+use Rattle.table.specs.Rules.{past_rule, slot_of}
 use Rattle.table.specs.Sets.{number}
-use Rattle.table.specs.Rules.{slot_of}
-use Rattle.questions.proofs.Passes.{refused, granted}
 use Rattle.table.specs.Words.{rules_of}
+use Rattle.table.proofs.Words.{rules-length}
+use Rattle.questions.proofs.Passes.{all_places}
 use Rattle.loops.specs.Descent.{DescendsAt}
-use Rattle.table.proofs.Words.{told_of, rules-length}
-use Rattle.loops.proofs.Descent.{atoms-of, pass-stops, pass-ends}
+use Rattle.loops.proofs.Descent.{atoms-of, descends-slots}
 use Rattle.loops.proofs.descends.Goals as goal
 
-pub loop-i-init : goal.loop-i-init
-loop-i-init c = λ s l. absurd (omega arith)
-
-pub rule_descends-requires : goal.rule_descends-requires
-rule_descends-requires c =
-    atoms-of (rules_of c.args.table.now) _ _ c.requires _ c.rule_at-rule.ensures
-
-pub returns-then-not-rule_descends : goal.returns-then-not-rule_descends
-returns-then-not-rule_descends c =
-    pass-stops (rules_of c.args.table.now) _ _
-    (refused _ (told_of (λ q. DescendsAt (number c.args.numbers.now) (slot_of q)) c.rule_at-rule.ensures
-    c.rule_descends.ensures) (ap not c.if-not-rule_descends.true))
-
-pub loop-i-preserved : goal.loop-i-preserved
-loop-i-preserved c =
-    below_more _ _ c.loop-i.invariant
-    (granted _ (told_of (λ q. DescendsAt (number c.args.numbers.now) (slot_of q)) c.rule_at-rule.ensures
-    c.rule_descends.ensures) (ap not c.if-not-rule_descends.false))
+pub all-requires-clause-callable : goal.all-requires-clause-callable
+all-requires-clause-callable c = serves_from_Range (λ x q k. search rules) (λ s l m. (
+  λ _ _ _ _ _ _. omega (arith, m),
+  λ _ _ _ _ _ r _. atoms-of (rules_of c.args.table.now) document.atoms s c.requires _ r.ensures,
+))
 
 pub returns : goal.returns
-returns c = pass-ends (rules_of c.args.table.now) _ _ _ (rules-length _) c.loop-i-test.false
-    c.loop-i.invariant
+returns c =
+    let rows = rules_of c.args.table.now in
+    let slots = descends-slots rows (number c.args.numbers.now) document.slots (rules-length c.args.table.now) in
+    let all =
+    all_places (λ s. DescendsAt (number c.args.numbers.now) (slot_of (get_or (rules_of c.args.table.now) s past_rule))) document.slots _
+    (cases_from_all _ _ _ (λ s. DescendsAt (number c.args.numbers.now) (slot_of (get_or (rules_of c.args.table.now) s past_rule)))
+    (λ s. DescendsAt (number c.args.numbers.now) (slot_of (get_or (rules_of c.args.table.now) s past_rule)) → ⊥) c.all.ensures.ran
+    (YieldsList-from_range 0 document.slots document.slots refl (omega arith))
+    (λ s t k. search (rules, tests)) (λ s t k. search (rules, tests))) in
+    (λ t. slots.0 (all.0 t), λ d. all.1 (slots.1 d))

@@ -1,10 +1,6 @@
 -- `loops::rule_descends` meets its contract. Assumes nothing.
-use mathlib.Core.Bool.{true}
-use Rattle.loops.proofs.Descent.{free-descends, entries-of, head_of, descent}
+use Rattle.loops.proofs.Descent.{entries-of, head_of, descent}
 use Rattle.loops.proofs.rule_descends.Goals as goal
-
-pub returns-then-rule-eq0 : goal.returns-then-rule-eq0
-returns-then-rule-eq0 c = free-descends _ c.args.rule c.if-rule-eq0.true
 
 pub needed-n-requires : goal.needed-n-requires
 needed-n-requires c = (entries-of _ c.args.rule c.requires)

@@ -8,13 +8,10 @@ use Rattle.model.proofs.Visits.{NoneFrom, Seen}
 use Rattle.model.proofs.Rounds.{Going}
 use Rattle.model.proofs.fill_stratum.Given as goal
 
-abbrev pub invariant-loop-i : goal.invariant-loop-i
-invariant-loop-i l =
-    Left (number l.strata) l.k (rules_of l.table) l.initial.found l.i l.found l.adds × Seen (number l.strata) l.k (rules_of l.table) l.found l.end l.last l.i
+abbrev pub invariant-loop-slot : goal.invariant-loop-slot
+invariant-loop-slot l =
+    Left (number l.strata) l.k (rules_of l.table) l.initial.found l.slot l.found l.adds × Seen (number l.strata) l.k (rules_of l.table) l.found l.end l.last l.slot
     × (l.end ≤ document.slots)
-
-abbrev pub decreases-loop-i : goal.decreases-loop-i
-decreases-loop-i l = l.end - l.i
 
 abbrev pub invariant-loop-end : goal.invariant-loop-end
 invariant-loop-end l =

@@ -1,6 +1,6 @@
 -- `model::in_atoms` answers the admissible model and the rounds of each layer. Assumes nothing.
 -- Before layer k all layers below it have ended; above the highest there are no heads.
-use Rattle.std.proofs.Common.{suc, ◌-◌, ◌<◌, refl, arith, rules}
+use Rattle.std.proofs.Common.{suc, ◌<◌, refl, arith, rules}
 use Rattle.theory.specs.Limits.{document}
 use Rattle.table.specs.Words.{rules_of}
 use Rattle.table.proofs.Words.{rules-length}
@@ -27,16 +27,19 @@ room c =
 pub bounds-rounds-k : goal.bounds-rounds-k
 bounds-rounds-k c = (let r = room c in search rules)
 
-pub returns-then-k-top : goal.returns-then-k-top
-returns-then-k-top c =
-    let len = rules-length c.args.table.now in
-    let told = c.highest-top.ensures in
-    between-end (rules_of c.args.table.now) _ c.requires _ told len _ _ _ _ _
-    c.loop-k.invariant c.fill_stratum-n.ensures _ c.if-k-top.true
-
 pub loop-k-preserved : goal.loop-k-preserved
 loop-k-preserved c =
     let len = rules-length c.args.table.now in
     let told = c.highest-top.ensures in
     between_next (rules_of c.args.table.now) _ c.requires _ told len _ _ _ _ _
-    c.loop-k.invariant c.fill_stratum-n.ensures (omega (arith, c.if-k-top.false))
+    c.loop-k.invariant c.fill_stratum-n.ensures (omega arith)
+
+pub returns : goal.returns
+returns c = absurd (omega (arith, c.loop-k.auto.k-end, c.loop-k-test.false))
+
+pub returns-2 : goal.returns-2
+returns-2 c =
+    let len = rules-length c.args.table.now in
+    let told = c.highest-top.ensures in
+    between-end (rules_of c.args.table.now) _ c.requires _ told len _ _ _ _ _
+    c.loop-k.invariant c.fill_stratum-n.ensures _ (omega arith)

@@ -1,33 +1,25 @@
 -- `occurring::mark_entries` meets its contract. Assumes nothing.
+use mathlib.Core.Path.{◌≡◌, ◌∙◌, ap}
+use lib.ListN.{length, take}
+use lib.Seq.{take_all}
 use Rattle.theory.specs.Limits.{document}
-use native.Mathlib.Omega.{arith}
-use Prim.Native.Nat.{◌-◌}
-use mathlib.Core.Path.{◌≡◌, ◌∙◌}
-use lib.ListN.{length}
+use Rattle.table.specs.Rules.{numbers}
 use Rattle.table.proofs.Entries.{entries-are}
 use Rattle.occurring.proofs.Marks.{marked-none, front-next}
 use Rattle.occurring.proofs.mark_entries.Goals as goal
-use Rattle.occurring.proofs.mark_entries.Goals.{Start}
 
--- what owning the rule tells of its entries
-long : (s : Start) → length s.args.rule.entries ≡ document.entries
-long s = s.well_formed.0.1.1.1.1.1.1.0.1.0.1
+pub loop-a-init : goal.loop-a-init
+loop-a-init c = marked-none _
 
-pub loop-j-init : goal.loop-j-init
-loop-j-init c = (omega arith, marked-none _)
-
-pub loop-j-preserved : goal.loop-j-preserved
-loop-j-preserved c =
-    let len = long c.before.before.before.before.before.before in
-    let w = c.loop-j.invariant in (
-      omega arith,
-      rw c.mark.ensures
-          (front-next c.args.rule.entries c.loop-j.j _ _ (omega arith) w.1),
-    )
+pub loop-a-preserved : goal.loop-a-preserved
+loop-a-preserved c =
+    let xs = take c.negative_end-n.result c.args.rule.entries in
+    rw c.mark.ensures (front-next xs c.loop-a.a-index _ _ c.loop-a-test.true c.loop-a.invariant)
 
 pub returns : goal.returns
 returns c =
-    let e : c.loop-j.j ≡ c.negative_end-n.result = omega arith in
-    let all = entries-are c.args.rule document.entries (long c.before.before.before) _
-    (e ∙ c.negative_end-n.ensures) in
-    rw all at c.loop-j.invariant.1
+    let r = c.args.rule in
+    let long : length r.entries ≡ document.entries = c.well_formed.0.1.1.1.1.1.1.0.1.0.1 in
+    let all = ap numbers (take_all c.loop-a.a-index (take c.negative_end-n.result r.entries) c.loop-a-test.false)
+    ∙ entries-are r document.entries long _ c.negative_end-n.ensures in
+    rw all at c.loop-a.invariant

@@ -1,5 +1,4 @@
 -- `occurring::occurring` meets its contract. Assumes nothing.
-use Prim.Native.Nat.{◌-◌}
 use native.Mathlib.Omega.{arith}
 use mathlib.Core.Path.{sym, ◌∙◌, ap}
 use Rattle.table.specs.Rules.{slot_of}

@@ -11,9 +11,6 @@ loop-lost-init c = record {
   sound = c.requires.sound;
 }
 
-pub feed-fed-requires : goal.feed-fed-requires
-feed-fed-requires c = c.loop-lost.invariant.sound
-
 pub show-requires : goal.show-requires
 show-requires c =
     let so_far = c.loop-lost.invariant.so_far in
@@ -56,12 +53,6 @@ returns-else-from-piece-clause-answers c =
     let so_far = c.loop-lost.invariant.so_far in
     piece-over _ so_far (λ e. omega (arith, so_far.few, c.if-from-piece.false))
 
-pub returns-else-from-piece-clause-sound_2 : goal.returns-else-from-piece-clause-sound_2
-returns-else-from-piece-clause-sound_2 c = c.loop-lost.invariant.sound
-
 pub returns-after-loop-lost-clause-answers : goal.returns-after-loop-lost-clause-answers
 returns-after-loop-lost-clause-answers c =
     piece-over _ c.loop-lost.invariant.so_far (λ e. absurd (omega (arith, e, c.loop-lost-test.false)))
-
-pub returns-after-loop-lost-clause-sound_2 : goal.returns-after-loop-lost-clause-sound_2
-returns-after-loop-lost-clause-sound_2 c = c.loop-lost.invariant.sound

@@ -1,6 +1,5 @@
 -- `reach::round` meets its contract. The loop's invariant: the edges below i were followed, one after another.
 -- Assumes nothing.
-use Prim.Native.Nat.{◌-◌}
 use native.Mathlib.Omega.{arith}
 use Rattle.reach.proofs.Rounds.{round-start, round-next, round-end}
 use borrow.Author.Rules.{rules}

@@ -1,9 +1,7 @@
 -- `reading::assemble` puts each atom's label. Assumes nothing.
-use Prim.Native.Nat.{◌-◌}
 use native.Mathlib.Omega.{arith}
 use mathlib.Core.Path.{refl, ◌∙◌}
 use lib.ListN.{length-set}
-use Rattle.reading.specs.Assembling.{label_for}
 use Rattle.reading.proofs.Assembled.{one_more, label-alike}
 use Rattle.reading.proofs.assemble.Goals as goal
 

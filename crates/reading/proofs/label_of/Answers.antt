@@ -1,6 +1,5 @@
 -- `reading::label_of` meets its contract. The loop keeps: what is left of the slots tells the one that keeps a depth.
 -- Assumes nothing.
-use Prim.Native.Nat.{◌-◌}
 use native.Mathlib.Omega.{arith}
 use mathlib.Core.Path.{refl, sym, ◌∙◌}
 use Rattle.table.specs.Words.{rules_of, depth_at}

@@ -1,5 +1,4 @@
 -- `reading::occurs` meets its contract. The loop keeps: what is left of the slots answers for all. Assumes nothing.
-use Prim.Native.Nat.{◌-◌}
 use native.Mathlib.Omega.{arith}
 use mathlib.Core.Path.{refl, sym, ◌∙◌}
 use Rattle.table.specs.Words.{rules_of}

@@ -1,4 +1,3 @@
-use Prim.Native.Nat.{◌-◌}
 use Rattle.theory.specs.Limits.{document}
 use Rattle.table.specs.Sets.{member, number}
 use Rattle.table.specs.Words.{rules_of}
@@ -8,6 +7,3 @@ use Rattle.reason_atoms.proofs.support_entries.Given as goal
 
 abbrev pub invariant-loop-i : goal.invariant-loop-i
 invariant-loop-i l = CopiedBelow (positives_at (rules_of l.table) (member l.flags) (number l.slots)) document.atoms l.i l.counts l.entries
-
-abbrev pub decreases-loop-i : goal.decreases-loop-i
-decreases-loop-i l = document.atoms - l.i

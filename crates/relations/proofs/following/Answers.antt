@@ -1,6 +1,5 @@
 -- `relations::following` meets its contract. Assumes nothing.
 -- The loop keeps: the heads of the slots below `i` are marked.
-use Prim.Native.Nat.{◌-◌}
 use native.Mathlib.Omega.{arith}
 use Rattle.table.specs.Words.{rules_of}
 use Rattle.table.proofs.Programs.{program-length}

@@ -1,6 +1,5 @@
 -- `relations::justifying` meets its contract. Assumes nothing.
 -- The loop keeps: the places below `i` are filled.
-use Prim.Native.Nat.{◌-◌}
 use native.Mathlib.Omega.{arith}
 use mathlib.Core.Path.{sym, ◌∙◌, ap}
 use lib.Dec.{eqb}

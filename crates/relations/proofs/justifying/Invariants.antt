@@ -1,7 +1,5 @@
-use Prim.Native.Nat.{◌-◌}
 use lib.Dec.{eqb}
 use Rattle.theory.specs.Rules.{passes}
-use Rattle.theory.specs.Limits.{document}
 use Rattle.table.specs.Rules.{slot_of}
 use Rattle.table.specs.Words.{rules_of}
 use Rattle.table.proofs.Copies.{Copied}
@@ -9,6 +7,3 @@ use Rattle.relations.proofs.justifying.Given as goal
 
 abbrev pub invariant-loop-i : goal.invariant-loop-i
 invariant-loop-i l = Copied (λ r. passes (λ q. eqb q.head l.a.0) (slot_of r)) (rules_of l.table) l.flags l.i
-
-abbrev pub decreases-loop-i : goal.decreases-loop-i
-decreases-loop-i l = document.slots - l.i

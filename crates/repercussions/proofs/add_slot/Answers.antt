@@ -1,4 +1,5 @@
 -- `repercussions::add_slot` meets its contract. Assumes nothing.
+use Rattle.std.specs.Prelude.{Some}
 use mathlib.Core.Path.{sym, ◌∙◌, ap}
 use Rattle.theory.proofs.Lists.{clash, eqb-eq, eqb_of}
 use Rattle.table.specs.Rules.{rule_of, spoiler_of}
@@ -29,24 +30,24 @@ returns-then-has c =
     (entries-give _ _ _ _ (rule_of rule) is_held_lem is_in)
     c.add_entries.ensures
 
-pub returns-in-Nothing : goal.returns-in-Nothing
-returns-in-Nothing c =
+pub returns-in_default : goal.returns-in_default
+returns-in_default c =
     let rule = c.args.rule in
     grown-none _ _ _ _
     (gives_nothing _ _ _ _ (rule_of rule) (active-some rule c.if-rule-ne1.false)
     (sym c.has.ensures ∙ c.if-has.false)
-    (sym c.spoiler-found.ensures ∙ ap spoiler_of c.in-Nothing.is))
+    (sym c.spoiler-found.ensures ∙ ap spoiler_of c.in_default.is))
 
 pub returns-in-Positive : goal.returns-in-Positive
 returns-in-Positive c =
     let rule = c.args.rule in
     spoiler-edge _ _ _ _ (rule_of rule) (active-some rule c.if-rule-ne1.false) _ _ _ _ _ _
     (sym c.has.ensures ∙ c.if-has.false) _
-    (sym c.spoiler-found.ensures ∙ ap spoiler_of c.in-Positive.is) c.add_edge.ensures
+    (sym c.spoiler-found.ensures ∙ ap spoiler_of (c.in-Some.is ∙ ap Some c.in-Positive.is)) c.add_edge.ensures
 
 pub returns-in-Negative : goal.returns-in-Negative
 returns-in-Negative c =
     let rule = c.args.rule in
     spoiler-edge _ _ _ _ (rule_of rule) (active-some rule c.if-rule-ne1.false) _ _ _ _ _ _
     (sym c.has.ensures ∙ c.if-has.false) _
-    (sym c.spoiler-found.ensures ∙ ap spoiler_of c.in-Negative.is) c.add_edge-in-Negative.ensures
+    (sym c.spoiler-found.ensures ∙ ap spoiler_of (c.in-Some.is ∙ ap Some c.in-Negative.is)) c.add_edge-in-Negative.ensures

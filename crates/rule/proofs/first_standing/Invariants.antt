@@ -1,4 +1,4 @@
-use Prim.Native.Nat.{◌+◌, ◌-◌}
+use Prim.Native.Nat.{◌+◌}
 use mathlib.Core.Path.{◌≡◌}
 use lib.Seq.{slice}
 use Rattle.theory.specs.Lists.{before}
@@ -9,7 +9,4 @@ use Rattle.rule.proofs.first_standing.Given as goal
 abbrev pub invariant-loop-j : goal.invariant-loop-j
 invariant-loop-j l =
     l.j + before (standing l.wanted (member l.flags)) (numbers (slice l.j l.to l.rule.entries))
-    ≡ l.initial.j + before (standing l.wanted (member l.flags)) (numbers (slice l.initial.j l.to l.rule.entries))
-
-abbrev pub decreases-loop-j : goal.decreases-loop-j
-decreases-loop-j l = l.to - l.j
+    ≡ l.from + before (standing l.wanted (member l.flags)) (numbers (slice l.from l.to l.rule.entries))

@@ -1,30 +1,26 @@
 -- `rule::spoiler` meets its contract. Assumes nothing.
 -- The positive part is read first, and the negative part only where the walk went past the positive part.
-use mathlib.Core.Path.{◌≡◌}
-use lib.ListN.{length}
+use mathlib.Core.Path.{refl, ◌∙◌, ap}
+use Rattle.table.specs.Rules.{spoiler_of}
 use Rattle.theory.specs.Limits.{document}
 use Rattle.table.proofs.Entries.{spoiler-needs, spoiler-blocked, spoiler-nothing}
 use Rattle.rule.proofs.spoiler.Goals as goal
-use Rattle.rule.proofs.spoiler.Goals.{Start}
 
--- what owning the rule tells of its entries
-long : (s : Start) → length s.args.rule.entries ≡ document.entries
-long s = s.well_formed.0.1.1.1.1.1.1.0.1.0.1
-
-pub returns-then-i-p : goal.returns-then-i-p
-returns-then-i-p c =
-    spoiler-needs c.args.rule document.entries (long c.before.before.before.before.before)
+pub returns-in-Some : goal.returns-in-Some
+returns-in-Some c =
+    spoiler-needs c.args.rule document.entries c.well_formed.0.1.1.1.1.1.1.0.1.0.1
     _ c.positive_end-p.ensures _ c.negative_end-n.ensures
-    _ _ c.first_standing-i.ensures c.if-i-p.true
-
-pub returns-then-j-n : goal.returns-then-j-n
-returns-then-j-n c =
-    spoiler-blocked c.args.rule document.entries (long c.before.before.before.before.before.before.before)
-    _ c.positive_end-p.ensures _ c.negative_end-n.ensures
-    _ _ c.first_standing-i.ensures c.if-i-p.false _ c.first_standing-j.ensures c.if-j-n.true
+    _ _ c.in-Some.ensures.1 c.in-Some.ensures.0
 
 pub returns : goal.returns
 returns c =
-    spoiler-nothing c.args.rule document.entries (long c.before.before.before.before.before.before)
+    spoiler-blocked c.args.rule document.entries c.well_formed.0.1.1.1.1.1.1.0.1.0.1
     _ c.positive_end-p.ensures _ c.negative_end-n.ensures
-    _ _ c.first_standing-i.ensures c.if-i-p.false _ c.first_standing-j.ensures c.if-j-n.false
+    _ _ refl c.in_default.ensures _ c.in_ok-j.ensures.1 c.in_ok-j.ensures.0
+
+pub returns-in_err-j : goal.returns-in_err-j
+returns-in_err-j c =
+    ap spoiler_of c.from_residual.ensures
+    ∙ spoiler-nothing c.args.rule document.entries c.well_formed.0.1.1.1.1.1.1.0.1.0.1
+    _ c.positive_end-p.ensures _ c.negative_end-n.ensures
+    _ _ refl c.in_default.ensures _ refl c.in_err-j.ensures

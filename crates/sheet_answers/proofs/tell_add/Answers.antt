@@ -7,13 +7,13 @@ use Rattle.sheet_meaning.specs.Lines.{tell_add}
 use Rattle.sheet_answers.proofs.Told.{wrote-same}
 use Rattle.sheet_answers.proofs.tell_add.Goals as goal
 
-pub returns-in-Taken : goal.returns-in-Taken
+pub returns-in-Ok : goal.returns-in-Ok
 unfolding bytes
-returns-in-Taken c =
-    wrote-same (ap (tell_add _) (sym c.in-Taken.is)) (c.write_named.ensures.fits (omega arith))
+returns-in-Ok c =
+    wrote-same (ap (tell_add _) (sym c.in-Ok.is)) (c.write_named.ensures.fits (omega arith))
 
-pub returns-in-Refused : goal.returns-in-Refused
-returns-in-Refused c =
+pub returns-in-Err : goal.returns-in-Err
+returns-in-Err c =
     wrote-same
-    (ap (refusal_line _) c.refusal_number.ensures ∙ ap (tell_add _) (sym c.in-Refused.is))
+    (ap (refusal_line _) c.refusal_number.ensures ∙ ap (tell_add _) (sym c.in-Err.is))
     (c.write_refusal.ensures.fits (omega arith))

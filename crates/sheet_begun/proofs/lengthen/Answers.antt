@@ -1,42 +1,24 @@
--- `sheet_begun::lengthen` meets its contract. The loop keeps: behind the bytes of the line stand those that were
--- passed, and there is room for them. Assumes nothing.
+-- `sheet_begun::lengthen` meets its contract: behind the bytes of the line stand those that were copied. Assumes nothing.
+use Prim.Native.Nat.{◌+◌}
 use native.Mathlib.Omega.{arith}
-use mathlib.Core.Path.{refl, sym}
-use mathlib.Core.Logic.{inl, inr}
-use mathlib.Core.List.{append-nil}
-use lib.ListN.{take, length-set}
-use Rattle.sheet_begun.proofs.Lengthening.{longer-held, held_next, begun_sized}
+use mathlib.Core.Path.{◌≡◌, refl, ◌∙◌, ap}
+use mathlib.Core.List.{◌++◌}
+use lib.ListN.{length, take}
+use lib.Seq.{length-take-le}
+use Rattle.std.proofs.lemmas.Slice.{take-put_mid}
+use Rattle.sheet_begun.proofs.Lengthening.{longer-held, begun_sized}
 use Rattle.sheet_begun.proofs.lengthen.Goals as goal
 
-pub loop-i-init : goal.loop-i-init
-loop-i-init c =
-    let long = begun_sized c.args.begun _ c.well_formed.0 in
-    (omega arith, omega arith, omega (arith, c.within-end.ensures), long, sym (append-nil _))
-
-pub loop-i-preserved : goal.loop-i-preserved
-loop-i-preserved c =
-    let l = c.loop-i in
-    let a = c.args in
-    let held = take c.within-end.result a.begun.bytes in (
-      omega arith,
-      omega arith,
-      omega arith,
-      simp length-set l.invariant.3,
-      held_next held l.line l.end a.bytes.now l.i (omega arith) (omega arith) l.invariant.4,
-    )
-
-pub returns-else-end-lt-ENOUGH : goal.returns-else-end-lt-ENOUGH
-returns-else-end-lt-ENOUGH c =
-    let l = c.loop-i in
-    let w = c.within-end in
-    let long = begun_sized c.args.begun _ c.well_formed.0 in
-    longer-held c.args.begun _ l.i long w.ensures refl l.invariant.1 l.invariant.4
-    l.invariant.0 l.invariant.2 (inr (omega arith))
-
-pub returns-after-loop-i : goal.returns-after-loop-i
-returns-after-loop-i c =
-    let l = c.loop-i in
-    let w = c.within-end in
-    let long = begun_sized c.args.begun _ c.well_formed.0 in
-    longer-held c.args.begun _ l.i long w.ensures refl l.invariant.1 l.invariant.4
-    l.invariant.0 l.invariant.2 (inl (omega (arith, c.loop-i-test.false)))
+pub returns : goal.returns
+returns c =
+    let begun = c.args.begun in
+    let bytes = c.args.bytes.now in
+    let end = c.min-end.result in
+    let n = c.min-n.result in
+    let part = c.copy_from_slice.new.self in
+    let long = begun_sized begun _ c.well_formed.0 in
+    let copied : part ≡ take n bytes = c.copy_from_slice.ensures.after in
+    let size = ap length copied ∙ length-take-le n bytes (omega (arith, c.min-n.ensures)) in
+    longer-held begun bytes n long c.min-end.ensures c.min-n.ensures refl
+    (take-put_mid end _ begun.bytes part (end + n) (omega (arith, size)) (omega (arith, c.min-end.ensures, long))
+    ∙ ap (λ ys. take end begun.bytes ++ ys) copied)

@@ -27,8 +27,8 @@ returns c =
     let ends =
     subst (λ (k : ℕ). AddEnds a.table
     (rule_from a.head (take p.positives p.entries) (take k (drop p.positives p.entries)))
-    c.add_to_sound-done.result.answer c.add_to_sound-done.result.table) n c.add_to_sound-done.ensures in
+    c.add_to_sound-answer.result c.add_to_sound-answer.new.table) n c.add_to_sound-answer.ensures in
     record {
       obeys = (λ line e. record { printed = _; prints = prints.add _ _ _ _ _ e ends; wrote = c.tell_add-next.ensures });
-      sound_2 = add-still _ _ _ _ c.requires.sound c.add_to_sound-done.ensures;
+      sound_2 = add-still _ _ _ _ c.requires.sound c.add_to_sound-answer.ensures;
     }

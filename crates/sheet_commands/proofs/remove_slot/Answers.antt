@@ -10,8 +10,8 @@ returns c =
     record {
       obeys = (λ line e. record {
         printed = _;
-        prints = prints.remove _ _ _ e c.remove_from_sound-done.ensures;
+        prints = prints.remove _ _ _ e c.remove_from_sound-answer.ensures;
         wrote = c.tell_change-next.ensures;
       });
-      sound = change-still _ _ _ _ _ c.requires.0 c.remove_from_sound-done.ensures;
+      sound = change-still _ _ _ _ _ c.requires.0 c.remove_from_sound-answer.ensures;
     }

@@ -29,8 +29,8 @@ returns c =
     let ends =
     subst (λ (k : ℕ). ReplaceEnds a.table a.slot
     (rule_from a.head (take p.positives p.entries) (take k (drop p.positives p.entries)))
-    c.replace_in_sound-done.result.answer c.replace_in_sound-done.result.table) n c.replace_in_sound-done.ensures in
+    c.replace_in_sound-answer.result c.replace_in_sound-answer.new.table) n c.replace_in_sound-answer.ensures in
     record {
       obeys = (λ line e. record { printed = _; prints = prints.replace _ _ _ _ _ _ e ends; wrote = c.tell_change-next.ensures });
-      sound_2 = change-still _ _ _ _ _ c.requires.sound c.replace_in_sound-done.ensures;
+      sound_2 = change-still _ _ _ _ _ c.requires.sound c.replace_in_sound-answer.ensures;
     }

@@ -31,10 +31,6 @@ loop-fed-preserved c =
       done.ensures.sound_2,
     )
 
-pub shape_of-out-else-has_room : goal.shape_of-out-else-has_room
-shape_of-out-else-has_room c =
-    c.loop-fed.invariant.0.feeds.same_length
-
 pub returns-else-has_room : goal.returns-else-has_room
 returns-else-has_room c =
     let l = c.loop-fed in
@@ -43,10 +39,6 @@ returns-else-has_room c =
       feeds_all = fed-full l.fed l.invariant.0 (lacks _ _ c.has_room.ensures c.if-has_room.false);
       sound = l.invariant.1;
     }
-
-pub shape_of-out-after-loop-fed : goal.shape_of-out-after-loop-fed
-shape_of-out-after-loop-fed c =
-    c.loop-fed.invariant.0.feeds.same_length
 
 pub returns-after-loop-fed : goal.returns-after-loop-fed
 returns-after-loop-fed c =

@@ -2,12 +2,10 @@
 -- written. Assumes nothing.
 use native.Mathlib.Omega.{arith}
 use mathlib.Core.Path.{◌≡◌}
-use lib.ListN.{get_or}
-use Rattle.table.specs.Labels.{label_listed, absent_label}
+use Rattle.table.specs.Labels.{label_listed}
 use Rattle.sheet_label_lines.specs.LabelLines.{label_lines}
 use Rattle.fields.proofs.Wrote.{wrote-all, wrote_none, wrote_nothing, wrote-length}
-use Rattle.sheet_label_lines.proofs.Lengths.{wrote-next-label, label-length}
-use Rattle.sheet_label_lines.proofs.Sizes.{labels-small}
+use Rattle.sheet_label_lines.proofs.Lengths.{wrote-next-label}
 use Rattle.sheet_label_lines.proofs.write_labels.Goals as goal
 
 pub returns-then-bytes_left-lt-LABELS_ROOM : goal.returns-then-bytes_left-lt-LABELS_ROOM
@@ -25,12 +23,11 @@ pub loop-atom-preserved : goal.loop-atom-preserved
 loop-atom-preserved c =
     let labels = c.args.labels in
     let atom = c.loop-atom.atom in
-    let small = labels-small labels _ c.well_formed.1.1.0 atom (omega arith) in
-    let short = label-length atom (get_or labels atom absent_label) (omega arith) small in
+    let short = c.write_label-next.ensures.short in
     let same = wrote-length c.loop-atom.invariant.2 in (
       omega arith,
       omega arith,
-      wrote-next-label (label_listed labels) atom c.loop-atom.invariant.2 c.write_label-next.ensures,
+      wrote-next-label (label_listed labels) atom c.loop-atom.invariant.2 c.write_label-next.ensures.wrote,
     )
 
 pub shape_of-out : goal.shape_of-out

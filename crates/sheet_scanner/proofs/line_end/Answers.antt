@@ -1,26 +1,33 @@
--- `sheet_scanner::line_end` meets its contract. The loop's invariant: the offset where it will end is the one that is
--- asked for. Assumes nothing.
+-- `sheet_scanner::line_end` meets its contract: the chain counts the bytes before the next newline. Assumes nothing.
+use Prim.Native.Nat.{ℕ, ◌+◌}
+use mathlib.Core.Path.{ap, ◌∙◌}
+use lib.ListN.{drop, length-drop}
+use lib.Seq.{take_all}
 use native.Mathlib.Omega.{arith}
-use mathlib.Core.Path.{refl, ap}
-use mathlib.Core.Bool.{not}
-use borrow.Author.Tests.{eq-eqb, ne_eqb}
-use Rattle.places.proofs.Leading.{seek-next, seek_stop, seek-end}
+use borrow.Author.Rules.{rules}
+use borrow.Author.Tests.{tests}
+use Rattle.std.proofs.Common.{Iter}
+use Rattle.std.specs.Slice.Iter.{iter_rest}
+use Rattle.std.proofs.lemmas.List.{drop_min}
+use Rattle.std.proofs.lemmas.Iterator.{YieldsList-from_slice}
+use Rattle.std.proofs.lemmas.Iterator.Consumers.{count_from_yields_List}
+use Rattle.std.proofs.lemmas.Iterator.Search.{YieldsList-from_take_while}
 use Rattle.sheet_scanner.specs.Scans.{of_line}
+use Rattle.places.specs.Places.{leading}
+use Rattle.places.proofs.Leading.{leading-taken}
 use Rattle.sheet_scanner.proofs.line_end.Goals as goal
-
-pub loop-i-init : goal.loop-i-init
-loop-i-init c = refl
-
-pub returns-then-input-i-eq10 : goal.returns-then-input-i-eq10
-returns-then-input-i-eq10 c =
-    let input = c.args.input.now in
-    seek_stop of_line input c.loop-i.i _ c.loop-i.invariant (omega arith) (ap not (eq-eqb _ _ c.if-input-i-eq10.true))
-
-pub loop-i-preserved : goal.loop-i-preserved
-loop-i-preserved c =
-    let input = c.args.input.now in
-    seek-next of_line input c.loop-i.i _ c.loop-i.invariant (omega arith) (ap not (ne_eqb _ _ c.if-input-i-eq10.false))
 
 pub returns : goal.returns
 returns c =
-    seek-end of_line c.args.input.now c.loop-i.i _ c.loop-i.invariant (omega arith)
+    let input = c.args.input.now in
+    let from = c.args.from in
+    let rest = drop c.min.result input in
+    let whole = ap (λ (s : Iter ℕ). iter_rest s) c.take_while.ensures.source
+    ∙ c.iter.ensures.rest ∙ take_all _ rest (omega (arith, length-drop c.min.result input)) in
+    ap (λ (n : ℕ). from + n) (
+    count_from_yields_List c.take_while.result _ c.count.ensures.ran
+    (YieldsList-from_take_while _ of_line (YieldsList-from_slice rest whole)
+    c.take_while.ensures.closure c.take_while.ensures.done (λ x b q k. search (rules, tests)))
+    ∙ leading-taken of_line rest
+    ∙ ap (leading of_line) (ap (λ (n : ℕ). drop n input) c.min.ensures ∙ drop_min from input)
+    )

@@ -1,5 +1,5 @@
 -- `strata::greatest` meets its contract: what is found and what is left give the whole. Assumes nothing.
-use Prim.Native.Nat.{◌-◌, ◌≤◌}
+use Prim.Native.Nat.{◌≤◌}
 use native.Mathlib.Omega.{arith}
 use mathlib.Core.Path.{◌≡◌}
 use lib.ListN.{length}
@@ -28,7 +28,7 @@ loop-j-preserved c =
     let l = c.loop-j-test.true in (
       rest_below c.args.rule.entries _ t.j c.args.to t.invariant.0 l k,
       walked_next _ _ c.args.rule.entries t.j c.args.to _ _ _ _ l k
-          c.number_at-n.ensures c.larger-most.ensures t.invariant.1,
+          c.number_at-n.ensures c.max-most.ensures t.invariant.1,
     )
 
 pub returns : goal.returns

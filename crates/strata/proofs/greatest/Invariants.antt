@@ -1,4 +1,4 @@
-use Prim.Native.Nat.{◌-◌, max}
+use Prim.Native.Nat.{max}
 use mathlib.Core.Path.{◌≡◌}
 use lib.Seq.{slice}
 use Rattle.theory.specs.Lists.{greatest}
@@ -13,6 +13,3 @@ invariant-loop-j l =
     AllBelow document.atoms (numbers (slice l.j l.to l.rule.entries))
     × max l.most (greatest (plus l.step (number l.kept)) (numbers (slice l.j l.to l.rule.entries)))
     ≡ greatest (plus l.step (number l.kept)) (numbers (slice l.from l.to l.rule.entries))
-
-abbrev pub decreases-loop-j : goal.decreases-loop-j
-decreases-loop-j l = l.to - l.j

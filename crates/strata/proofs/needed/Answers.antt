@@ -26,4 +26,4 @@ returns c =
     (c.well_formed.0.1.1.1.1.1.1.0.1.0.1)
     c.if-rule-eq0.false _ _
     c.positive_end-p.ensures c.negative_end-n.ensures
-    _ _ _ c.greatest-positive.ensures c.greatest-negative.ensures c.larger.ensures
+    _ _ _ c.greatest-positive.ensures c.greatest-negative.ensures c.max.ensures

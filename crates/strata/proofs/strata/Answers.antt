@@ -1,5 +1,5 @@
 -- `strata::strata` meets its contract: by what the rounds keep. Assumes nothing.
-use Prim.Native.Nat.{◌-◌, ◌<◌}
+use Prim.Native.Nat.{◌<◌}
 use native.Mathlib.Omega.{arith}
 use mathlib.Core.Path.{refl, ◌∙◌}
 use Rattle.theory.specs.Limits.{document}

@@ -1,4 +1,4 @@
-use Prim.Native.Nat.{◌+◌, ◌-◌, ◌≤◌}
+use Prim.Native.Nat.{◌+◌, ◌≤◌}
 use mathlib.Core.Path.{◌≡◌}
 use lib.ListN.{length}
 use Rattle.theory.specs.Limits.{document}
@@ -14,13 +14,7 @@ invariant-loop-i l =
     (l.i ≤ document.slots) × (length l.of ≡ document.atoms)
     × Slots (program_of (rules_of l.table)) (slot_at document.slots l.down) document.slots l.round l.i (number l.of) l.raised
 
-abbrev pub decreases-loop-i : goal.decreases-loop-i
-decreases-loop-i l = document.slots - l.i
-
 abbrev pub invariant-loop-round : goal.invariant-loop-round
 invariant-loop-round l =
     (l.round ≤ document.slots + 1) × (length l.of ≡ document.atoms)
     × Rounds (program_of (rules_of l.table)) document.slots l.round (number l.of)
-
-abbrev pub decreases-loop-round : goal.decreases-loop-round
-decreases-loop-round l = document.slots + 1 - l.round

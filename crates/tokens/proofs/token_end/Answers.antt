@@ -1,29 +1,33 @@
--- `tokens::token_end` meets its contract: it passes the bytes of a token.
--- The loop's invariant: the offset where it will end is the one that is asked for. Assumes nothing.
+-- `tokens::token_end` meets its contract: the chain counts the bytes of a token. Assumes nothing.
+use Prim.Native.Nat.{ℕ, ◌+◌}
+use mathlib.Core.Path.{ap, ◌∙◌}
+use lib.ListN.{drop, length-drop}
+use lib.Seq.{take_all}
 use native.Mathlib.Omega.{arith}
-use mathlib.Core.Path.{refl, ap}
-use mathlib.Core.Bool.{not}
-use borrow.Author.Tests.{eq-eqb, ne_eqb}
+use borrow.Author.Rules.{rules}
+use borrow.Author.Tests.{tests}
+use Rattle.std.proofs.Common.{Iter}
+use Rattle.std.specs.Slice.Iter.{iter_rest}
+use Rattle.std.proofs.lemmas.List.{drop_min}
+use Rattle.std.proofs.lemmas.Iterator.{YieldsList-from_slice}
+use Rattle.std.proofs.lemmas.Iterator.Consumers.{count_from_yields_List}
+use Rattle.std.proofs.lemmas.Iterator.Search.{YieldsList-from_take_while}
 use Rattle.tokens.specs.Tokens.{in_token}
-use Rattle.places.proofs.Leading.{seek-next, seek_stop, seek-end}
+use Rattle.places.specs.Places.{leading}
+use Rattle.places.proofs.Leading.{leading-taken}
 use Rattle.tokens.proofs.token_end.Goals as goal
-
-pub loop-i-init : goal.loop-i-init
-loop-i-init c = refl
-
-pub returns-then-line-i-eq32 : goal.returns-then-line-i-eq32
-returns-then-line-i-eq32 c =
-    let line = c.args.line.now in
-    let i = c.loop-i.i in
-    seek_stop in_token line i _ c.loop-i.invariant (omega arith) (ap not (eq-eqb _ _ c.if-line-i-eq32.true))
-
-pub loop-i-preserved : goal.loop-i-preserved
-loop-i-preserved c =
-    let line = c.args.line.now in
-    let i = c.loop-i.i in
-    seek-next in_token line i _ c.loop-i.invariant (omega arith) (ap not (ne_eqb _ _ c.if-line-i-eq32.false))
 
 pub returns : goal.returns
 returns c =
     let line = c.args.line.now in
-    seek-end in_token line c.loop-i.i _ c.loop-i.invariant (omega arith)
+    let start = c.args.start in
+    let rest = drop c.min.result line in
+    let whole = ap (λ (s : Iter ℕ). iter_rest s) c.take_while.ensures.source
+    ∙ c.iter.ensures.rest ∙ take_all _ rest (omega (arith, length-drop c.min.result line)) in
+    ap (λ (n : ℕ). start + n) (
+    count_from_yields_List c.take_while.result _ c.count.ensures.ran
+    (YieldsList-from_take_while _ in_token (YieldsList-from_slice rest whole)
+    c.take_while.ensures.closure c.take_while.ensures.done (λ x b q k. search (rules, tests)))
+    ∙ leading-taken in_token rest
+    ∙ ap (leading in_token) (ap (λ (n : ℕ). drop n line) c.min.ensures ∙ drop_min start line)
+    )

@@ -2,43 +2,26 @@
 -- the token does, and what was passed is below a power of ten, so that no sum wraps. Assumes nothing.
 use Prim.Native.Nat.{◌-◌}
 use native.Mathlib.Omega.{arith}
-use mathlib.Core.Path.{refl, ◌∙◌}
+use mathlib.Core.Path.{◌∙◌}
 use lib.ListN.{get_or}
-use Rattle.tokens.proofs.Numerals.{spelled-more, spelled-low, spelled-high, spelled-end, room-left, room_next}
+use Rattle.tokens.proofs.Numerals.{spelled-more, spelled-other, spelled-end, room_next}
 use borrow.Author.Rules.{rules}
 use Rattle.tokens.proofs.value.Goals as goal
 
-pub loop-i-init : goal.loop-i-init
-loop-i-init c = (search rules, omega arith, refl)
+pub returns-then-not-is_ascii_digit : goal.returns-then-not-is_ascii_digit
+returns-then-not-is_ascii_digit c =
+    spelled-other c.args.token.now c.loop-b.b-index c.loop-b.n (omega arith) (search rules) ∙ c.loop-b.invariant.2
 
-pub returns-then-b-lt48 : goal.returns-then-b-lt48
-returns-then-b-lt48 c =
+pub loop-b-preserved : goal.loop-b-preserved
+loop-b-preserved c =
     let token = c.args.token.now in
-    spelled-low token c.loop-i.i c.loop-i.n (omega arith) c.if-b-lt48.true ∙ c.loop-i.invariant.2
-
-pub returns-then-b-gt57 : goal.returns-then-b-gt57
-returns-then-b-gt57 c =
-    let token = c.args.token.now in
-    spelled-high token c.loop-i.i c.loop-i.n (omega arith) c.if-b-gt57.true ∙ c.loop-i.invariant.2
-
-pub overflow_mul-n : goal.overflow_mul-n
-overflow_mul-n c =
-    omega (arith, room-left c.loop-i.n c.loop-i.i c.loop-i.invariant.1 (omega arith))
-
-pub overflow_add-n : goal.overflow_add-n
-overflow_add-n c =
-    omega (arith, room-left c.loop-i.n c.loop-i.i c.loop-i.invariant.1 (omega arith))
-
-pub loop-i-preserved : goal.loop-i-preserved
-loop-i-preserved c =
-    let token = c.args.token.now in
-    let i = c.loop-i.i in
-    let n = c.loop-i.n in (
+    let i = c.loop-b.b-index in
+    let n = c.loop-b.n in (
       omega arith,
-      room_next n i (get_or token i 0 - 48) c.loop-i.invariant.1 (omega arith),
-      spelled-more token i n (omega arith) c.if-b-lt48.false c.if-b-gt57.false ∙ c.loop-i.invariant.2,
+      room_next n i (get_or token i 0 - 48) c.loop-b.invariant.1 (search rules),
+      spelled-more token i n (omega arith) (search rules) ∙ c.loop-b.invariant.2,
     )
 
 pub returns : goal.returns
 returns c =
-    spelled-end c.args.token.now c.loop-i.i c.loop-i.n (omega arith) ∙ c.loop-i.invariant.2
+    spelled-end c.args.token.now c.loop-b.b-index c.loop-b.n (omega arith) ∙ c.loop-b.invariant.2

@@ -1,11 +1,9 @@
 -- `well_formed::key` meets its contract: what was mixed in and what is left give the whole. Assumes nothing.
-use Prim.Native.Nat.{◌-◌}
 use native.Mathlib.Omega.{arith}
 use mathlib.Core.Path.{◌≡◌, refl, ◌∙◌, ap}
 use lib.ListN.{length}
 use lib.Seq.{slice}
 use Rattle.theory.specs.Limits.{document}
-use Rattle.theory.specs.Rules.{entries}
 use Rattle.table.specs.Rules.{numbers}
 use Rattle.table.proofs.Entries.{entries-are}
 use Rattle.well_formed.specs.Keys.{mixed}

@@ -1,4 +1,3 @@
-use Prim.Native.Nat.{◌-◌}
 use Rattle.theory.specs.Limits.{document}
 use Rattle.table.specs.Rules.{slot_of, program_of}
 use Rattle.table.specs.Words.{rules_of}
@@ -13,6 +12,3 @@ decreases-loop-link l = l.link
 
 abbrev pub invariant-loop-i : goal.invariant-loop-i
 invariant-loop-i l = Linked (program_of (rules_of l.table)) document.slots l.last l.before l.i
-
-abbrev pub decreases-loop-i : goal.decreases-loop-i
-decreases-loop-i l = document.slots - l.i

@@ -1,28 +1,32 @@
--- `places::moves::blanks_end` meets its contract: it passes the blanks that lead from an offset.
--- The loop's invariant: the offset where it will end is the one that is asked for. Assumes nothing.
+-- `places::moves::blanks_end` meets its contract: the chain counts the blanks that lead from an offset. Assumes nothing.
+use Prim.Native.Nat.{ℕ, ◌+◌}
+use mathlib.Core.Path.{ap, ◌∙◌}
+use lib.ListN.{drop, length-drop}
+use lib.Seq.{take_all}
 use native.Mathlib.Omega.{arith}
-use mathlib.Core.Path.{refl}
-use borrow.Author.Tests.{eq-eqb, ne_eqb}
-use Rattle.places.specs.Places.{is_space}
-use Rattle.places.proofs.Leading.{seek-next, seek_stop, seek-end}
+use borrow.Author.Rules.{rules}
+use borrow.Author.Tests.{tests}
+use Rattle.std.proofs.Common.{Iter}
+use Rattle.std.specs.Slice.Iter.{iter_rest}
+use Rattle.std.proofs.lemmas.List.{drop_min}
+use Rattle.std.proofs.lemmas.Iterator.{YieldsList-from_slice}
+use Rattle.std.proofs.lemmas.Iterator.Consumers.{count_from_yields_List}
+use Rattle.std.proofs.lemmas.Iterator.Search.{YieldsList-from_take_while}
+use Rattle.places.specs.Places.{is_space, leading}
+use Rattle.places.proofs.Leading.{leading-taken}
 use Rattle.places.proofs.moves.blanks_end.Goals as goal
-
-pub loop-i-init : goal.loop-i-init
-loop-i-init c = refl
-
-pub returns-then-line-i-ne32 : goal.returns-then-line-i-ne32
-returns-then-line-i-ne32 c =
-    let line = c.args.line.now in
-    let i = c.loop-i.i in
-    seek_stop is_space line i _ c.loop-i.invariant (omega arith) (ne_eqb _ _ c.if-line-i-ne32.true)
-
-pub loop-i-preserved : goal.loop-i-preserved
-loop-i-preserved c =
-    let line = c.args.line.now in
-    let i = c.loop-i.i in
-    seek-next is_space line i _ c.loop-i.invariant (omega arith) (eq-eqb _ _ c.if-line-i-ne32.false)
 
 pub returns : goal.returns
 returns c =
     let line = c.args.line.now in
-    seek-end is_space line c.loop-i.i _ c.loop-i.invariant (omega arith)
+    let start = c.args.start in
+    let rest = drop c.min.result line in
+    let whole = ap (λ (s : Iter ℕ). iter_rest s) c.take_while.ensures.source
+    ∙ c.iter.ensures.rest ∙ take_all _ rest (omega (arith, length-drop c.min.result line)) in
+    ap (λ (n : ℕ). start + n) (
+    count_from_yields_List c.take_while.result _ c.count.ensures.ran
+    (YieldsList-from_take_while _ is_space (YieldsList-from_slice rest whole)
+    c.take_while.ensures.closure c.take_while.ensures.done (λ x b q k. search (rules, tests)))
+    ∙ leading-taken is_space rest
+    ∙ ap (leading is_space) (ap (λ (n : ℕ). drop n line) c.min.ensures ∙ drop_min start line)
+    )

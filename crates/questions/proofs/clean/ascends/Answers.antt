@@ -42,9 +42,6 @@ entry-low :
     < document.atoms
 entry-low c = ltb-lt _ _ (sym c.head_fits.ensures ∙ c.if-not-head_fits.false)
 
-pub overflow_add-least : goal.overflow_add-least
-overflow_add-least c = (let b = entry-low c in omega arith)
-
 pub loop-j-preserved : goal.loop-j-preserved
 loop-j-preserved c =
     let a = c.args in

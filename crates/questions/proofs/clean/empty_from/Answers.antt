@@ -3,18 +3,13 @@ use native.Mathlib.Omega.{arith}
 use mathlib.Core.Path.{◌≡◌}
 use lib.ListN.{length}
 use Rattle.theory.specs.Limits.{document}
-use Rattle.questions.proofs.Cleanness.{none_after, nothing-added}
+use Rattle.questions.proofs.Cleanness.{nothing-added}
 use Rattle.questions.proofs.clean.empty_from.Goals as goal
 use Rattle.questions.proofs.clean.empty_from.Goals.{Start}
 
 -- what owning the rule tells of its entries
 long : (s : Start) → length s.args.rule.entries ≡ document.entries
 long s = s.well_formed.0.1.1.1.1.1.1.0.1.0.1
-
-pub returns-then-from-ge-ENTRIES : goal.returns-then-from-ge-ENTRIES
-returns-then-from-ge-ENTRIES c =
-    let n = long c.before in
-    none_after c.args.rule.entries c.args.from (omega arith)
 
 pub returns : goal.returns
 returns c =

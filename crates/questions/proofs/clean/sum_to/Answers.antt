@@ -1,23 +1,21 @@
 -- `questions::clean::sum_to` meets its contract. The sum fits, since each entry is a number of 16 bits. Assumes nothing.
+use Prim.Native.Nat.{◌<◌}
 use native.Mathlib.Omega.{arith}
-use mathlib.Core.Path.{◌≡◌, refl, ◌∙◌, ap}
+use mathlib.Core.Path.{refl, ap}
+use Rattle.std.proofs.lemmas.List.{get_or-take, length-take}
+use Rattle.table.specs.Rules.{no_atom}
 use Rattle.questions.specs.Sums.{sum_to}
 use Rattle.questions.proofs.Cleanness.{sum-next}
 use Rattle.questions.proofs.clean.sum_to.Goals as goal
 
-pub loop-j-init : goal.loop-j-init
+pub loop-a-init : goal.loop-a-init
 unfolding sum_to
-loop-j-init c = (omega arith, omega arith, refl)
+loop-a-init c = (omega arith, refl)
 
-pub overflow_add-sum : goal.overflow_add-sum
-overflow_add-sum c = omega (arith, c.struct_known-1.given)
-
-pub loop-j-preserved : goal.loop-j-preserved
-loop-j-preserved c =
-    let n = sum-next c.args.rule.entries c.loop-j.j in
-    (omega arith, omega (arith, c.struct_known-1.given), omega (arith, n))
-
-pub returns : goal.returns
-returns c =
-    let e : c.loop-j.j ≡ c.args.to = omega arith in
-    c.loop-j.invariant.2 ∙ ap (sum_to c.args.rule.entries) e
+pub loop-a-preserved : goal.loop-a-preserved
+loop-a-preserved c =
+    let xs = c.args.rule.entries in
+    let i = c.loop-a.a-index in
+    let l : i < c.args.to = omega (arith, length-take c.args.to xs) in
+    let e = ap (λ a. a.0) (get_or-take c.args.to xs i no_atom l) in
+    (omega arith, omega (arith, sum-next xs i, e, c.loop-a.invariant.1))

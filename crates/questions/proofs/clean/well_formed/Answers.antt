@@ -2,25 +2,17 @@
 -- The lists that are asked about are parts of the entries.
 use mathlib.Core.Path.{ap}
 use mathlib.Core.Bool.{not}
-use native.Mathlib.Omega.{arith}
 use mathlib.Core.Path.{◌≡◌}
 use lib.ListN.{length}
 use Rattle.theory.specs.Limits.{document}
 use Rattle.table.specs.Clean.{CleanRule}
-use Rattle.questions.proofs.WellFormed.{not-clean, well-free, head-past, positives-unfit, negatives-decide}
+use Rattle.questions.proofs.WellFormed.{head-past, positives-unfit, negatives-decide}
 use Rattle.questions.proofs.clean.well_formed.Goals as goal
 use Rattle.questions.proofs.clean.well_formed.Goals.{After-head_fits, Start}
 
 -- what owning the rule tells of its entries
 long : (s : Start) → length s.args.rule.entries ≡ document.entries
 long s = s.well_formed.0.1.1.1.1.1.1.0.1.0.1
-
-pub returns-then-not-clean_rule : goal.returns-then-not-clean_rule
-returns-then-not-clean_rule c = not-clean _ _ c.clean_rule.ensures (ap not c.if-not-clean_rule.true)
-
-pub returns-then-rule-eq0 : goal.returns-then-rule-eq0
-returns-then-rule-eq0 c =
-    well-free _ _ c.clean_rule.ensures (ap not c.if-not-clean_rule.false) c.if-rule-eq0.true
 
 -- where the head is asked about, the slot is clean and holds a rule
 clean :
@@ -33,16 +25,10 @@ pub returns-then-not-head_fits : goal.returns-then-not-head_fits
 returns-then-not-head_fits c =
     head-past c.args.rule (long c.before.before.before.before.before.before.before.before.before) (clean c.before) c.if-rule-eq0.false _ c.head_fits.ensures (ap not c.if-not-head_fits.true)
 
-pub ascends-requires : goal.ascends-requires
-ascends-requires c = omega (arith, (clean c.before).fits)
-
 pub returns-then-not-ascends : goal.returns-then-not-ascends
 returns-then-not-ascends c =
     positives-unfit c.args.rule (long c.before.before.before.before.before.before.before.before.before.before.before) (clean c.before.before.before) c.if-rule-eq0.false _ c.head_fits.ensures (ap not c.if-not-head_fits.false)
     _ c.ascends.ensures (ap not c.if-not-ascends.true)
-
-pub ascends-requires-2 : goal.ascends-requires-2
-ascends-requires-2 c = omega (arith, (clean c.before.before.before).fits)
 
 pub returns : goal.returns
 returns c =

@@ -41,25 +41,25 @@ returns-in_default c =
 pub bounds-entries-count : goal.bounds-entries-count
 bounds-entries-count c =
     let ts = tokens (drop c.loop-n.next.offset c.args.line.now) in
-    let number : numeral (first_of ts) ≡ some c.in-Is.n =
+    let number : numeral (first_of ts) ≡ some c.in-Some.n =
     sym (ap numeral c.next_token-t.ensures.first)
-    ∙ sym c.numeral.ensures ∙ ap as_option c.in-Is.is in
+    ∙ sym c.numeral.ensures ∙ ap as_option c.in-Some.is in
     omega (arith, (advance ts _ number).shorter, c.loop-n.invariant.2.room)
 
 pub loop-n-smaller : goal.loop-n-smaller
 loop-n-smaller c =
     let ts = tokens (drop c.loop-n.next.offset c.args.line.now) in
-    let number : numeral (first_of ts) ≡ some c.in-Is.n =
+    let number : numeral (first_of ts) ≡ some c.in-Some.n =
     sym (ap numeral c.next_token-t.ensures.first)
-    ∙ sym c.numeral.ensures ∙ ap as_option c.in-Is.is in
+    ∙ sym c.numeral.ensures ∙ ap as_option c.in-Some.is in
     omega (arith, (advance ts _ number).shorter, ap length c.next_token-t.ensures.rest)
 
 pub loop-n-preserved : goal.loop-n-preserved
 loop-n-preserved c =
     let ts = tokens (drop c.loop-n.next.offset c.args.line.now) in
-    let number : numeral (first_of ts) ≡ some c.in-Is.n =
+    let number : numeral (first_of ts) ≡ some c.in-Some.n =
     sym (ap numeral c.next_token-t.ensures.first)
-    ∙ sym c.numeral.ensures ∙ ap as_option c.in-Is.is in (
+    ∙ sym c.numeral.ensures ∙ ap as_option c.in-Some.is in (
       c.next_token-t.ensures.onward.not_past c.loop-n.invariant.0,
       onward_then c.loop-n.invariant.1 c.next_token-t.ensures.onward,
       collect-next _ _ _ _ _ ts c.loop-n.invariant.2 _ _ number c.next_token-t.ensures.rest,

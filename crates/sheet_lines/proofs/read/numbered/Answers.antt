@@ -44,9 +44,9 @@ returns-then-removes c =
     let last = sym c.ended.ensures ∙ c.if-not-ended.false in
     let number = c.numeral.ensures ∙ ap numeral c.next_token-t.ensures.first
     ∙ only-last _ (sym (ap empty c.next_token-t.ensures.rest) ∙ last) in
-    let as-asked = ap (λ (b : Bool). whether (made (cond b remove why) (some c.in-Is.n))) (sym c.if-removes.true) in
+    let as-asked = ap (λ (b : Bool). whether (made (cond b remove why) (some c.in-Some.n))) (sym c.if-removes.true) in
     record {
-      answers = made-read f number c.in-Is.is (as_read c.plain-then-removes.ensures.answers as-asked);
+      answers = made-read f number c.in-Some.is (as_read c.plain-then-removes.ensures.answers as-asked);
       onward = onward-to c.next_token-t.ensures.onward c.plain-then-removes.ensures.place_value;
     }
 
@@ -56,8 +56,8 @@ returns c =
     let last = sym c.ended.ensures ∙ c.if-not-ended.false in
     let number = c.numeral.ensures ∙ ap numeral c.next_token-t.ensures.first
     ∙ only-last _ (sym (ap empty c.next_token-t.ensures.rest) ∙ last) in
-    let as-asked = ap (λ (b : Bool). whether (made (cond b remove why) (some c.in-Is.n))) (sym c.if-removes.false) in
+    let as-asked = ap (λ (b : Bool). whether (made (cond b remove why) (some c.in-Some.n))) (sym c.if-removes.false) in
     record {
-      answers = made-read f number c.in-Is.is (as_read c.plain-2.ensures.answers as-asked);
+      answers = made-read f number c.in-Some.is (as_read c.plain-2.ensures.answers as-asked);
       onward = onward-to c.next_token-t.ensures.onward c.plain-2.ensures.place_value;
     }

@@ -37,10 +37,10 @@ rule-requires c =
 pub returns : goal.returns
 returns c =
     let slot_is = c.numeral.ensures ∙ ap numeral c.next_token-t.ensures.first in
-    let slot = c.in-Is.slot in
+    let slot = c.in-Some.slot in
     record {
       answers = as_read c.rule.ensures.answers
           (ap whether (ap (rule_form (replace slot)) c.next_token-t.ensures.rest
-          ∙ replacement-is _ slot (sym slot_is ∙ ap as_option c.in-Is.is)));
+          ∙ replacement-is _ slot (sym slot_is ∙ ap as_option c.in-Some.is)));
       onward = onward_then c.next_token-t.ensures.onward c.rule.ensures.onward;
     }

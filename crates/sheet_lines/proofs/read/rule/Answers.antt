@@ -63,8 +63,8 @@ returns c =
     let sign = c.is.ensures ∙ ap (one 58) second in
     record {
       answers = as_read c.lists.ensures.answers
-          (ap whether (rule-is c.args.purpose ts c.in-Is.head _
-          (sym head ∙ ap as_option c.in-Is.is) (sym sign ∙ c.if-not-is.false) behind));
+          (ap whether (rule-is c.args.purpose ts c.in-Some.head _
+          (sym head ∙ ap as_option c.in-Some.is) (sym sign ∙ c.if-not-is.false) behind));
       onward = onward_then (onward_then c.next_token-h.ensures.onward c.next_token-c.ensures.onward)
           c.lists.ensures.onward;
     }

@@ -1,2 +1,0 @@
--- Private: what the functions behind loading tell each other.
-pub mod Rules

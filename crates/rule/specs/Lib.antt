@@ -1,0 +1,2 @@
+-- One entry of a rule.
+pub mod First
