@@ -2,7 +2,7 @@
 // no Result and no enum, since C reads them by the fields of include/yeqontur.h.
 #![tactic(auto)]
 
-ghost use Rattle.std.specs.Prelude.{◌≡◌, cond, Ok};
+ghost use Rattle.std.specs.Prelude.{◌≡◌, Ok};
 ghost use Rattle.c_answers.specs.Numbers.{crossed_add, crossed_remove, crossed_label, crossed_spoiler, crossed_list};
 ghost use Rattle.refusals.specs.Refusals.{needed_by};
 ghost use Rattle.c_answers.specs.Numbers.{crossed_change, crossed_complete, wide_rule, crossed_rule};
@@ -93,20 +93,23 @@ fn needed(f: Refusal) -> usize
     }
 }
 
-pub fn crossed_list(answer: Result<usize, Refusal>) -> Written
-    ensures { result ≡ crossed_list answer }
-{
-    match answer {
-        Ok(count) => Written { refused: 0, count },
-        Err(f) => Written {
-            refused: refusal_number(f),
-            count: needed(f),
-        },
+// Each kind of answer as it crosses.
+
+impl From<Result<usize, Refusal>> for Written {
+    ghost from_gives = { λ answer result. result ≡ crossed_list answer };
+
+    fn from(answer: Result<usize, Refusal>) -> Written {
+        match answer {
+            Ok(count) => Written { refused: 0, count },
+            Err(f) => Written {
+                refused: refusal_number(f),
+                count: needed(f),
+            },
+        }
     }
 }
 
-// Each kind of answer as it crosses.
-
+// These three stay functions: the table after the call crosses too, and a removal's slot, while `From` takes one value.
 pub fn crossed_add(answer: Result<Slot, Refusal>, after: Table) -> Change
     ensures { result ≡ crossed_add answer after }
 {
@@ -141,74 +144,60 @@ pub fn crossed_remove(slot: u32, answer: Result<(), Refusal>, after: Table) -> C
     }
 }
 
-// A label as it crosses.
-fn wide_label(label: Label) -> AtomLabel
-    ensures { result ≡ crossed_label (Ok label) }
-{
-    match label {
-        Label::Absent => AtomLabel {
-            refused: 0,
-            state: 0,
-            depth: 0,
-            slot: 0,
-        },
-        Label::Out => AtomLabel {
-            refused: 0,
-            state: 1,
-            depth: 0,
-            slot: 0,
-        },
-        Label::In(depth, slot) => AtomLabel {
-            refused: 0,
-            state: 2,
-            depth: depth as u32,
-            slot: slot.0 as u32,
-        },
+impl From<Label> for AtomLabel {
+    ghost from_gives = { λ label result. result ≡ crossed_label (Ok label) };
+
+    fn from(label: Label) -> AtomLabel {
+        match label {
+            Label::Absent => AtomLabel {
+                refused: 0,
+                state: 0,
+                depth: 0,
+                slot: 0,
+            },
+            Label::Out => AtomLabel {
+                refused: 0,
+                state: 1,
+                depth: 0,
+                slot: 0,
+            },
+            Label::In(depth, slot) => AtomLabel {
+                refused: 0,
+                state: 2,
+                depth: depth as u32,
+                slot: slot.0 as u32,
+            },
+        }
     }
 }
 
-pub fn crossed_label(answer: Result<Label, Refusal>) -> AtomLabel
-    ensures { result ≡ crossed_label answer }
-{
-    match answer {
-        Ok(label) => wide_label(label),
-        Err(f) => AtomLabel {
-            refused: refusal_number(f),
-            state: 0,
-            depth: 0,
-            slot: 0,
-        },
-    }
-}
+impl From<Result<Label, Refusal>> for AtomLabel {
+    ghost from_gives = { λ answer result. result ≡ crossed_label answer };
 
-// 1 for yes, 0 for no.
-fn bit(b: bool) -> u32
-    ensures { result ≡ cond b 1 0 }
-{
-    if b { 1 } else { 0 }
+    fn from(answer: Result<Label, Refusal>) -> AtomLabel {
+        match answer {
+            Ok(label) => label.into(),
+            Err(f) => AtomLabel {
+                refused: refusal_number(f),
+                state: 0,
+                depth: 0,
+                slot: 0,
+            },
+        }
+    }
 }
 
 // The numbers of a rule, and that of a refusal.
 fn wide_rule(refused: u32, rule: RuleNumbers) -> SlotRule
     ensures { result ≡ wide_rule refused rule }
 {
-    let e0 = rule.entries[0];
-    let e1 = rule.entries[1];
-    let e2 = rule.entries[2];
-    let e3 = rule.entries[3];
-    let e4 = rule.entries[4];
-    let e5 = rule.entries[5];
-    let e6 = rule.entries[6];
-    let e7 = rule.entries[7];
     SlotRule {
-        refused: refused,
+        refused,
         head: rule.head as u32,
-        muted: bit(rule.muted),
+        muted: u32::from(rule.muted),
         positives: rule.positives as u32,
         negatives: rule.negatives as u32,
-        entries: [
-            e0 as u32, e1 as u32, e2 as u32, e3 as u32, e4 as u32, e5 as u32, e6 as u32, e7 as u32,
-        ],
+        entries: rule.entries.map(u32::from),
     }
 }
 
@@ -225,58 +214,63 @@ fn no_numbers() -> RuleNumbers
     }
 }
 
-pub fn crossed_rule(answer: Result<RuleNumbers, Refusal>) -> SlotRule
-    ensures { result ≡ crossed_rule answer }
-{
-    match answer {
-        Ok(rule) => wide_rule(0, rule),
-        Err(f) => wide_rule(refusal_number(f), no_numbers()),
+impl From<Result<RuleNumbers, Refusal>> for SlotRule {
+    ghost from_gives = { λ answer result. result ≡ crossed_rule answer };
+
+    fn from(answer: Result<RuleNumbers, Refusal>) -> SlotRule {
+        match answer {
+            Ok(rule) => wide_rule(0, rule),
+            Err(f) => wide_rule(refusal_number(f), no_numbers()),
+        }
     }
 }
 
-// What a rule is, as it crosses.
-fn wide_status(status: RuleStatus) -> RuleSpoiler
-    ensures { result ≡ crossed_spoiler (Ok status) }
-{
-    match status {
-        RuleStatus::Valid => RuleSpoiler {
-            refused: 0,
-            spoiled: 0,
-            place: 0,
-            atom: 0,
-        },
-        RuleStatus::Muted => RuleSpoiler {
-            refused: 0,
-            spoiled: 3,
-            place: 0,
-            atom: 0,
-        },
-        RuleStatus::Positive(i, a) => RuleSpoiler {
-            refused: 0,
-            spoiled: 1,
-            place: i as u32,
-            atom: a.0 as u32,
-        },
-        RuleStatus::Negative(i, a) => RuleSpoiler {
-            refused: 0,
-            spoiled: 2,
-            place: i as u32,
-            atom: a.0 as u32,
-        },
+impl From<RuleStatus> for RuleSpoiler {
+    ghost from_gives = { λ status result. result ≡ crossed_spoiler (Ok status) };
+
+    fn from(status: RuleStatus) -> RuleSpoiler {
+        match status {
+            RuleStatus::Valid => RuleSpoiler {
+                refused: 0,
+                spoiled: 0,
+                place: 0,
+                atom: 0,
+            },
+            RuleStatus::Muted => RuleSpoiler {
+                refused: 0,
+                spoiled: 3,
+                place: 0,
+                atom: 0,
+            },
+            RuleStatus::Positive(i, a) => RuleSpoiler {
+                refused: 0,
+                spoiled: 1,
+                place: i as u32,
+                atom: a.0 as u32,
+            },
+            RuleStatus::Negative(i, a) => RuleSpoiler {
+                refused: 0,
+                spoiled: 2,
+                place: i as u32,
+                atom: a.0 as u32,
+            },
+        }
     }
 }
 
-pub fn crossed_spoiler(answer: Result<RuleStatus, Refusal>) -> RuleSpoiler
-    ensures { result ≡ crossed_spoiler answer }
-{
-    match answer {
-        Ok(status) => wide_status(status),
-        Err(f) => RuleSpoiler {
-            refused: refusal_number(f),
-            spoiled: 0,
-            place: 0,
-            atom: 0,
-        },
+impl From<Result<RuleStatus, Refusal>> for RuleSpoiler {
+    ghost from_gives = { λ answer result. result ≡ crossed_spoiler answer };
+
+    fn from(answer: Result<RuleStatus, Refusal>) -> RuleSpoiler {
+        match answer {
+            Ok(status) => status.into(),
+            Err(f) => RuleSpoiler {
+                refused: refusal_number(f),
+                spoiled: 0,
+                place: 0,
+                atom: 0,
+            },
+        }
     }
 }
 
@@ -295,17 +289,19 @@ pub fn crossed_change(answer: Result<(), Refusal>, after: Table) -> Accepted
     }
 }
 
-pub fn crossed_complete(answer: Result<bool, Refusal>) -> Completeness
-    ensures { result ≡ crossed_complete answer }
-{
-    match answer {
-        Ok(complete) => Completeness {
-            refused: 0,
-            complete: bit(complete),
-        },
-        Err(f) => Completeness {
-            refused: refusal_number(f),
-            complete: 0,
-        },
+impl From<Result<bool, Refusal>> for Completeness {
+    ghost from_gives = { λ answer result. result ≡ crossed_complete answer };
+
+    fn from(answer: Result<bool, Refusal>) -> Completeness {
+        match answer {
+            Ok(complete) => Completeness {
+                refused: 0,
+                complete: u32::from(complete),
+            },
+            Err(f) => Completeness {
+                refused: refusal_number(f),
+                complete: 0,
+            },
+        }
     }
 }

@@ -15,9 +15,9 @@ use queries::label;
 use refusals::{Refusal, refusal_number};
 use table::{Atom, Label, Table};
 
-// Asks whether the rules are a checklist's (15; specification 8.4), and 20: the atom of the file's mark, or the refusal.
-// Where 20 is the refusal, the table is asked first whether it is sound (15); where the file passes, the call that
-// follows asks it.
+// Asks 20, and before it whether the rules are a checklist's (15; specification 8.4): the atom of the file's mark, or
+// the refusal. Where 20 is the refusal, the table is asked first whether it is sound (15); where the file passes, the
+// call that follows asks it.
 fn ask_file(table: &[u16; Table::WORDS], file: u32, mark: Mark) -> Result<Atom, Refusal>
     ensures { FileAsked (table_of table.now) file mark result }
 {
@@ -40,7 +40,7 @@ fn add_mark(table: &mut Table, atom: Atom) -> Result<(), Refusal>
     match added {
         Ok(slot) => Ok(()),
         Err(why) => {
-            // (c) an arm for SameRule leaves no fact that the arm behind it is another refusal
+            // by its number: with an arm for SameRule the proof has no fact that the arm behind it is another refusal
             if refusal_number(why) == 5 {
                 return Err(Refusal::MarkUnchanged);
             }

@@ -1,7 +1,7 @@
 // A list of calls, written as numbers, made one after another from the empty table.
 #![tactic(auto)]
 
-ghost use Rattle.std.specs.Prelude.{◌≡◌, true};
+ghost use Rattle.std.specs.Prelude.{◌≡◌};
 ghost use Rattle.calls.specs.Answers.{book_add, book_change};
 ghost use Rattle.history_words.specs.Reading.{checklist_call};
 ghost use Rattle.history_replay.specs.Replays.{encode, Replays};

@@ -1,7 +1,7 @@
 -- The call at a place of the list, by what stands there. Assumes nothing.
 use Prim.Native.Nat.{ℕ, zero, suc, ◌+◌, ◌-◌, ◌≤◌, ◌<◌}
 use native.Mathlib.Omega.{arith}
-use mathlib.Core.Path.{◌≡◌, refl, sym, ◌∙◌, ap, ap₂, subst}
+use mathlib.Core.Path.{◌≡◌, refl, sym, ◌∙◌, ap, ap₂}
 use mathlib.Core.Bool.{Bool, true, false, not, ◌&&◌}
 use mathlib.Core.List.{List, [], ◌∷◌}
 use mathlib.Core.Option as math
@@ -201,10 +201,6 @@ module _ (ws files : List ℕ) (at place : ℕ) (of : Rule → book.Call)
   reads-rule w F z q o =
       let f = found-whole ws place of w F in
       record { read = q ∙ f.0 ∙ sym stands; order = o f.1 }
-
--- What was read has its parts in order.
-pub order-of : (n k : ℕ) (x y : Option Next) → x ≡ y → InOrder n k x → InOrder n k y
-order-of n k x y e o = subst (InOrder n k) e o
 
 -- The calls from a place on: none where no call stands there, else that call and those behind it.
 

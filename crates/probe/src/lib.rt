@@ -38,10 +38,7 @@ pub struct RoundsCounted {
 pub extern "C" fn probe_sound(table: Table) -> u32
     ensures { SoundProbe table result }
 {
-    if sound(&table.words) {
-        return 1;
-    }
-    0
+    u32::from(sound(&table.words))
 }
 
 // Are the table's rules sound by themselves?
@@ -60,21 +57,15 @@ pub extern "C" fn probe_labels(table: Table) -> Relabelled
     ensures { LabelsProbe table result }
 {
     if !fit(&table.words) {
-        return Relabelled {
-            refused: 15,
-            table: table,
-        };
+        return Relabelled { refused: 15, table };
     }
     let mut words = table.words;
     if !relabel(&mut words) {
-        return Relabelled {
-            refused: 7,
-            table: table,
-        };
+        return Relabelled { refused: 7, table };
     }
     Relabelled {
         refused: 0,
-        table: Table { words: words },
+        table: Table { words },
     }
 }
 
@@ -83,7 +74,7 @@ fn no_rounds(refused: u32) -> RoundsCounted
     ensures { result ≡ record { refused = refused; rounds = no_rounds } }
 {
     RoundsCounted {
-        refused: refused,
+        refused,
         rounds: [0; Search::STRATA],
     }
 }

@@ -1,14 +1,14 @@
 -- Laws of `Feeds` and `RepliesAt`: nothing fed, one part behind another, a scan, a command, a reply. Assumes nothing.
-use Rattle.std.specs.Prelude.{Option, Some, None, Ok, Err}
+use Rattle.std.specs.Prelude.{Option, Some, Ok, Err}
 use Prim.Native.Nat.{ℕ, zero, suc, ◌+◌, ◌-◌, ◌≤◌, ◌<◌}
 use native.Mathlib.Omega.{arith}
 use mathlib.Core.Path.{◌≡◌, refl, sym, ◌∙◌, ap, subst}
-use mathlib.Core.Bool.{Bool, true, false, cond}
+use mathlib.Core.Bool.{Bool, true, cond}
 use mathlib.Core.List.{List, [], ◌∷◌, ◌++◌, append-nil}
 use lib.Dec.{leb}
 use lib.ListN.{length, take, drop, get_or, length-drop}
 use lib.Seq.{take-suc, get_or-drop}
-use borrow.Author.Tests.{leb-true, leb-false, le-leb, lt-leb}
+use borrow.Author.Tests.{leb-true, le-leb}
 use mir.Val.{Val}
 use denote.Struct.Declared.{row}
 use denote.Laws.{Is}
@@ -30,16 +30,17 @@ use Rattle.sheet_begun.specs.Begun.{ENOUGH, BegunOf, ReadsAs}
 use Rattle.sheet_begun.proofs.Lengthening.{begun-next}
 use Rattle.sheet_scanner.specs.declared.Judged.{Judged}
 use Rattle.sheet_scanner.specs.declared.Judged.TheVariants as judged
+use Rattle.sheet_scanner.specs.declared.FoundCommand.{FoundCommand}
 use Rattle.sheet_scanner.specs.declared.Scanned.{Scanned}
 use Rattle.sheet_scanner.specs.Judging.{Judges}
-use Rattle.sheet_scanner.specs.Scans.{IsCommand, AtCommand, WhereFound, IfNothing, Scans}
+use Rattle.sheet_scanner.specs.Scans.{IsCommand, AtCommand, WhereFound, Scans}
 use Rattle.sheet_scanner.proofs.Judging.{judged-told, judged-command}
 use Rattle.sheet_scanner.proofs.Scanning.{reads-parts, numbers_fit, on_line}
 use Rattle.sheet_commands.specs.declared.Obeyed.{Obeyed}
 use Rattle.sheet_commands.specs.Commands.{Obeys}
 use Rattle.sheet_feed.specs.declared.Sheet.{Sheet}
 use Rattle.sheet_feed.specs.declared.Fed.{Fed}
-use Rattle.sheet_feed.specs.Sheets.{answer_in, Feeds, FeedsAll, RepliesAt}
+use Rattle.sheet_feed.specs.Sheets.{answer_in, Feeds, RepliesAt}
 use Rattle.sheet_feed.specs.contracts.Sheet as sheet-type
 
 -- The answer of question 11, by its sides.
@@ -47,16 +48,9 @@ pub answer-room : {left : ℕ} → LABELS_ROOM ≤ left → Ok tt ≡ answer_in 
 answer-room {left} l =
     sym (ap (λ b. cond b (Ok tt) (Err (BufferTooShort LABELS_ROOM))) (le-leb LABELS_ROOM left l))
 
-pub answer-short : {left : ℕ} → left < LABELS_ROOM → Err (BufferTooShort LABELS_ROOM) ≡ answer_in left
-answer-short {left} l =
-    sym (ap (λ b. cond b (Ok tt) (Err (BufferTooShort LABELS_ROOM))) (lt-leb LABELS_ROOM left l))
-
 -- The test for room, by its sides.
 pub has : (at length : ℕ) {b : Bool} → b ≡ leb LABELS_ROOM (length - at) → b ≡ true → at + LABELS_ROOM ≤ length
 has at length e f = omega (arith, leb-true LABELS_ROOM (length - at) (sym e ∙ f))
-
-pub lacks : (at length : ℕ) {b : Bool} → b ≡ leb LABELS_ROOM (length - at) → b ≡ false → length < at + LABELS_ROOM
-lacks at length e f = omega (arith, leb-false LABELS_ROOM (length - at) (sym e ∙ f))
 
 -- The bytes of a sheet's line at hand.
 pub sheet-sized : (c : Sheet) (vs : List Val) → Is (row sheet-type.the_type) c vs → length c.begun.bytes ≡ ENOUGH
@@ -103,41 +97,13 @@ feeds-then {input = input} {from} {f = f} {r} first second =
           };
     }
 
--- A scan without the table feeds a sheet with any.
-pub feeds-scanned :
-    {c : Sheet} {input : List ℕ} {from : ℕ} {before : List ℕ} {at : ℕ} {after : List ℕ} (r : Scanned) (a : ChangeAnswer)
-    → Scans c.begun input from before at after r
-    → Feeds c input from before at
-    (record {
-      sheet = record { table = c.table; begun = r.begun };
-      read = r.read;
-      printed = r.printed;
-      answer = a;
-    }) after
-feeds-scanned r a h =
-    record {
-      begun = h.begun;
-      read = h.read;
-      printed = h.printed;
-      same_length = h.same_length;
-      feeds = λ s f small.
-          let w = h.scans s f.line small in
-          record {
-            state = w.state;
-            printed = w.printed;
-            stands = record { table = f.table ∙ sym w.table; line = w.line };
-            reads = w.reads;
-            wrote = w.wrote;
-          };
-    }
+pub at-command : (input before : List ℕ) (r : Scanned) {f : FoundCommand} (x : Option FoundCommand) → x ≡ Some f
+    → WhereFound x input before r → AtCommand f input before r
+at-command input before r x e w = subst (λ (y : Option FoundCommand). WhereFound y input before r) e w
 
-pub at-command : (input before : List ℕ) (r : Scanned) {c : Command} (x : Option Command) → x ≡ Some c
-    → WhereFound x input before r → AtCommand c input before r
-at-command input before r x e w = subst (λ (y : Option Command). WhereFound y input before r) e w
-
-is-command : (p : Parsed) (line : List ℕ) {c : Command} (x : Option Command) → x ≡ Some c → IsCommand x p line
-    → reading line ≡ is (command_of c (positives_in p) (negatives_in p))
-is-command p line x e w = subst (λ (y : Option Command). IsCommand y p line) e w
+is-command : (line : List ℕ) {f : FoundCommand} (x : Option FoundCommand) → x ≡ Some f → IsCommand x line
+    → reading line ≡ is (command_of f.command (positives_in f.parsed) (negatives_in f.parsed))
+is-command line x e w = subst (λ (y : Option FoundCommand). IsCommand y line) e w
 
 kept_table : {t z : Table} {n : ℕ} {line bs : List ℕ} → t ≡ z → Prints z n line bs z → Prints z n line bs t
 kept_table {z = z} {n} {line} {bs} e p = subst (λ (x : Table). Prints z n line bs x) (sym e) p
@@ -153,18 +119,14 @@ one-newline input from l e =
     let here = get_or-drop from input 0 0 ∙ ap (λ (i : ℕ). get_or input i 0) (omega arith) ∙ e in
     rw (one, take-suc (drop from input) zero 0 (omega (arith, length-drop from input)), here)
 
-pub nothing-found : {P : Type 0} (x : Option Command) → ((c : Command) → x ≡ Some c → ⊥) → IfNothing x P → P
-nothing-found None n p = p
-nothing-found (Some c) n p = absurd (n c refl)
-
 -- A scan up to a command, and the command obeyed.
 pub feeds-obeyed :
     {c : Sheet} {input : List ℕ} {from : ℕ} {before : List ℕ} {at : ℕ} {middle after : List ℕ} (r : Scanned)
-    {command : Command} {o : Obeyed} {next : Begun} (a : ChangeAnswer) → Scans c.begun input from before at middle r
-    → r.found ≡ Some command
-    → Obeys c.table r.parsed.place.line
-    (command_of command (positives_in r.parsed) (negatives_in r.parsed)) middle r.printed after o
-    → next ≡ record { number = line_after r.parsed.place.line; bytes = r.begun.bytes; length = 0 }
+    {found : FoundCommand} {o : Obeyed} {next : Begun} (a : ChangeAnswer) → Scans c.begun input from before at middle r
+    → r.found ≡ Some found
+    → Obeys c.table found.parsed.place.line
+    (command_of found.command (positives_in found.parsed) (negatives_in found.parsed)) middle r.printed after o
+    → next ≡ record { number = line_after found.parsed.place.line; bytes = r.begun.bytes; length = 0 }
     → Feeds c input from before at
     (record {
       sheet = record { table = o.table; begun = next };
@@ -186,7 +148,7 @@ feeds-obeyed {c} {input} {from} {before} r {o = o} a h e obeys counted =
           let fits =
           numbers_fit input from r.read (r.read + 1) h.begun (omega arith) w.reads small in
           let number = found_Here.number ∙ w.line.number in
-          let d = obeys v.line (is-command r.parsed v.line r.found e w.command) in
+          let d = obeys v.line (is-command v.line r.found e w.command) in
           let prints = met (f.table ∙ sym w.table) (on_line number d.prints) in
           let last : Reads v (take (r.read + 1 - r.read) (drop r.read input)) d.printed (ended v o.table) =
           rw (one-newline input r.read found_Here.inside found_Here.newline)
@@ -250,20 +212,6 @@ module _ (c : Sheet) {before : List ℕ} {at : ℕ} {p : Parsed} {some : List �
         short = λ l. absurd (l room);
       }
 
--- Without room nothing is done.
-pub replies-short :
-    {c : Sheet} {before : List ℕ} {at : ℕ} → (at + LABELS_ROOM ≤ length before → ⊥)
-    → RepliesAt c before at before
-    (record { table = c.table; next = at; answer = Err (BufferTooShort LABELS_ROOM) })
-replies-short {before = before} {at} none =
-    record {
-      inside = λ l. l;
-      same_length = refl;
-      answer = answer-short {left = length before - at} (omega (arith, none));
-      replies = λ l. absurd (none l);
-      short = λ l. (refl, refl, refl);
-    }
-
 -- A piece fed so far: where nothing was read nothing is printed, and without room for a reply nothing is read.
 pub record FedSoFar (c : Sheet) (input before : List ℕ) (r : Fed) (after : List ℕ) : Type 0 where
   pub feeds : Feeds c input 0 before 0 r after
@@ -293,35 +241,4 @@ fed-next {before = before} f so_far more some accepted room =
       answer = accepted ∙ answer-room {left = length before} fits;
       start = λ e. absurd (omega (arith, e, some));
       none = λ l. absurd (omega (arith, l, fits));
-    }
-
--- With room for a reply nothing is printed only before the first line.
-start-read :
-    {size printed : ℕ} (read : ℕ) → (read ≡ 0 → printed ≡ 0) → size < printed + LABELS_ROOM → LABELS_ROOM ≤ size
-    → 0 < read
-start-read zero none short room = absurd (omega (arith, none refl))
-start-read (suc k) none short room = omega arith
-
--- The loop ended without room for another reply, or at the end of the piece.
-pub fed-full :
-    {c : Sheet} {input before after : List ℕ} (r : Fed) → FedSoFar c input before r after
-    → length after < r.printed + LABELS_ROOM → FeedsAll input before r
-fed-full {before = before} r so_far short =
-    let full : length before < r.printed + LABELS_ROOM = omega (arith, short, so_far.feeds.same_length) in
-    record {
-      answer = so_far.answer;
-      ended = λ l. full;
-      some = λ l m. start-read r.read so_far.start full m;
-      none = so_far.none;
-    }
-
-pub fed-whole :
-    {c : Sheet} {input before after : List ℕ} (r : Fed) → FedSoFar c input before r after
-    → (r.read < length input → ⊥) → FeedsAll input before r
-fed-whole r so_far over =
-    record {
-      answer = so_far.answer;
-      ended = λ l. absurd (over l);
-      some = λ l m. omega (arith, l, over);
-      none = so_far.none;
     }

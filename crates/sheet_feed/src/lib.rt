@@ -68,21 +68,17 @@ fn reply_line(sheet: Sheet, out: &mut [u8], at: usize) -> Reply
     ensures replies_at { RepliesAt sheet out.old at out.new result }
     ensures sound_2 { Sound result.table }
 {
-    let table = sheet.table;
-    let begun = sheet.begun;
-    let parsed = read_begun(begun);
-    let judged = judge(parsed, out, at);
-    match judged {
+    let parsed = read_begun(sheet.begun);
+    match judge(parsed, out, at) {
         Judged::Told(next) => Reply {
-            table,
+            table: sheet.table,
             next,
             answer: Ok(()),
         },
         Judged::Command(command) => {
-            let obeyed = obey(table, command, parsed, out, at);
-            let last = obeyed.table;
+            let obeyed = obey(sheet.table, command, parsed, out, at);
             Reply {
-                table: last,
+                table: obeyed.table,
                 next: obeyed.next,
                 answer: Ok(()),
             }
@@ -97,9 +93,8 @@ pub fn reply_at(sheet: Sheet, out: &mut [u8], at: usize) -> Reply
     ensures sound { Sound result.table }
 {
     if !has_room(out.len(), at) {
-        let table = sheet.table;
         return Reply {
-            table,
+            table: sheet.table,
             next: at,
             answer: Err(Refusal::BufferTooShort(LABELS_ROOM)),
         };
@@ -116,30 +111,26 @@ fn feed_command(sheet: Sheet, input: &[u8], from: usize, out: &mut [u8], at: usi
     ensures from_lt_read { (from < length input.now → from < result.read) × (result.answer ≡ Ok tt) }
     ensures sound_2 { Sound result.sheet.table }
 {
-    let table = sheet.table;
-    let begun = sheet.begun;
-    let done = scan(begun, input, from, out, at);
-    let line = done.begun;
-    let found = done.found;
-    let Some(command) = found else {
+    let done = scan(sheet.begun, input, from, out, at);
+    let Some(found) = done.found else {
         return Fed {
-            sheet: Sheet { table, begun: line },
+            sheet: Sheet {
+                table: sheet.table,
+                begun: done.begun,
+            },
             read: done.read,
             printed: done.printed,
             answer: Ok(()),
         };
     };
-    let parsed = done.parsed;
-    let place = parsed.place;
-    let obeyed = obey(table, command, parsed, out, done.printed);
+    let obeyed = obey(sheet.table, found.command, found.parsed, out, done.printed);
     let after = obeyed.table;
-    let past = done.read + 1;
     Fed {
         sheet: Sheet {
             table: after,
-            begun: next_line(line, place),
+            begun: next_line(done.begun, found.parsed.place),
         },
-        read: past,
+        read: done.read + 1,
         printed: obeyed.next,
         answer: Ok(()),
     }
@@ -160,8 +151,7 @@ pub fn feed(sheet: Sheet, input: &[u8], out: &mut [u8]) -> Fed
         answer: ask_room(out.len()),
     };
     while fed.read < input.len() && has_room(out.len(), fed.printed) {
-        let s = fed.sheet;
-        fed = feed_command(s, input, fed.read, out, fed.printed);
+        fed = feed_command(fed.sheet, input, fed.read, out, fed.printed);
     }
     fed
 }

@@ -16,16 +16,12 @@ use Rattle.sheet_lines.specs.Commands as spec
 use Rattle.sheet_lines.specs.Commands.{after, made, command}
 use Rattle.sheet_lines.specs.Readings.{LINE, TOKENS, spaces, blank}
 use Rattle.sheet_lines.specs.Readings.{Line, is_blank, too_long, no_command, is, whether}
-use Rattle.sheet_lines.specs.Readings.{line_of, reading, positives_of, negatives_of, Answers}
+use Rattle.sheet_lines.specs.Readings.{reading, positives_of, negatives_of, Answers}
 use Rattle.tokens.specs.Parts.{first_of, rest_of, empty, as_option}
-use Rattle.sheet_lines.specs.Parts.{leading_numbers, past_numbers, command_for, IsCommandFor, rule_command}
+use Rattle.sheet_lines.specs.Parts.{leading_numbers, past_numbers, IsCommandFor, OfRule, rule_command}
 use Rattle.places.specs.Places.{is_space}
 use Rattle.places.specs.declared.Place.{Place}
-use Rattle.sheet_lines.specs.declared.read.Purpose.{Purpose}
-use Rattle.sheet_lines.specs.declared.read.Purpose.TheVariants.{Adds, Replaces}
 use Rattle.sheet_lines.specs.declared.Command.{Command}
-use Rattle.sheet_lines.specs.declared.Command.TheVariants.{Add, Remove, Replace, Why, Labels}
-use Rattle.sheet_lines.specs.declared.Reading.{Reading}
 use Rattle.sheet_lines.specs.declared.Reading.TheVariants as of
 use Rattle.sheet_lines.specs.declared.Parsed.{Parsed}
 use Rattle.tokens.proofs.Tokens.{empty-onto}
@@ -42,27 +38,6 @@ as_read a e =
       filler = a.filler;
     }
 
--- A reading with no lists has none, whatever it is.
-pub none-positive : (x : Reading) → 0 ≡ length (positives_of (line_of x [] []))
-none-positive of.Blank = refl
-none-positive of.LineTooLong = refl
-none-positive of.NotACommand = refl
-none-positive (of.Command (Add head)) = refl
-none-positive (of.Command (Remove slot)) = refl
-none-positive (of.Command (Replace slot head)) = refl
-none-positive (of.Command (Why atom)) = refl
-none-positive (of.Command Labels) = refl
-
-pub none-negative : (x : Reading) → 0 ≡ length (negatives_of (line_of x [] []))
-none-negative of.Blank = refl
-none-negative of.LineTooLong = refl
-none-negative of.NotACommand = refl
-none-negative (of.Command (Add head)) = refl
-none-negative (of.Command (Remove slot)) = refl
-none-negative (of.Command (Replace slot head)) = refl
-none-negative (of.Command (Why atom)) = refl
-none-negative (of.Command Labels) = refl
-
 -- A number that was found, or none, is what a form has after its sign.
 pub made-read : (f : ℕ → spec.Command) {o p : Option ℕ} {n : math.Option ℕ} {r : Parsed} → as_option o ≡ n → o ≡ p
     → Answers (whether (made f (as_option p))) r → Answers (whether (made f n)) r
@@ -70,19 +45,19 @@ made-read f e g a =
     as_read a (sym (ap (λ (q : Option ℕ). whether (made f (as_option q))) g) ∙ ap (λ (m : math.Option ℕ). whether (made f m)) e)
 
 -- What the lists of a rule are, by where the numbers end.
-module _ (c : Purpose) (h : ℕ) (ts : List (List ℕ)) where
+module _ (f : ℕ → List ℕ → List ℕ → spec.Command) (h : ℕ) (ts : List (List ℕ)) where
   abbrev said : Line
-  said = whether (rule_command c h ts)
+  said = whether (rule_command f h ts)
 
-  pub said-over : empty (past_numbers ts) ≡ true → is (command_for c h (leading_numbers ts) []) ≡ said
+  pub said-over : empty (past_numbers ts) ≡ true → is (f h (leading_numbers ts) []) ≡ said
   said-over e = let w = over ts e in rw (w.positives, w.negatives)
 
   pub said-spoiled : empty (past_numbers ts) ≡ false → one 33 (first_of (past_numbers ts)) ≡ false → no_command ≡ said
-  said-spoiled e f = rw (spoiled ts e f)
+  said-spoiled e g = rw (spoiled ts e g)
 
   module _ (bang : one 33 (first_of (past_numbers ts)) ≡ true) where
     pub said-parted : empty (past_numbers (rest_of (past_numbers ts))) ≡ true
-        → is (command_for c h (leading_numbers ts) (leading_numbers (rest_of (past_numbers ts)))) ≡ said
+        → is (f h (leading_numbers ts) (leading_numbers (rest_of (past_numbers ts)))) ≡ said
     said-parted e =
         let w = parted ts bang in
         rw (w.positives, w.negatives, numerals-all (rest_of (past_numbers ts)) e)
@@ -125,33 +100,24 @@ module _ (ps ns : List ℕ) (size : length ps + length ns ≤ TOKENS) where
       ∙ append_assoc ps ns (zeros ((TOKENS - length ps) - length ns))
       ∙ ap (λ (k : ℕ). ps ++ (ns ++ zeros k)) left
 
--- The lists of a change are those of its rule.
-positives-of : (c : Purpose) (h : ℕ) (ps ns : List ℕ) → length ps ≡ length (positives_of (is (command_for c h ps ns)))
-positives-of Adds h ps ns = refl
-positives-of (Replaces s) h ps ns = refl
-
-negatives-of : (c : Purpose) (h : ℕ) (ps ns : List ℕ) → length ns ≡ length (negatives_of (is (command_for c h ps ns)))
-negatives-of Adds h ps ns = refl
-negatives-of (Replaces s) h ps ns = refl
-
 -- The answer that has a rule's lists.
-pub lists-answer : (c : Purpose) (h : ℕ) (x : Command) → IsCommandFor c h x
+pub lists-answer : (f : ℕ → List ℕ → List ℕ → spec.Command) (h : ℕ) (x : Command) → OfRule f → IsCommandFor f h x
     → (q : Place) (ps ns : List ℕ) (p n : ℕ) (xs : List ℕ) → length ps + length ns ≤ TOKENS
     → p ≡ length ps → n ≡ length ns → xs ≡ sets (sets (zeros TOKENS) 0 ps) p ns
-    → Answers (is (command_for c h ps ns))
+    → Answers (is (f h ps ns))
     (record { place = q; reading = of.Command x; positives = p; negatives = n; entries = xs })
-lists-answer c h x same q ps ns p n xs size e f g =
+lists-answer f h x rule same q ps ns p n xs size e d g =
     let zs = zeros (TOKENS - (length ps + length ns)) in
     let whole : xs ≡ ps ++ (ns ++ zs) =
     g ∙ ap (λ (k : ℕ). sets (sets (zeros TOKENS) 0 ps) k ns) e ∙ behind-both ps ns size in
     let one : take p xs ≡ ps = rw (whole, e) (take-append_seam ps (ns ++ zs)) in
-    let two : take n (drop p xs) ≡ ns = rw (whole, e, f, drop-append_seam ps (ns ++ zs)) (take-append_seam ns zs) in
+    let two : take n (drop p xs) ≡ ns = rw (whole, e, d, drop-append_seam ps (ns ++ zs)) (take-append_seam ns zs) in
     let three : drop (p + n) xs ≡ zeros (TOKENS - (p + n)) =
-    rw (whole, e, f, drop-append-add ps (ns ++ zs) (length ns)) (drop-append_seam ns zs) in
+    rw (whole, e, d, drop-append-add ps (ns ++ zs) (length ns)) (drop-append_seam ns zs) in
     record {
       meaning = rw (one, two, same ps ns);
-      positives = e ∙ positives-of c h ps ns;
-      negatives = f ∙ negatives-of c h ps ns;
+      positives = e ∙ sym (ap (λ (l : List ℕ × List ℕ). length l.0) (rule h ps ns));
+      negatives = d ∙ sym (ap (λ (l : List ℕ × List ℕ). length l.1) (rule h ps ns));
       within = omega arith;
       filler = three;
     }

@@ -13,8 +13,7 @@ use Rattle.tokens.specs.Tokens.{one}
 use Rattle.sheet_lines.specs.Commands.{Command, add, remove, replace, why, labels, numerals, before, after}
 use Rattle.sheet_lines.specs.Commands.{made_of_rule, rule_form, in_slot, replacement, only, made, labels_form, form}
 use Rattle.tokens.specs.Parts.{first_of, rest_of, empty}
-use Rattle.sheet_lines.specs.Parts.{leading_numbers, past_numbers, command_for, rule_command}
-use Rattle.sheet_lines.specs.declared.read.Purpose.{Purpose}
+use Rattle.sheet_lines.specs.Parts.{leading_numbers, past_numbers, rule_command}
 
 -- A number alone; nothing.
 
@@ -68,23 +67,23 @@ unfolding replacement numeral
 replacement-first [] = refl
 replacement-first (s ∷ ts) = refl
 
-module _ (c : Purpose) (ts : List (List ℕ)) where
+module _ (f : ℕ → List ℕ → List ℕ → Command) (ts : List (List ℕ)) where
   abbrev stated : Option Command
-  stated = rule_form (command_for c) ts
+  stated = rule_form f ts
 
   pub rule-no-head : numeral (first_of ts) ≡ none → none ≡ stated
   rule-no-head e = go (one 58 (first_of (rest_of ts))) refl
     where
       go : (b : Bool) → one 58 (first_of (rest_of ts)) ≡ b → none ≡ stated
-      go true t = rw (← rule-first (command_for c) ts, t, e)
-      go false t = rw (← rule-first (command_for c) ts, t)
+      go true t = rw (← rule-first f ts, t, e)
+      go false t = rw (← rule-first f ts, t)
 
   pub rule-no-sign : one 58 (first_of (rest_of ts)) ≡ false → none ≡ stated
-  rule-no-sign t = rw (← rule-first (command_for c) ts, t)
+  rule-no-sign t = rw (← rule-first f ts, t)
 
   pub rule-is : (h : ℕ) (us : List (List ℕ)) → numeral (first_of ts) ≡ some h → one 58 (first_of (rest_of ts)) ≡ true
-      → us ≡ rest_of (rest_of ts) → rule_command c h us ≡ stated
-  rule-is h us e t u = rw (← rule-first (command_for c) ts, t, e, u)
+      → us ≡ rest_of (rest_of ts) → rule_command f h us ≡ stated
+  rule-is h us e t u = rw (← rule-first f ts, t, e, u)
 
 module _ (ts : List (List ℕ)) where
   pub replacement-no-slot : numeral (first_of ts) ≡ none → none ≡ replacement ts

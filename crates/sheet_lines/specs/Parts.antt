@@ -6,11 +6,9 @@ use Rattle.places.specs.declared.Place.{Place}
 use Rattle.places.specs.Places.{Onward}
 use Rattle.tokens.specs.Tokens.{tokens}
 use Rattle.tokens.specs.Numerals.{numeral}
-use Rattle.sheet_lines.specs.Commands.{Command, add, replace, numerals, before, after, made_of_rule}
-use Rattle.sheet_lines.specs.Readings.{command_of}
+use Rattle.sheet_lines.specs.Commands.{Command, numerals, before, after, made_of_rule}
+use Rattle.sheet_lines.specs.Readings.{is, lists_of, command_of}
 use Rattle.sheet_lines.specs.declared.Command as declared
-use Rattle.sheet_lines.specs.declared.read.Purpose.{Purpose}
-use Rattle.sheet_lines.specs.declared.read.Purpose.TheVariants.{Adds, Replaces}
 use Rattle.sheet_lines.specs.declared.read.Numbers.{Numbers}
 
 -- The numbers that tokens begin with, up to the first token that is none; and the tokens from that one on.
@@ -30,18 +28,21 @@ unfoldable pub past_numbers : List (List ℕ) → List (List ℕ)
 past_numbers [] = []
 past_numbers (t ∷ ts) = tail_if (numeral t) (t ∷ ts) (past_numbers ts)
 
--- The command of a rule's head and lists, for what the rule is stated.
-abbrev pub command_for : Purpose → ℕ → List ℕ → List ℕ → Command
-command_for Adds = add
-command_for (Replaces slot) = replace slot
+-- The code's command is what f makes of this number, whatever the lists beside it.
+abbrev pub IsCommandFor : (ℕ → List ℕ → List ℕ → Command) → ℕ → declared.Command → Type 0
+IsCommandFor f h x = (ps ns : List ℕ) → command_of x ps ns ≡ f h ps ns
 
--- The code's command is the one for that, with this head, whatever the lists beside it.
-abbrev pub IsCommandFor : Purpose → ℕ → declared.Command → Type 0
-IsCommandFor c h x = (ps ns : List ℕ) → command_of x ps ns ≡ command_for c h ps ns
+-- Of each number the code makes the command that f makes of it.
+abbrev pub Makes : (ℕ → declared.Command → Type 0) → (ℕ → List ℕ → List ℕ → Command) → Type 0
+Makes post f = (h : ℕ) (x : declared.Command) → post h x → IsCommandFor f h x
 
--- The command for that with this head, whose lists the tokens are.
-abbrev pub rule_command : Purpose → ℕ → List (List ℕ) → Option Command
-rule_command c h ts = made_of_rule (command_for c) (some h) (numerals (before ts)) (numerals (after ts))
+-- What f makes of a rule's head and lists has those lists: it adds the rule, or replaces one by it.
+abbrev pub OfRule : (ℕ → List ℕ → List ℕ → Command) → Type 0
+OfRule f = (h : ℕ) (ps ns : List ℕ) → lists_of (is (f h ps ns)) ≡ (ps, ns)
+
+-- What f makes of this head and the lists that the tokens are.
+abbrev pub rule_command : (ℕ → List ℕ → List ℕ → Command) → ℕ → List (List ℕ) → Option Command
+rule_command f h ts = made_of_rule f (some h) (numerals (before ts)) (numerals (after ts))
 
 -- The numbers that the line begins with from a place on were stored behind the first k of xs.
 pub record Collected (line xs : List ℕ) (k : ℕ) (from : Place) (r : Numbers) : Type 0 where

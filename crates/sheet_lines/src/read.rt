@@ -1,24 +1,18 @@
 // Reading a line.
-ghost use Rattle.std.specs.Prelude.{◌≡◌, cond, [], ◌+◌, ◌≤◌, length, drop};
+ghost use Rattle.std.specs.Prelude.{◌≡◌, [], ◌+◌, ◌≤◌, length, drop};
 ghost use Rattle.places.specs.Places.{Onward};
 ghost use Rattle.tokens.specs.Tokens.{tokens};
-ghost use Rattle.sheet_lines.specs.Commands.{remove, why, made, only, rule_form, command};
+ghost use Rattle.tokens.specs.Parts.{part};
+ghost use Rattle.sheet_lines.specs.Commands.{made, only, rule_form, command as command-of};
 ghost use Rattle.sheet_lines.specs.Commands.{replacement as replacement-of, labels_form as labels-form-of};
 ghost use Rattle.sheet_lines.specs.Readings.{Answers, LINE, TOKENS, whether, line_of};
 ghost use Rattle.sheet_lines.specs.Readings.{reading as reading-of};
-ghost use Rattle.sheet_lines.specs.Parts.{command_for, IsCommandFor, rule_command, Collected};
+ghost use Rattle.sheet_lines.specs.Parts.{IsCommandFor, OfRule, Makes, rule_command, Collected};
 
 use super::{Command, Parsed, Reading};
 use fields::bytes_left;
 use places::Place;
-use tokens::{ended, is, next_token, numeral};
-
-// What the rule of a line is stated for: it is added, or it replaces the rule in a slot.
-#[derive(Clone, Copy)]
-enum Purpose {
-    Adds,
-    Replaces(u32),
-}
+use tokens::{Token, ended, is, next_token, numeral};
 
 // The first count of the entries are numbers that were read. The rest of the line begins at next.
 #[derive(Clone, Copy)]
@@ -26,6 +20,15 @@ struct Numbers {
     entries: [u32; Parsed::TOKENS],
     count: usize,
     next: Place,
+}
+
+// The bytes of a token.
+fn text(line: &[u8], t: Token) -> &[u8]
+    requires ordered { t.start ≤ t.next.offset }
+    requires within { t.next.offset ≤ length line.now }
+    ensures { result.now ≡ part line.now t.start t.next.offset }
+{
+    &line[t.start..t.next.offset]
 }
 
 // Reads numbers up to the first token that is none, and puts them behind those that are known.
@@ -39,10 +42,7 @@ fn collect(line: &[u8], known: [u32; Parsed::TOKENS], size: usize, place: Place)
     let mut next = place;
     loop {
         let t = next_token(line, next);
-        let start = t.start;
-        let after = t.next;
-        let end = after.offset;
-        let Some(n) = numeral(&line[start..end]) else {
+        let Some(n) = numeral(text(line, t)) else {
             return Numbers {
                 entries,
                 count,
@@ -51,7 +51,7 @@ fn collect(line: &[u8], known: [u32; Parsed::TOKENS], size: usize, place: Place)
         };
         entries[count] = n;
         count += 1;
-        next = after;
+        next = t.next;
     }
 }
 
@@ -69,83 +69,62 @@ pub fn plain(reading: Reading, place: Place) -> Parsed
     }
 }
 
-// The command of a rule with this head, for what it is stated.
-fn with_head(purpose: Purpose, head: u32) -> Command
-    ensures { IsCommandFor purpose head result }
-{
-    match purpose {
-        Purpose::Adds => Command::Add(head),
-        Purpose::Replaces(slot) => Command::Replace(slot, head),
-    }
-}
-
-// The lists of a rule, with its head.
-fn lists(line: &[u8], purpose: Purpose, head: u32, place: Place) -> Parsed
+// The lists of a rule, beside the command that was made of its head.
+fn lists(line: &[u8], command: Command, place: Place) -> Parsed
     requires offset_in_bounds { place.offset ≤ length line.now }
     requires line_len_bound { length (tokens (drop place.offset line.now)) ≤ TOKENS }
-    ensures answers { Answers (whether (rule_command purpose head
-        (tokens (drop place.offset line.now)))) result }
+    ensures answers { (f : _) (h : _) → OfRule f → IsCommandFor f h command
+        → Answers (whether (rule_command f h (tokens (drop place.offset line.now)))) result }
     ensures onward { Onward line.now place result.place }
 {
     let p = collect(line, [0; Parsed::TOKENS], 0, place);
-    let positives = p.count;
-    let rest = p.next;
     let found = p.entries;
-    let reading = Reading::Command(with_head(purpose, head));
-    if ended(line, rest) {
+    let reading = Reading::Command(command);
+    if ended(line, p.next) {
         return Parsed {
-            place: rest,
+            place: p.next,
             reading,
-            positives: positives,
+            positives: p.count,
             negatives: 0,
             entries: found,
         };
     }
-    let t = next_token(line, rest);
-    let start = t.start;
-    let after = t.next;
-    let end = after.offset;
-    if !is(&line[start..end], b'!') {
-        return plain(Reading::NotACommand, after);
+    let t = next_token(line, p.next);
+    if !is(text(line, t), b'!') {
+        return plain(Reading::NotACommand, t.next);
     }
-    let n = collect(line, found, positives, after);
-    let last = n.next;
-    if !ended(line, last) {
-        return plain(Reading::NotACommand, last);
+    let n = collect(line, found, p.count, t.next);
+    if !ended(line, n.next) {
+        return plain(Reading::NotACommand, n.next);
     }
     let entries = n.entries;
     Parsed {
-        place: last,
+        place: n.next,
         reading,
-        positives: positives,
-        negatives: n.count - positives,
+        positives: p.count,
+        negatives: n.count - p.count,
         entries,
     }
 }
 
-// What follows the `A` of an addition, or the slot of a replacement.
-fn rule(line: &[u8], place: Place, purpose: Purpose) -> Parsed
+// What follows the `A` of an addition, or the slot of a replacement: the command is made of the head.
+fn rule<F: FnOnce(u32) -> Command>(line: &[u8], place: Place, command: F) -> Parsed
     requires offset_in_bounds { place.offset ≤ length line.now }
     requires line_len_bound { length (tokens (drop place.offset line.now)) ≤ TOKENS }
-    ensures answers { Answers (whether (rule_form (command_for purpose)
-        (tokens (drop place.offset line.now)))) result }
+    requires callable { F.IsAlwaysCallable command }
+    ensures answers { (f : _) → OfRule f → Makes (F.post command) f
+        → Answers (whether (rule_form f (tokens (drop place.offset line.now)))) result }
     ensures onward { Onward line.now place result.place }
 {
     let h = next_token(line, place);
-    let start = h.start;
-    let after = h.next;
-    let end = after.offset;
-    let Some(head) = numeral(&line[start..end]) else {
-        return plain(Reading::NotACommand, after);
+    let Some(head) = numeral(text(line, h)) else {
+        return plain(Reading::NotACommand, h.next);
     };
-    let c = next_token(line, after);
-    let from = c.start;
-    let next = c.next;
-    let to = next.offset;
-    if !is(&line[from..to], b':') {
-        return plain(Reading::NotACommand, next);
+    let c = next_token(line, h.next);
+    if !is(text(line, c), b':') {
+        return plain(Reading::NotACommand, c.next);
     }
-    lists(line, purpose, head, next)
+    lists(line, command(head), c.next)
 }
 
 // What follows the `P` of a replacement: a slot, and then a rule.
@@ -156,36 +135,28 @@ fn replacement(line: &[u8], place: Place) -> Parsed
     ensures onward { Onward line.now place result.place }
 {
     let t = next_token(line, place);
-    let start = t.start;
-    let next = t.next;
-    let end = next.offset;
-    let Some(slot) = numeral(&line[start..end]) else {
-        return plain(Reading::NotACommand, next);
+    let Some(slot) = numeral(text(line, t)) else {
+        return plain(Reading::NotACommand, t.next);
     };
-    rule(line, next, Purpose::Replaces(slot))
+    rule(line, t.next, |head| Command::Replace(slot, head))
 }
 
-// What follows the `R` of a removal, or else the `W` of a request for a reason: one number.
-fn numbered(line: &[u8], place: Place, removes: bool) -> Parsed
-    requires { place.offset ≤ length line.now }
-    ensures answers { Answers (whether (made (cond removes remove why)
-        (only (tokens (drop place.offset line.now))))) result }
+// What follows the `R` of a removal, or the `W` of a request for a reason: one number, of which the command is made.
+fn numbered<F: FnOnce(u32) -> Command>(line: &[u8], place: Place, command: F) -> Parsed
+    requires in_bounds { place.offset ≤ length line.now }
+    requires callable { F.IsAlwaysCallable command }
+    ensures answers { (f : _) → Makes (F.post command) (λ n ps ns. f n)
+        → Answers (whether (made f (only (tokens (drop place.offset line.now))))) result }
     ensures onward { Onward line.now place result.place }
 {
     let t = next_token(line, place);
-    let start = t.start;
-    let next = t.next;
-    let end = next.offset;
-    if !ended(line, next) {
-        return plain(Reading::NotACommand, next);
+    if !ended(line, t.next) {
+        return plain(Reading::NotACommand, t.next);
     }
-    let Some(n) = numeral(&line[start..end]) else {
-        return plain(Reading::NotACommand, next);
+    let Some(n) = numeral(text(line, t)) else {
+        return plain(Reading::NotACommand, t.next);
     };
-    if removes {
-        return plain(Reading::Command(Command::Remove(n)), next);
-    }
-    plain(Reading::Command(Command::Why(n)), next)
+    plain(Reading::Command(command(n)), t.next)
 }
 
 // What follows the `L` of a request for the labels.
@@ -203,25 +174,23 @@ fn labels_form(line: &[u8], place: Place) -> Parsed
 fn form(line: &[u8], place: Place) -> Parsed
     requires offset_in_bounds { place.offset ≤ length line.now }
     requires line_len_bound { length (drop place.offset line.now) ≤ LINE }
-    ensures answers { Answers (whether (command (drop place.offset line.now))) result }
+    ensures answers { Answers (whether (command-of (drop place.offset line.now))) result }
     ensures onward { Onward line.now place result.place }
 {
     let t = next_token(line, place);
-    let start = t.start;
+    let word = text(line, t);
     let next = t.next;
-    let end = next.offset;
-    let word = &line[start..end];
     if is(word, b'A') {
-        return rule(line, next, Purpose::Adds);
+        return rule(line, next, Command::Add);
     }
     if is(word, b'R') {
-        return numbered(line, next, true);
+        return numbered(line, next, Command::Remove);
     }
     if is(word, b'P') {
         return replacement(line, next);
     }
     if is(word, b'W') {
-        return numbered(line, next, false);
+        return numbered(line, next, Command::Why);
     }
     if is(word, b'L') {
         return labels_form(line, next);

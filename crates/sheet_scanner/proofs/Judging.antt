@@ -32,23 +32,6 @@ no_command-keys reading-of.LineTooLong n = inr (inl refl)
 no_command-keys reading-of.NotACommand n = inr (inr refl)
 no_command-keys (reading-of.Command c) n = absurd (n c refl)
 
-pub neither-keys :
-    (x : Reading) → (x ≡ reading-of.Blank → ⊥) → (x ≡ reading-of.LineTooLong → ⊥)
-    → OneOf (2 ∷ 3 ∷ []) (tag_of T.the_type x)
-neither-keys reading-of.Blank b m = absurd (b refl)
-neither-keys reading-of.LineTooLong b m = absurd (m refl)
-neither-keys reading-of.NotACommand b m = inl refl
-neither-keys (reading-of.Command c) b m = inr refl
-
--- What a `match` tells of the reading, by the numbers of its cases in order.
-pub neither : {P : Type 0} (x : Reading) → OneOf (2 ∷ 3 ∷ []) (tag_of T.the_type x) → Unless x P → P
-neither reading-of.Blank (inl e) p = absurd (omega (arith, e))
-neither reading-of.Blank (inr e) p = absurd (omega (arith, e))
-neither reading-of.LineTooLong (inl e) p = absurd (omega (arith, e))
-neither reading-of.LineTooLong (inr e) p = absurd (omega (arith, e))
-neither reading-of.NotACommand k p = p
-neither (reading-of.Command c) k p = p
-
 -- A line whose reading is none of the commands is refused by question 13, unless it is blank or too long.
 module _ (p : Parsed) {before : List ℕ} {at : ℕ} {after : List ℕ} {next : ℕ} where
   pub unread :
@@ -67,14 +50,6 @@ module _ (p : Parsed) {before : List ℕ} {at : ℕ} {after : List ℕ} {next : 
       go (reading-of.Command c) e (inl k) = absurd (omega (arith, k))
       go (reading-of.Command c) e (inr (inl k)) = absurd (omega (arith, k))
       go (reading-of.Command c) e (inr (inr k)) = absurd (omega (arith, k))
-
--- A command waits for the table.
-pub commanded :
-    (p : Parsed) (c : Command) (before : List ℕ) (at : ℕ) → p.reading ≡ reading-of.Command c
-    → Unread p before at before (judged.Command c)
-commanded p c before at e =
-    subst (λ (y : Reading). Unless y (Judges p before at before (judged.Command c))) (sym e)
-    (told p (reading-of.Command c) e, refl)
 
 -- What a line prints, by what was read of it, and of what was written.
 module _ {p : Parsed} (line before : List ℕ) (at : ℕ) (after : List ℕ) (j : Judged)

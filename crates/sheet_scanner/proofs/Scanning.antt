@@ -3,7 +3,7 @@
 use Prim.Native.Nat.{ℕ, suc, ◌+◌, ◌-◌, ◌^◌, ◌≤◌, ◌<◌}
 use native.Mathlib.Omega.{arith}
 use mathlib.Core.Path.{◌≡◌, refl, sym, ◌∙◌, ap, subst}
-use mathlib.Core.Bool.{Bool, true, false, cond}
+use mathlib.Core.Bool.{true, false}
 use mathlib.Core.List.{List, [], ◌++◌}
 use Rattle.std.specs.Prelude.{Option, Some, None}
 use lib.ListN.{length, take, drop, get_or, length-drop, length-take}
@@ -24,6 +24,7 @@ use Rattle.sheet_begun.specs.Begun.{BegunOf, Longer, ReadsAs}
 use Rattle.sheet_begun.proofs.Lengthening.{begun-next}
 use Rattle.sheet_scanner.specs.declared.Judged.{Judged}
 use Rattle.sheet_scanner.specs.declared.Judged.TheVariants as judged
+use Rattle.sheet_scanner.specs.declared.FoundCommand.{FoundCommand}
 use Rattle.sheet_scanner.specs.declared.Scanned.{Scanned}
 use Rattle.sheet_scanner.specs.Judging.{Judges}
 use Rattle.sheet_scanner.specs.Scans.{of_line, line_end, IsCommand, WhereFound, IfNothing}
@@ -66,12 +67,12 @@ module _ {k : Begun} {input : List ℕ} {from end : ℕ} {before : List ℕ} {at
     (at-line-end : end ≡ from + line_end (drop from input)) (room : at + LABELS_ROOM ≤ length before) where
   -- The bytes of a line up to its end, or up to the end of the piece.
   scans-into :
-      {held : Begun} {p : Parsed} (x : Option Command) → Longer k (take (end - from) (drop from input)) held
-      → ((s : State) → BegunOf s.number s.line k → IsCommand x p (s.line ++ take (end - from) (drop from input)))
+      {held : Begun} (x : Option FoundCommand) → Longer k (take (end - from) (drop from input)) held
+      → ((s : State) → BegunOf s.number s.line k → IsCommand x (s.line ++ take (end - from) (drop from input)))
       → WhereFound x input before
-      (record { begun = held; read = end; printed = at; more = false; found = x; parsed = p })
+      (record { begun = held; read = end; printed = at; more = false; found = x })
       → Scans k input from before at before
-      (record { begun = held; read = end; printed = at; more = false; found = x; parsed = p })
+      (record { begun = held; read = end; printed = at; more = false; found = x })
   scans-into x longer-line command where_found =
       record {
         begun = omega arith;
@@ -92,24 +93,24 @@ module _ {k : Begun} {input : List ℕ} {from end : ℕ} {before : List ℕ} {at
       }
 
   pub scans-part :
-      {held : Begun} (p : Parsed) → Longer k (take (end - from) (drop from input)) held
+      {held : Begun} → Longer k (take (end - from) (drop from input)) held
       → Scans k input from before at before
-      (record { begun = held; read = end; printed = at; more = false; found = None; parsed = p })
-  scans-part p longer-line = scans-into {p = p} None longer-line (λ s f. tt) tt
+      (record { begun = held; read = end; printed = at; more = false; found = None })
+  scans-part longer-line = scans-into None longer-line (λ s f. tt) tt
 
   pub scans-command :
       {held : Begun} {p : Parsed} {c : Command} {some : List ℕ} (after : List ℕ) (j : Judged) → end < length input
       → BegunOf k.number some k → Longer k (take (end - from) (drop from input)) held
       → ReadsAs k (take (end - from) (drop from input)) p → Judges p before at after j → j ≡ judged.Command c
       → Scans k input from before at after
-      (record { begun = held; read = end; printed = at; more = false; found = Some c; parsed = p })
+      (record { begun = held; read = end; printed = at; more = false; found = Some (record { command = c; parsed = p }) })
   scans-command {p = p} {c} {some} after j inside f longer-line reads judges e =
       let here : get_or input end 0 ≡ NEWLINE =
       ap (λ (i : ℕ). get_or input i 0) at-line-end ∙ sym (get_or-drop from input (line_end (drop from input)) 0)
       ∙ at-end (drop from input) (omega (arith, length-drop from input)) in
       let any = judged-command _ before at after j (reads.answers _ some f) judges e in
       rw any.1
-      (scans-into (Some c) longer-line
+      (scans-into (Some (record { command = c; parsed = p })) longer-line
       (λ s g. (judged-command _ before at after j (reads.answers _ s.line g) judges e).0)
       (record {
         inside = inside;
@@ -129,7 +130,7 @@ module _ {k : Begun} {input : List ℕ} {from end : ℕ} {before : List ℕ} {at
       → Judges p before at after j → j ≡ judged.Told next
       → r ≡ record { number = line_after p.place.line; bytes = k.bytes; length = 0 }
       → Scans k input from before at after
-      (record { begun = r; read = end + 1; printed = next; more = true; found = None; parsed = p })
+      (record { begun = r; read = end + 1; printed = next; more = true; found = None })
   scans-told {p} {next} after j {some = some} inside f reads judges e counted =
       let part = take (end - from) (drop from input) in
       let any = (judged-told (some ++ part) before at after j (reads.answers _ some f) judges e).wrote in
@@ -159,7 +160,7 @@ module _ {k : Begun} {input : List ℕ} {from end : ℕ} {before : List ℕ} {at
 
 -- One scan behind another.
 where-found-then :
-    (input middle before : List ℕ) (r : Scanned) (x : Option Command) → length middle ≡ length before
+    (input middle before : List ℕ) (r : Scanned) (x : Option FoundCommand) → length middle ≡ length before
     → WhereFound x input middle r → WhereFound x input before r
 where-found-then input middle before r None e w = tt
 where-found-then input middle before r (Some c) e w =
@@ -202,11 +203,11 @@ scans-then {input = input} {from} q {r} first second =
     }
 
 -- What holds where nothing was found.
-pub if-nothing : {P : Type 0} (x : Option Command) → P → IfNothing x P
+pub if-nothing : {P : Type 0} (x : Option FoundCommand) → P → IfNothing x P
 if-nothing None p = p
 if-nothing (Some c) p = tt
 
-pub if-nothing-so : {P Q : Type 0} (x : Option Command) → (P → Q) → IfNothing x P → IfNothing x Q
+pub if-nothing-so : {P Q : Type 0} (x : Option FoundCommand) → (P → Q) → IfNothing x P → IfNothing x Q
 if-nothing-so None f p = f p
 if-nothing-so (Some c) f p = tt
 
@@ -221,16 +222,6 @@ scans-one-then q r e first l second =
       ended = second.ended;
     }
 
--- Each line leaves less to read, and where there are no more of them nothing is left.
-pub scans-less :
-    (size : ℕ) (q r : Scanned) → q.more ≡ true → (r.more ≡ true → q.read < r.read) → r.read ≤ size
-    → cond r.more (suc (size - r.read)) 0 < cond q.more (suc (size - q.read)) 0
-scans-less size q r e more within = rw e (go r.more more)
-  where
-    go : (b : Bool) → (b ≡ true → q.read < r.read) → cond b (suc (size - r.read)) 0 < suc (size - q.read)
-    go true m = omega (arith, m refl)
-    go false m = omega arith
-
 -- A loop's scan behind its first: what was so of the first is so of all.
 pub record Since (input first_out : List ℕ) (first : Scanned) (out : List ℕ) (r : Scanned) : Type 0 where
   pub read : r.read ≤ length input
@@ -239,17 +230,6 @@ pub record Since (input first_out : List ℕ) (first : Scanned) (out : List ℕ)
   pub since :
       (k : Begun) (from : ℕ) (before : List ℕ) (at : ℕ) → Scans k input from before at first_out first
       → ScansOne input from first → Scans k input from before at out r × ScansOne input from r
-
-pub since-first :
-    {k : Begun} {input : List ℕ} {from : ℕ} {before : List ℕ} {at : ℕ} {out : List ℕ} {r : Scanned}
-    → Scans k input from before at out r → Since input out r out r
-since-first scans =
-    record {
-      read = scans.read;
-      printed = omega (arith, scans.printed, scans.same_length);
-      same_length = refl;
-      since = λ k from before at all one. (all, one);
-    }
 
 pub since-next :
     {input first_out out after : List ℕ} {first : Scanned} (q : Scanned) {r : Scanned} → q.more ≡ true

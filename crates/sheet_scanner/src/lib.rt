@@ -8,10 +8,8 @@ ghost use Rattle.sheet_scanner.specs.Judging.{Judges, Unread};
 ghost use Rattle.sheet_scanner.specs.Scans.{line_end, Scans, ScansOne, ScansAll};
 
 use fields::bytes_left;
-use places::Place;
 use sheet_begun::{Begun, lengthen, next_line, read_with};
 use sheet_label_lines::LABELS_ROOM;
-use sheet_lines::read::plain;
 use sheet_lines::{Command, Parsed, Reading};
 use sheet_printing::write_refusal;
 
@@ -23,17 +21,23 @@ pub enum Judged {
     Command(Command),
 }
 
+// A command that was found, and what was read of its line.
+#[derive(Clone, Copy)]
+pub struct FoundCommand {
+    pub command: Command,
+    pub parsed: Parsed,
+}
+
 // What was made of a piece without the table: the line at hand, how many bytes of the piece were read and how many were
 // printed, whether the next line may be scanned too, and the command that was found, if one was. A command's line is at
-// hand, whole: it was read up to its newline, as `parsed` says.
+// hand, whole: it was read up to its newline.
 #[derive(Clone, Copy)]
 pub struct Scanned {
     pub begun: Begun,
     pub read: usize,
     pub printed: usize,
     pub more: bool,
-    pub found: Option<Command>,
-    pub parsed: Parsed,
+    pub found: Option<FoundCommand>,
 }
 
 // Is there room for every reply at this place of a buffer? No reply is longer than the lines of all labels.
@@ -58,10 +62,8 @@ fn command_of(parsed: Parsed, out: &mut [u8], at: usize) -> Judged
     requires { at + LABELS_ROOM ≤ length out.old }
     ensures { Unread parsed out.old at out.new result }
 {
-    let place = parsed.place;
-    let reading = parsed.reading;
-    let Reading::Command(command) = reading else {
-        return Judged::Told(write_refusal(out, at, place.line, 13));
+    let Reading::Command(command) = parsed.reading else {
+        return Judged::Told(write_refusal(out, at, parsed.place.line, 13));
     };
     Judged::Command(command)
 }
@@ -71,18 +73,15 @@ pub fn judge(parsed: Parsed, out: &mut [u8], at: usize) -> Judged
     requires { at + LABELS_ROOM ≤ length out.old }
     ensures { Judges parsed out.old at out.new result }
 {
-    let place = parsed.place;
-    let reading = parsed.reading;
-    match reading {
+    match parsed.reading {
         Reading::Blank => Judged::Told(at),
-        Reading::LineTooLong => Judged::Told(write_refusal(out, at, place.line, 14)),
+        Reading::LineTooLong => Judged::Told(write_refusal(out, at, parsed.place.line, 14)),
         _ => command_of(parsed, out, at),
     }
 }
 
 // Scans the rest of one line, or of the piece if that ends first. A line that ends and leaves the table alone is
-// answered. The bytes of any other are added to the line at hand. (What stands in `parsed` counts only beside a
-// command.)
+// answered. The bytes of any other are added to the line at hand.
 fn scan_line(begun: Begun, input: &[u8], from: usize, out: &mut [u8], at: usize) -> Scanned
     requires { (from ≤ length input.now) × (at + LABELS_ROOM ≤ length out.old) }
     ensures scans { Scans begun input.now from out.old at out.new result }
@@ -98,29 +97,23 @@ fn scan_line(begun: Begun, input: &[u8], from: usize, out: &mut [u8], at: usize)
             printed: at,
             more: false,
             found: None,
-            parsed: plain(Reading::Blank, Place::start()),
         };
     }
     let parsed = read_with(begun, part);
-    let judged = judge(parsed, out, at);
-    let place = parsed.place;
-    let past = end + 1;
-    match judged {
+    match judge(parsed, out, at) {
         Judged::Told(next) => Scanned {
-            begun: next_line(begun, place),
-            read: past,
+            begun: next_line(begun, parsed.place),
+            read: end + 1,
             printed: next,
             more: true,
             found: None,
-            parsed,
         },
         Judged::Command(command) => Scanned {
             begun: lengthen(begun, part),
             read: end,
             printed: at,
             more: false,
-            found: Some(command),
-            parsed,
+            found: Some(FoundCommand { command, parsed }),
         },
     }
 }
@@ -133,8 +126,7 @@ pub fn scan(begun: Begun, input: &[u8], from: usize, out: &mut [u8], at: usize) 
 {
     let mut done = scan_line(begun, input, from, out, at);
     while done.more && has_room(out.len(), done.printed) {
-        let line = done.begun;
-        done = scan_line(line, input, done.read, out, done.printed);
+        done = scan_line(done.begun, input, done.read, out, done.printed);
     }
     done
 }

@@ -3,6 +3,7 @@
 #![tactic(auto)]
 
 ghost use Rattle.std.specs.Prelude.{◌≡◌, not, eqb};
+ghost use Rattle.std.specs.Fn.{FnOnceReturnsAtMut};
 ghost use Rattle.table.specs.Clean.{empty_table};
 ghost use Rattle.table.specs.Questions.{rule_from};
 ghost use Rattle.calls.specs.Ends.{JustificationsEnd, ConsequencesEnd, RepercussionsEnd, ReasonEnds};
@@ -17,8 +18,7 @@ ghost use Rattle.yeqontur.specs.Versions.{version, layout};
 use add_remove::{add, remove};
 use c_answers::{
     Accepted, AtomLabel, Change, Completeness, RuleSpoiler, SlotRule, Written, crossed_add,
-    crossed_change, crossed_complete, crossed_label, crossed_list, crossed_remove, crossed_rule,
-    crossed_spoiler,
+    crossed_change, crossed_remove,
 };
 use checklist::{complete, missing};
 use checklist_marks::{file_sent, file_skipped, skip_withdrawn};
@@ -28,6 +28,7 @@ use label_list::labels;
 use muting::mute;
 use queries::{consequences, justifications, label, repercussions, rule, spoiler};
 use reason_call::reason;
+use refusals::Refusal;
 use replacing::replace;
 use table::Table;
 
@@ -82,6 +83,16 @@ pub extern "C" fn yeqontur_remove(table: Table, slot: u32) -> Change
     crossed_remove(slot, answer, after)
 }
 
+// The table after a call that has no answer named, and that call's answer, as they cross.
+fn changed<F: FnOnce(&mut Table) -> Result<(), Refusal>>(table: Table, call: F) -> Accepted
+    requires { F.IsAlwaysCallable call }
+    ensures { ChangeCrosses (FnOnceReturnsAtMut F.FnOnce call table) result }
+{
+    let mut after = table;
+    let answer = call(&mut after);
+    crossed_change(answer, after)
+}
+
 #[unsafe(no_mangle)]
 pub extern "C" fn yeqontur_replace(
     table: Table,
@@ -93,9 +104,7 @@ pub extern "C" fn yeqontur_replace(
     ensures { ChangeCrosses
         (ReplaceEnds table slot (rule_from head positives.now negatives.now)) result }
 {
-    let mut replaced = table;
-    let answer = replace(&mut replaced, slot, head, positives, negatives);
-    crossed_change(answer, replaced)
+    changed(table, |t| replace(t, slot, head, positives, negatives))
 }
 
 // 0 unmutes, any other number mutes.
@@ -103,140 +112,118 @@ pub extern "C" fn yeqontur_replace(
 pub extern "C" fn yeqontur_mute(table: Table, slot: u32, muted: u32) -> Accepted
     ensures { ChangeCrosses (MuteEnds table slot (not (eqb muted 0))) result }
 {
-    let mut marked = table;
-    let answer = mute(&mut marked, slot, muted != 0);
-    crossed_change(answer, marked)
+    changed(table, |t| mute(t, slot, muted != 0))
 }
 
 #[unsafe(no_mangle)]
 pub extern "C" fn yeqontur_label(table: Table, atom: u32) -> AtomLabel
     ensures { LabelCrosses table atom result }
 {
-    let answer = label(&table.words, atom);
-    crossed_label(answer)
+    label(&table.words, atom).into()
 }
 
+// C needs a function for each list, so those that write one differ in the call alone.
 #[unsafe(no_mangle)]
 pub extern "C" fn yeqontur_labels(table: Table, buffer: &mut [u32]) -> Written
     ensures { ListCrosses (LabelsEnd table buffer.old) buffer.new result }
 {
-    let answer = labels(&table.words, buffer);
-    crossed_list(answer)
+    labels(&table.words, buffer).into()
 }
 
 #[unsafe(no_mangle)]
 pub extern "C" fn yeqontur_rule(table: Table, slot: u32) -> SlotRule
     ensures { RuleCrosses table slot result }
 {
-    let answer = rule(&table.words, slot);
-    crossed_rule(answer)
+    rule(&table.words, slot).into()
 }
 
 #[unsafe(no_mangle)]
 pub extern "C" fn yeqontur_spoiler(table: Table, slot: u32) -> RuleSpoiler
     ensures { SpoilerCrosses table slot result }
 {
-    let answer = spoiler(&table.words, slot);
-    crossed_spoiler(answer)
+    spoiler(&table.words, slot).into()
 }
 
 #[unsafe(no_mangle)]
 pub extern "C" fn yeqontur_justifications(table: Table, atom: u32, buffer: &mut [u32]) -> Written
     ensures { ListCrosses (JustificationsEnd table atom buffer.old) buffer.new result }
 {
-    let answer = justifications(&table.words, atom, buffer);
-    crossed_list(answer)
+    justifications(&table.words, atom, buffer).into()
 }
 
 #[unsafe(no_mangle)]
 pub extern "C" fn yeqontur_consequences(table: Table, atom: u32, buffer: &mut [u32]) -> Written
     ensures { ListCrosses (ConsequencesEnd table atom buffer.old) buffer.new result }
 {
-    let answer = consequences(&table.words, atom, buffer);
-    crossed_list(answer)
+    consequences(&table.words, atom, buffer).into()
 }
 
 #[unsafe(no_mangle)]
 pub extern "C" fn yeqontur_repercussions(table: Table, atom: u32, buffer: &mut [u32]) -> Written
     ensures { ListCrosses (RepercussionsEnd table atom buffer.old) buffer.new result }
 {
-    let answer = repercussions(&table.words, atom, buffer);
-    crossed_list(answer)
+    repercussions(&table.words, atom, buffer).into()
 }
 
 #[unsafe(no_mangle)]
 pub extern "C" fn yeqontur_reason(table: Table, atom: u32, buffer: &mut [u32]) -> Written
     ensures { ListCrosses (ReasonEnds table atom buffer.old) buffer.new result }
 {
-    let answer = reason(&table.words, atom, buffer);
-    crossed_list(answer)
+    reason(&table.words, atom, buffer).into()
 }
 
 #[unsafe(no_mangle)]
 pub extern "C" fn yeqontur_save(table: Table, bytes: &mut [u8]) -> Written
     ensures { ListCrosses (SaveEnds table bytes.old) bytes.new result }
 {
-    let answer = save(&table.words, bytes);
-    crossed_list(answer)
+    save(&table.words, bytes).into()
 }
 
 #[unsafe(no_mangle)]
 pub extern "C" fn yeqontur_load(bytes: &[u8]) -> Accepted
     ensures { ChangeCrosses (LoadEnds bytes.now) result }
 {
-    let mut loaded = Table::empty();
-    let answer = load(&mut loaded, bytes);
-    crossed_change(answer, loaded)
+    changed(Table::empty(), |t| load(t, bytes))
 }
 
 #[unsafe(no_mangle)]
 pub extern "C" fn yeqontur_checklist_open(files: u32) -> Accepted
     ensures { ChangeCrosses (OpenEnds files) result }
 {
-    let mut opened = Table::empty();
-    let answer = open(&mut opened, files);
-    crossed_change(answer, opened)
+    changed(Table::empty(), |t| open(t, files))
 }
 
 #[unsafe(no_mangle)]
 pub extern "C" fn yeqontur_checklist_sent(table: Table, file: u32) -> Accepted
     ensures { ChangeCrosses (FileEnds table (file_sent file)) result }
 {
-    let mut sent = table;
-    let answer = file_sent(&mut sent, file);
-    crossed_change(answer, sent)
+    changed(table, |t| file_sent(t, file))
 }
 
 #[unsafe(no_mangle)]
 pub extern "C" fn yeqontur_checklist_skipped(table: Table, file: u32) -> Accepted
     ensures { ChangeCrosses (FileEnds table (file_skipped file)) result }
 {
-    let mut skipped = table;
-    let answer = file_skipped(&mut skipped, file);
-    crossed_change(answer, skipped)
+    changed(table, |t| file_skipped(t, file))
 }
 
 #[unsafe(no_mangle)]
 pub extern "C" fn yeqontur_checklist_withdraw(table: Table, file: u32) -> Accepted
     ensures { ChangeCrosses (FileEnds table (skip_withdrawn file)) result }
 {
-    let mut withdrawn = table;
-    let answer = skip_withdrawn(&mut withdrawn, file);
-    crossed_change(answer, withdrawn)
+    changed(table, |t| skip_withdrawn(t, file))
 }
 
 #[unsafe(no_mangle)]
 pub extern "C" fn yeqontur_checklist_missing(table: Table, buffer: &mut [u32]) -> Written
     ensures { ListCrosses (MissingEnds table buffer.old) buffer.new result }
 {
-    let answer = missing(&table.words, buffer);
-    crossed_list(answer)
+    missing(&table.words, buffer).into()
 }
 
 #[unsafe(no_mangle)]
 pub extern "C" fn yeqontur_checklist_complete(table: Table) -> Completeness
     ensures { CompleteCrosses table result }
 {
-    let answer = complete(&table.words);
-    crossed_complete(answer)
+    complete(&table.words).into()
 }

@@ -4,7 +4,6 @@ use mathlib.Core.Bool.{not}
 use Rattle.questions.proofs.Passes.{refused, granted}
 use Rattle.sound.proofs.Soundness.{well-formed-bounded}
 use Rattle.probe.specs.Probes.{RulesFit, unfit, cyclic, labelled}
-use borrow.Author.Rules.{rules}
 use Rattle.probe.proofs.probe_labels.Goals as goal
 use Rattle.probe.proofs.probe_labels.Goals.{Else-not-fit}
 

@@ -3,7 +3,7 @@ use native.Mathlib.Omega.{arith}
 use mathlib.Core.Path.{◌∙◌}
 use Rattle.fields.proofs.Wrote.{wrote_nothing}
 use Rattle.sheet_meaning.specs.Lines as prints
-use Rattle.sheet_scanner.proofs.Judging.{neither-keys, neither, told}
+use Rattle.sheet_scanner.proofs.Judging.{told}
 use Rattle.sheet_scanner.proofs.judge.Goals as goal
 
 pub returns-in-Blank : goal.returns-in-Blank
@@ -21,8 +21,3 @@ returns-in-LineTooLong c =
       prints = λ t. prints.long (e ∙ told c.args.parsed _ c.in-LineTooLong.is);
       wrote = c.write_refusal.ensures.fits (omega arith);
     }
-
-pub returns-in_default : goal.returns-in_default
-returns-in_default c =
-    let x = c.args.parsed.reading in
-    neither x (neither-keys x c.in_default.not-Blank c.in_default.not-LineTooLong) c.command_of.ensures

@@ -1,33 +1,24 @@
 -- `sheet_lines::read::collect` meets its contract. The loop's invariant: storing the numbers that are left behind those
 -- that were read gives the whole. The measure is the number of tokens left. Assumes nothing.
 use native.Mathlib.Omega.{arith}
-use mathlib.Core.Path.{◌≡◌, refl, sym, ◌∙◌, ap}
+use mathlib.Core.Path.{◌≡◌, sym, ◌∙◌, ap}
 use mathlib.Core.Option.{some, none}
 use lib.ListN.{length, drop}
 use Rattle.tokens.specs.Tokens.{tokens}
 use Rattle.tokens.specs.Numerals.{numeral}
 use Rattle.tokens.specs.Parts.{first_of, as_option}
-use Rattle.places.proofs.Places.{onward-here, onward_then}
+use Rattle.places.proofs.Places.{onward_then}
 use Rattle.sheet_lines.proofs.Commands.{advance}
-use Rattle.sheet_lines.proofs.Entries.{collect-start, collect-next}
+use Rattle.sheet_lines.proofs.Entries.{collect-next}
 use Rattle.sheet_lines.proofs.Entries.{collect-entries, collect-count, collect-rest}
-use borrow.Author.Rules.{rules}
 use Rattle.sheet_lines.proofs.read.collect.Goals as goal
-
-pub loop-n-init : goal.loop-n-init
-loop-n-init c =
-    let long : length c.args.known ≡ 60 = search rules in
-    (c.requires.offset_in_bounds, onward-here refl, collect-start _ _ _ long c.requires.line_bound)
-
-pub slice_bounds-numeral-end : goal.slice_bounds-numeral-end
-slice_bounds-numeral-end c = search (rules, c.next_token-t.ensures.onward.not_past)
 
 pub returns-in_default : goal.returns-in_default
 returns-in_default c =
     let line = c.args.line.now in
     let ts = tokens (drop c.loop-n.next.offset line) in
     let number : numeral (first_of ts) ≡ none =
-    sym (ap numeral c.next_token-t.ensures.first)
+    sym (ap numeral (c.text.ensures ∙ c.next_token-t.ensures.first))
     ∙ sym c.numeral.ensures ∙ ap as_option c.in_default.is in
     record {
       entries = collect-entries _ _ _ _ _ ts c.loop-n.invariant.2 number;
@@ -42,7 +33,7 @@ pub bounds-entries-count : goal.bounds-entries-count
 bounds-entries-count c =
     let ts = tokens (drop c.loop-n.next.offset c.args.line.now) in
     let number : numeral (first_of ts) ≡ some c.in-Some.n =
-    sym (ap numeral c.next_token-t.ensures.first)
+    sym (ap numeral (c.text.ensures ∙ c.next_token-t.ensures.first))
     ∙ sym c.numeral.ensures ∙ ap as_option c.in-Some.is in
     omega (arith, (advance ts _ number).shorter, c.loop-n.invariant.2.room)
 
@@ -50,7 +41,7 @@ pub loop-n-smaller : goal.loop-n-smaller
 loop-n-smaller c =
     let ts = tokens (drop c.loop-n.next.offset c.args.line.now) in
     let number : numeral (first_of ts) ≡ some c.in-Some.n =
-    sym (ap numeral c.next_token-t.ensures.first)
+    sym (ap numeral (c.text.ensures ∙ c.next_token-t.ensures.first))
     ∙ sym c.numeral.ensures ∙ ap as_option c.in-Some.is in
     omega (arith, (advance ts _ number).shorter, ap length c.next_token-t.ensures.rest)
 
@@ -58,7 +49,7 @@ pub loop-n-preserved : goal.loop-n-preserved
 loop-n-preserved c =
     let ts = tokens (drop c.loop-n.next.offset c.args.line.now) in
     let number : numeral (first_of ts) ≡ some c.in-Some.n =
-    sym (ap numeral c.next_token-t.ensures.first)
+    sym (ap numeral (c.text.ensures ∙ c.next_token-t.ensures.first))
     ∙ sym c.numeral.ensures ∙ ap as_option c.in-Some.is in (
       c.next_token-t.ensures.onward.not_past c.loop-n.invariant.0,
       onward_then c.loop-n.invariant.1 c.next_token-t.ensures.onward,

@@ -10,11 +10,9 @@ use Rattle.tokens.specs.Tokens.{tokens}
 use Rattle.tokens.specs.Tokens.{one}
 use Rattle.tokens.specs.Parts.{first_of, rest_of, empty}
 use Rattle.sheet_lines.specs.Parts.{leading_numbers, past_numbers}
-use Rattle.places.proofs.Places.{onward_then, onward-to}
 use Rattle.sheet_lines.proofs.Commands.{numbers-length}
 use Rattle.sheet_lines.proofs.Answers.{as_read, said-over, said-spoiled, said-parted, said-parted-spoiled}
 use Rattle.sheet_lines.proofs.Answers.{lists-answer, rest-length}
-use borrow.Author.Rules.{rules}
 use Rattle.sheet_lines.proofs.read.lists.Goals as goal
 
 -- there is room for what is behind the positives, and for both lists
@@ -26,77 +24,57 @@ module _ (ts : List (List ℕ)) (few : length ts ≤ 60) where
   size = omega (arith, room, numbers-length (rest_of (past_numbers ts)))
 
 -- ts are the tokens of both lists, past what follows the positives, and behind the tokens behind its first
-pub returns-then-ended : goal.returns-then-ended
-returns-then-ended c =
+pub returns-then-ended-clause-answers : goal.returns-then-ended-clause-answers
+returns-then-ended-clause-answers c =
     let ts = tokens (drop c.args.place.offset c.args.line.now) in
     let no_more = c.ended.ensures ∙ ap empty c.collect-p.ensures.rest in
     let p = c.collect-p in
-    let w = c.with_head in
     let count : p.result.count ≡ length (leading_numbers ts) = omega (arith, p.ensures.count) in
     let size : length (leading_numbers ts) + length {A = ℕ} [] ≤ 60 =
     omega (arith, numbers-length ts, c.requires.line_len_bound) in
-    record {
-      answers = as_read
-          (lists-answer c.args.purpose c.args.head w.result w.ensures
-          p.result.next (leading_numbers ts) [] p.result.count 0 p.result.entries
-          size count refl p.ensures.entries)
-          (said-over c.args.purpose c.args.head ts (sym no_more ∙ c.if-ended.true));
-      onward = p.ensures.onward;
-    }
+    λ f h rule same. as_read
+    (lists-answer f h c.args.command rule same
+    p.result.next (leading_numbers ts) [] p.result.count 0 p.result.entries
+    size count refl p.ensures.entries)
+    (said-over f h ts (sym no_more ∙ c.if-ended.true))
 
-pub slice_bounds-is-end : goal.slice_bounds-is-end
-slice_bounds-is-end c = search (rules, c.next_token-t.ensures.onward.not_past)
-
-pub returns-then-not-is : goal.returns-then-not-is
-returns-then-not-is c =
+pub returns-then-not-is-clause-answers : goal.returns-then-not-is-clause-answers
+returns-then-not-is-clause-answers c =
     let ts = tokens (drop c.args.place.offset c.args.line.now) in
     let no_more = c.ended.ensures ∙ ap empty c.collect-p.ensures.rest in
-    let first = c.next_token-t.ensures.first ∙ ap first_of c.collect-p.ensures.rest in
+    let first = c.text.ensures ∙ c.next_token-t.ensures.first ∙ ap first_of c.collect-p.ensures.rest in
     let bang = c.is.ensures ∙ ap (one 33) first in
-    record {
-      answers = as_read c.plain.ensures.answers
-          (said-spoiled c.args.purpose c.args.head ts
-          (sym no_more ∙ c.if-ended.false) (sym bang ∙ c.if-not-is.true));
-      onward = onward-to (onward_then c.collect-p.ensures.onward c.next_token-t.ensures.onward)
-          c.plain.ensures.place_value;
-    }
+    λ f h rule same. as_read c.plain.ensures.answers
+    (said-spoiled f h ts
+    (sym no_more ∙ c.if-ended.false) (sym bang ∙ c.if-not-is.true))
 
-pub collect-n-requires : goal.collect-n-requires
-collect-n-requires c =
+pub collect-n-requires-clause-line_bound : goal.collect-n-requires-clause-line_bound
+collect-n-requires-clause-line_bound c =
     let ts = tokens (drop c.args.place.offset c.args.line.now) in
     let behind = c.next_token-t.ensures.rest ∙ ap rest_of c.collect-p.ensures.rest in
     let p = c.collect-p in
-    record {
-      offset_in_bounds = c.next_token-t.ensures.onward.not_past p.ensures.inside;
-      line_bound = omega (arith, ap length behind, room ts c.requires.line_len_bound, p.ensures.count);
-    }
+    omega (arith, ap length behind, room ts c.requires.line_len_bound, p.ensures.count)
 
-pub returns-then-not-ended : goal.returns-then-not-ended
-returns-then-not-ended c =
+pub returns-then-not-ended-clause-answers : goal.returns-then-not-ended-clause-answers
+returns-then-not-ended-clause-answers c =
     let ts = tokens (drop c.args.place.offset c.args.line.now) in
-    let first = c.next_token-t.ensures.first ∙ ap first_of c.collect-p.ensures.rest in
+    let first = c.text.ensures ∙ c.next_token-t.ensures.first ∙ ap first_of c.collect-p.ensures.rest in
     let behind = c.next_token-t.ensures.rest ∙ ap rest_of c.collect-p.ensures.rest in
     let bang = c.is.ensures ∙ ap (one 33) first in
     let no-more-behind = c.ended-2.ensures ∙ ap empty (c.collect-n.ensures.rest ∙ ap past_numbers behind) in
-    let to-token = onward_then c.collect-p.ensures.onward c.next_token-t.ensures.onward in
-    record {
-      answers = as_read c.plain-then-not-ended.ensures.answers
-          (said-parted-spoiled c.args.purpose c.args.head ts
-          (sym bang ∙ c.if-not-is.false) (sym no-more-behind ∙ c.if-not-ended.true));
-      onward = onward-to (onward_then to-token c.collect-n.ensures.onward) c.plain-then-not-ended.ensures.place_value;
-    }
+    λ f h rule same. as_read c.plain-then-not-ended.ensures.answers
+    (said-parted-spoiled f h ts
+    (sym bang ∙ c.if-not-is.false) (sym no-more-behind ∙ c.if-not-ended.true))
 
-pub returns : goal.returns
-returns c =
+pub returns-clause-answers : goal.returns-clause-answers
+returns-clause-answers c =
     let ts = tokens (drop c.args.place.offset c.args.line.now) in
-    let first = c.next_token-t.ensures.first ∙ ap first_of c.collect-p.ensures.rest in
+    let first = c.text.ensures ∙ c.next_token-t.ensures.first ∙ ap first_of c.collect-p.ensures.rest in
     let behind = c.next_token-t.ensures.rest ∙ ap rest_of c.collect-p.ensures.rest in
     let bang = c.is.ensures ∙ ap (one 33) first in
     let no-more-behind = c.ended-2.ensures ∙ ap empty (c.collect-n.ensures.rest ∙ ap past_numbers behind) in
-    let to-token = onward_then c.collect-p.ensures.onward c.next_token-t.ensures.onward in
     let n = c.collect-n in
     let p = c.collect-p in
-    let w = c.with_head in
     let ps = leading_numbers ts in
     let ns = leading_numbers (rest_of (past_numbers ts)) in
     let count : p.result.count ≡ length ps = omega (arith, p.ensures.count) in
@@ -106,12 +84,9 @@ returns c =
     n.ensures.entries
     ∙ ap (λ ts. sets p.result.entries p.result.count (leading_numbers ts)) behind
     ∙ ap (λ xs. sets xs p.result.count ns) p.ensures.entries in
-    record {
-      answers = as_read
-          (lists-answer c.args.purpose c.args.head w.result w.ensures
-          n.result.next ps ns p.result.count (n.result.count - p.result.count) n.result.entries
-          (size ts c.requires.line_len_bound) count more entries)
-          (said-parted c.args.purpose c.args.head ts
-          (sym bang ∙ c.if-not-is.false) (sym no-more-behind ∙ c.if-not-ended.false));
-      onward = onward_then to-token c.collect-n.ensures.onward;
-    }
+    λ f h rule same. as_read
+    (lists-answer f h c.args.command rule same
+    n.result.next ps ns p.result.count (n.result.count - p.result.count) n.result.entries
+    (size ts c.requires.line_len_bound) count more entries)
+    (said-parted f h ts
+    (sym bang ∙ c.if-not-is.false) (sym no-more-behind ∙ c.if-not-ended.false))

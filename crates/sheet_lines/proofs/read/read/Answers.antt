@@ -4,46 +4,33 @@ use Prim.Native.Nat.{◌≤◌, ◌<◌}
 use native.Mathlib.Omega.{arith}
 use mathlib.Core.Path.{sym, ◌∙◌}
 use lib.ListN.{length, drop, length-drop}
-use Rattle.places.proofs.Places.{onward-here}
 use Rattle.sheet_lines.specs.Readings.{LINE}
 use Rattle.sheet_lines.proofs.Answers.{as_read, some_left, reading-long, reading-blank, reading-form}
 use Rattle.sheet_lines.proofs.read.read.Goals as goal
 
 -- `many` says how many bytes stand from the place on: not too many, where the first test fails
-pub returns-then-bytes_left-gt-LINE : goal.returns-then-bytes_left-gt-LINE
-returns-then-bytes_left-gt-LINE c =
+pub returns-then-bytes_left-gt-LINE-clause-answers : goal.returns-then-bytes_left-gt-LINE-clause-answers
+returns-then-bytes_left-gt-LINE-clause-answers c =
     let many = c.bytes_left.ensures ∙ sym (length-drop c.args.place.offset c.args.line.now) in
     let long : LINE < length (drop c.args.place.offset c.args.line.now) =
     omega (arith, many, c.if-bytes_left-gt-LINE.true) in
-    record {
-      answers = as_read c.plain.ensures.answers (reading-long _ long);
-      onward = onward-here c.plain.ensures.place_value;
-    }
+    as_read c.plain.ensures.answers (reading-long _ long)
 
-pub returns-then-ended : goal.returns-then-ended
-returns-then-ended c =
+pub returns-then-ended-clause-answers : goal.returns-then-ended-clause-answers
+returns-then-ended-clause-answers c =
     let many = c.bytes_left.ensures ∙ sym (length-drop c.args.place.offset c.args.line.now) in
     let few : length (drop c.args.place.offset c.args.line.now) ≤ LINE =
     omega (arith, many, c.if-bytes_left-gt-LINE.false) in
-    record {
-      answers = as_read c.plain-then-ended.ensures.answers (reading-blank _ few (sym c.ended.ensures ∙ c.if-ended.true));
-      onward = onward-here c.plain-then-ended.ensures.place_value;
-    }
+    as_read c.plain-then-ended.ensures.answers (reading-blank _ few (sym c.ended.ensures ∙ c.if-ended.true))
 
-pub form-requires : goal.form-requires
-form-requires c =
+pub form-requires-clause-offset_in_bounds : goal.form-requires-clause-offset_in_bounds
+form-requires-clause-offset_in_bounds c =
     let many = c.bytes_left.ensures ∙ sym (length-drop c.args.place.offset c.args.line.now) in
-    record {
-      offset_in_bounds = some_left _ _ (sym c.ended.ensures ∙ c.if-ended.false);
-      line_len_bound = omega (arith, many, c.if-bytes_left-gt-LINE.false);
-    }
+    some_left _ _ (sym c.ended.ensures ∙ c.if-ended.false)
 
-pub returns : goal.returns
-returns c =
+pub returns-clause-answers : goal.returns-clause-answers
+returns-clause-answers c =
     let many = c.bytes_left.ensures ∙ sym (length-drop c.args.place.offset c.args.line.now) in
     let few : length (drop c.args.place.offset c.args.line.now) ≤ LINE =
     omega (arith, many, c.if-bytes_left-gt-LINE.false) in
-    record {
-      answers = as_read c.form.ensures.answers (reading-form _ few (sym c.ended.ensures ∙ c.if-ended.false));
-      onward = c.form.ensures.onward;
-    }
+    as_read c.form.ensures.answers (reading-form _ few (sym c.ended.ensures ∙ c.if-ended.false))
