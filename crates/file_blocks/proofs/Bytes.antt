@@ -1,5 +1,7 @@
 -- Numbers and places as bytes: what is written is read, and what is read is written. Assumes nothing.
-use Rattle.std.proofs.Common.{◌≡◌, ℕ, zero, suc, ◌+◌, ◌*◌, ◌/◌, ◌%◌, ◌<◌, ◌≤◌, Bool, true, false, eqb, leb, List, [], ◌∷◌, ◌++◌, length, get_or, take, drop, replicate, sym, refl, ap, ◌∙◌, ap₂, ⊎_elim, append_assoc, mod-eq_of_lt, arith, length-append, length-drop, take-add, drop_at}
+use Rattle.std.proofs.Common.{◌≡◌, ℕ, zero, suc, ◌+◌, ◌*◌, ◌/◌, ◌%◌, ◌<◌, ◌≤◌, Bool, true, false, eqb, leb, List, []}
+use Rattle.std.proofs.Common.{◌∷◌, ◌++◌, length, get_or, take, drop, replicate, sym, refl, ap, ◌∙◌, ap₂, ⊎_elim}
+use Rattle.std.proofs.Common.{append_assoc, mod-eq_of_lt, arith, length-append, length-drop, take-add, drop_at}
 use native.Mathlib.Nat.{add-mul-div_left, add-mul-mod_self_left}
 use Rattle.theory.specs.Lists.{every}
 use Rattle.theory.proofs.Lists.{and_l, and-of, and_r, eqb-eq, le-leb, le-or-lt, leb-le, unless}

@@ -1,5 +1,8 @@
 -- A file with one byte changed is refused: 17. Assumes nothing.
-use Rattle.std.proofs.Common.{◌≡◌, ℕ, zero, suc, ◌+◌, ◌*◌, ◌/◌, ◌%◌, ◌<◌, ◌≤◌, true, ◌&&◌, eqb, ltb, leb, ◌⊎◌, List, [], ◌∷◌, length, get_or, take, drop, set, sym, refl, ap, ◌∙◌, ap₂, inl, inr, ⊎_elim, arith, length-set, length-take, get_or-drop, get_or-set_other, get_or-take, get_or-set_same, drop-drop}
+use Rattle.std.proofs.Common.{◌≡◌, ℕ, zero, suc, ◌+◌, ◌*◌, ◌/◌, ◌%◌, ◌<◌, ◌≤◌, true, ◌&&◌, eqb, ltb, leb, ◌⊎◌, List}
+use Rattle.std.proofs.Common.{[], ◌∷◌, length, get_or, take, drop, set, sym, refl, ap, ◌∙◌, ap₂, inl, inr, ⊎_elim}
+use Rattle.std.proofs.Common.{arith, length-set, length-take, get_or-drop, get_or-set_other, get_or-take}
+use Rattle.std.proofs.Common.{get_or-set_same, drop-drop}
 use mathlib.Core.Option.{some}
 use lib.Seq.{drop-set-add, take-set-le, take-set-lt}
 use Rattle.theory.specs.Lists.{every}

@@ -1,12 +1,16 @@
 -- Blocks and places as they are read from the bytes of a file. Assumes nothing.
-use Rattle.std.proofs.Common.{◌≡◌, ℕ, zero, suc, ◌+◌, ◌-◌, ◌*◌, ◌/◌, ◌%◌, ◌<◌, ◌≤◌, Bool, true, false, ◌&&◌, ◌||◌, eqb, ltb, leb, ◌⊎◌, List, [], ◌∷◌, ◌++◌, length, get_or, take, drop, sym, refl, ap, ◌∙◌, subst, ap₂, inl, inr, ⊎_elim, arith, length-append, length-drop, length-take, get_or-drop, get_or-take, drop-drop}
+use Rattle.std.proofs.Common.{◌≡◌, ℕ, zero, suc, ◌+◌, ◌-◌, ◌*◌, ◌/◌, ◌%◌, ◌<◌, ◌≤◌, Bool, true, false, ◌&&◌, ◌||◌}
+use Rattle.std.proofs.Common.{eqb, ltb, leb, ◌⊎◌, List, [], ◌∷◌, ◌++◌, length, get_or, take, drop, sym, refl, ap, ◌∙◌}
+use Rattle.std.proofs.Common.{subst, ap₂, inl, inr, ⊎_elim, arith, length-append, length-drop, length-take}
+use Rattle.std.proofs.Common.{get_or-drop, get_or-take, drop-drop}
 use lib.Seq.{drop-append-le, drop-append-add}
 use Rattle.theory.proofs.Lists.{and_l, and-of, and_r, eqb-eq, eqb_of, leb-le, le-leb, le-or-lt, lt-ltb, ltb-lt}
 use Rattle.theory.proofs.Lists.{or_cases, or_l, or_r, test}
 use Rattle.file_blocks.specs.Words.{BYTE, word_at, words_in}
 use Rattle.file_blocks.specs.Places.{Place, place_numbered}
 use Rattle.file_blocks.specs.Files.{blocks_for}
-use Rattle.file_blocks.specs.Questions.{block_count, blocks, blocks_in, whole, counted, numbered, places_from, places_in}
+use Rattle.file_blocks.specs.Questions.{block_count, blocks, blocks_in, whole, counted, numbered, places_from}
+use Rattle.file_blocks.specs.Questions.{places_in}
 use Rattle.file_blocks.specs.Questions.{places_of}
 
 -- The blocks, one after the other.

@@ -1,5 +1,6 @@
 -- The records of sound pages pass question 19. Assumes nothing.
-use Rattle.std.proofs.Common.{◌≡◌, ℕ, zero, suc, ◌+◌, ◌-◌, ◌<◌, ◌≤◌, true, not, ◌&&◌, ltb, leb, ◌↔◌, List, [], ◌∷◌, map, length, get_or, replicate, sym, refl, ap, ◌∙◌, subst, ⊎_elim, arith, length-append}
+use Rattle.std.proofs.Common.{◌≡◌, ℕ, zero, suc, ◌+◌, ◌-◌, ◌<◌, ◌≤◌, true, not, ◌&&◌, ltb, leb, ◌↔◌, List, [], ◌∷◌}
+use Rattle.std.proofs.Common.{map, length, get_or, replicate, sym, refl, ap, ◌∙◌, subst, ⊎_elim, arith, length-append}
 use mathlib.Core.List.Memᴰ
 use mathlib.Core.Option.{Option, none, some, none-ne-some, some-injective}
 use Rattle.theory.specs.Lists.{◌∈◌, any, Sorted}

@@ -1,6 +1,9 @@
 -- Blocks one behind the other: what is written passes 17 to 19 and is read, and what passes them is written. Assumes
 -- nothing.
-use Rattle.std.proofs.Common.{◌≡◌, ℕ, zero, suc, ◌+◌, ◌*◌, ◌<◌, ◌≤◌, Bool, true, ◌⊎◌, List, [], ◌∷◌, ◌++◌, length, take, drop, sym, refl, ap, ◌∙◌, ap₂, inl, inr, ⊎_elim, append-nil, arith, length-append, length-drop, take-append-drop, drop_of_length-le, length-take, take_all, take_at, drop_at}
+use Rattle.std.proofs.Common.{◌≡◌, ℕ, zero, suc, ◌+◌, ◌*◌, ◌<◌, ◌≤◌, Bool, true, ◌⊎◌, List, [], ◌∷◌, ◌++◌, length}
+use Rattle.std.proofs.Common.{take, drop, sym, refl, ap, ◌∙◌, ap₂, inl, inr, ⊎_elim, append-nil, arith, length-append}
+use Rattle.std.proofs.Common.{length-drop, take-append-drop, drop_of_length-le, length-take, take_all, take_at}
+use Rattle.std.proofs.Common.{drop_at}
 use Rattle.theory.specs.Lists.{every}
 use Rattle.theory.proofs.Lists.{and_l, and-of, and_r}
 use Rattle.file_blocks.specs.Words.{BYTE, WORD, word_at, words_in}

@@ -1,5 +1,8 @@
 -- One block: what is written passes 17 to 19 and is read, and what passes them is written. Assumes nothing.
-use Rattle.std.proofs.Common.{◌≡◌, ℕ, ◌+◌, ◌-◌, ◌*◌, ◌<◌, ◌≤◌, true, eqb, List, [], ◌∷◌, ◌++◌, length, get_or, take, drop, replicate, sym, refl, ap, ◌∙◌, ap₂, append_assoc, arith, length-append, length-drop, take-append-drop, length-take, take_all, take-take, take_at, get_or-append-add, take-add, drop_at}
+use Rattle.std.proofs.Common.{◌≡◌, ℕ, ◌+◌, ◌-◌, ◌*◌, ◌<◌, ◌≤◌, true, eqb, List, [], ◌∷◌, ◌++◌, length, get_or, take}
+use Rattle.std.proofs.Common.{drop, replicate, sym, refl, ap, ◌∙◌, ap₂, append_assoc, arith, length-append}
+use Rattle.std.proofs.Common.{length-drop, take-append-drop, length-take, take_all, take-take, take_at}
+use Rattle.std.proofs.Common.{get_or-append-add, take-add, drop_at}
 use lib.ListN.{length-replicate}
 use Rattle.theory.specs.Lists.{every}
 use Rattle.theory.proofs.Lists.{and_l, and-of, and_r, eqb-eq, eqb_of}

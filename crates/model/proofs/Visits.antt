@@ -1,5 +1,7 @@
 -- A slot visited, and a round over the slots, against the theory's functions. Assumes nothing.
-use Rattle.std.proofs.Common.{◌≡◌, ℕ, zero, suc, ◌+◌, ◌<◌, ◌≤◌, Bool, true, false, not, ◌&&◌, ◌||◌, eqb, List, length, get_or, drop, set, sym, refl, ap, ◌∙◌, subst, ap₂, ⊎_elim, true≢false, add-one, arith, length-set, drop_of_length-le, drop-cons, get_or-set_other, get_or-set_same}
+use Rattle.std.proofs.Common.{◌≡◌, ℕ, zero, suc, ◌+◌, ◌<◌, ◌≤◌, Bool, true, false, not, ◌&&◌, ◌||◌, eqb, List, length}
+use Rattle.std.proofs.Common.{get_or, drop, set, sym, refl, ap, ◌∙◌, subst, ap₂, ⊎_elim, true≢false, add-one, arith}
+use Rattle.std.proofs.Common.{length-set, drop_of_length-le, drop-cons, get_or-set_other, get_or-set_same}
 use native.Mathlib.Decide.{ℕ_discrete}
 use mathlib.Core.Path.{fun_ext}
 use mathlib.Core.Bool.{and-false, and_assoc, or_assoc, or-false, or-true}
