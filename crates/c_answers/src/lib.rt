@@ -152,7 +152,7 @@ impl From<Label> for AtomLabel {
             Label::Absent => AtomLabel {
                 refused: 0,
                 state: 0,
-                depth: 0,
+                depth: 0, // an absent atom has none
                 slot: 0,
             },
             Label::Out => AtomLabel {

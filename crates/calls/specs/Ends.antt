@@ -133,7 +133,7 @@ ReasonEnds t a =
 abbrev pub SaveEnds : Table → List ℕ → ListAnswer → List ℕ → Type 0
 SaveEnds t = ListEnds [] (λ M bs. bs ≡ file_of (held t)) t
 
--- Load: 16, 17, 18, 19. It takes no table, and a refusal hands back the empty one. The records of a file that is
+-- Load: 16, 17, 18, 19. It looks at no table, and a refusal hands back the empty one. The records of a file that is
 -- accepted are the rules of the table, with their marks.
 pub data LoadEnds (bytes : List ℕ) : ChangeAnswer → Table → Type 0 where
   refused :

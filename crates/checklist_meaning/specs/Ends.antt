@@ -20,7 +20,7 @@ use Rattle.checklist_meaning.specs.Questions.{FileCall, checklist_questions, mar
 use Rattle.checklist_meaning.specs.Questions.{lacks}
 use Rattle.checklist_meaning.specs.Book.{marks_changed, opened}
 
--- Open: 21. It takes no table, and a refusal hands back the empty one.
+-- Open: 21. It looks at no table, and a refusal hands back the empty one.
 pub data OpenEnds (n : ℕ) : ChangeAnswer → Table → Type 0 where
   refused :
       (f : Refusal) → first_no (open_questions n) ≡ some (number_of f) → OpenEnds n (Err f) empty_table

@@ -34,7 +34,7 @@ module _ (slot least : ℕ) (rule : Rule) where
 
 -- The entries of a record that begins at an offset of some bytes, one by one.
 
-words-length : (n : ℕ) (bs : List ℕ) → n ≡ length (words_in n bs)
+pub words-length : (n : ℕ) (bs : List ℕ) → n ≡ length (words_in n bs)
 unfolding words_in
 words-length zero bs = refl
 words-length (suc n) bs = ap suc (words-length n (drop 2 bs))

@@ -56,7 +56,7 @@ sound-in-model u S = record {
 }
 
 -- Demand 2, of an addition, of a removal, of a replacement, of a muting and of a call on a file, on a sound table; of a
--- load and of an opening, which take none: a refusal hands back the empty table.
+-- load and of an opening, which look at none: a refusal hands back the empty table.
 pub demand-2-add : (t u : Table) (r : Rule) (x : AddAnswer) → AddEnds t r x u → Sound t → InModel u
 demand-2-add t u r x (contract.unsound n) S = absurd (n S)
 demand-2-add t u r x (contract.refused f T e) S = sound-in-model t S

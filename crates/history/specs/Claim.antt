@@ -23,7 +23,7 @@ use Rattle.checklist_meaning.specs.Ends.{OpenEnds, FileEnds}
 use Rattle.history.specs.Calls.{Call, change, load, checklist, calls_answers, calls_after}
 
 -- A call that meets its contract: on the table t it answers and hands back a table. A load and the opening of a
--- checklist take no table, so t is given up.
+-- checklist look at no table, so t is given up.
 pub data Step (t : Table) : Call → Answer → Table → Type 0 where
   adds : {r : Rule} {x : AddAnswer} {u : Table} → AddEnds t r x u → Step t (change (add r)) (book_add x) u
   removes : {s : ℕ} {x : ChangeAnswer} {u : Table} → RemoveEnds t s x u → Step t (change (remove s)) (book_change x) u

@@ -18,6 +18,8 @@ use Rattle.add_remove.proofs.Adding.{refused-early, refused-same, refused_full, 
 use Rattle.add_remove.proofs.Adding.{add-ends}
 use Rattle.add_remove.proofs.add_to_sound.Goals as goal
 
+-- Questions 1 to 4 come first: of a rule that they refuse
+-- no later question is asked.
 pub returns-in_err-ask_rule : goal.returns-in_err-ask_rule
 returns-in_err-ask_rule c =
     let t = c.args.table.now in

@@ -19,6 +19,8 @@ overflow_cast-n c = omega (arith, (checklist-of _ _ (sym c.in-Some.ensures)).hig
 pub good_atom-last-requires : goal.good_atom-last-requires
 good_atom-last-requires c = (checklist-of _ _ (sym c.in-Some.ensures)).high
 
+-- The label is refused by 15 alone: the last file of a checklist
+-- has an atom, which passes 10.
 pub returns-in_err-told : goal.returns-in_err-told
 returns-in_err-told c =
     let p = err_from_is_err_and c.from_residual.result c.from_residual.ensures.1 in

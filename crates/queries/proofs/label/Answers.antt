@@ -12,6 +12,8 @@ returns-in_err-a c =
     let p = err_from_is_err_and c.from_residual.result c.from_residual.ensures.1 in
     rw (p.1, p.2) (label-refused t c.args.atom _ c.in_err-a.ensures _ refl)
 
+-- Where each question is answered yes, what is told
+-- is the label that the slots keep.
 pub returns : goal.returns
 returns c =
     let t = table_of c.args.table.now in

@@ -11,6 +11,8 @@ use Rattle.calls.proofs.Asking.{ask-passed, list-refused, passes-low}
 use Rattle.reason_call.proofs.Reasons.{ends_asked}
 use Rattle.reason_call.proofs.reason_of_sound.Goals as goal
 
+-- Question 10 comes first: of a number that it refuses
+-- no reason is sought.
 pub write_reason-requires : goal.write_reason-requires
 write_reason-requires c =
     let t = table_of c.args.table.now in
